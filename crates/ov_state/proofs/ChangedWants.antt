@@ -24,7 +24,7 @@ use Rattle.ov_state.specs.declared.files.FileEntry.{FileEntry}
 use Rattle.ov_state.specs.declared.relisting.Relisting.{Relisting}
 use Rattle.ov_state.specs.Contents.{IsWell}
 use Rattle.ov_state.specs.Entries.{plain_file}
-use Rattle.ov_state.specs.Relistings.{list_if, want_if, want_after, want_left, wants_after, IsFull, IsNext, IsRelisting, MayMove}
+use Rattle.ov_state.specs.Relistings.{list_if, want_if, want_after, want_left, wants_after, IsFull, IsNext, IsRelisting, MayMove, WantsStay}
 
 -- ---- by number
 
@@ -128,6 +128,19 @@ module _ {W : ℕ} (s : Catalogue) (r : Relisting W) (file : ℕ) (f : FileEntry
       let else : (file == r.file) ≡ false = grind (arith, nat_tests) in
       let is : want ≡ wanted_surface s.mode (list_at y own) (holders y f.node) =
       ap (λ b. want_if b y r file own) test ∙ ap (λ b. wanted_surface s.mode (list_if b r.list (list_at y own)) r.after) else ∙ grown in
+      subst (λ (o : Option ℕ). same_surface f.surface (surface_at s.surface.sets o) ≡ true) (sym is) (well.settled file _ here)
+
+  -- another file stays as it is where each list that stays has the same wanted set as before
+  pub list-stays : (limit : ℕ) → IsWell limit s → IsRelisting s r → WantsStay true s.mode r → f.node ≡ r.node → file ≢ r.file
+      → MayMove false s r file f
+  list-stays limit well relisting stay same other =
+      let y = outline s in
+      let before : holders y f.node ≡ r.before = ap (λ n. holders y n) same ∙ sym relisting.before in
+      let test : (f.node == r.node) ≡ true = grind (arith, nat_tests) in
+      let else : (file == r.file) ≡ false = grind (arith, nat_tests) in
+      let is : want ≡ wanted_surface s.mode (list_at y own) (holders y f.node) =
+      ap (λ b. want_if b y r file own) test ∙ ap (λ b. wanted_surface s.mode (list_if b r.list (list_at y own)) r.after) else
+      ∙ stay (list_at y own) ∙ ap (λ held. wanted_surface s.mode (list_at y own) held) (sym before) in
       subst (λ (o : Option ℕ). same_surface f.surface (surface_at s.surface.sets o) ≡ true) (sym is) (well.settled file _ here)
 
   -- another file of the base node may move where it has no surface

@@ -29,6 +29,7 @@ pub mod SettledMore
 pub mod SettledFiles
 pub mod ChangedWants
 pub mod SkippedFiles
+pub mod MovingFiles
 pub mod RoomTests
 pub mod NewSets
 pub mod Relistings

@@ -1,6 +1,6 @@
--- Files of other base nodes, whose wanted sets stay while those of the files of one node are
+-- Files that keep their surfaces, whose wanted sets stay while those of the files that may move are
 -- collected.
-use Rattle.std.proofs.Common.{◌≡◌, ◌≢◌, ℕ, zero, suc, ◌+◌, ◌-◌, ◌<◌, ◌≤◌, true, List, [], ◌∷◌, ◌++◌, length, take, refl, sym, ◌∙◌, ap, subst, arith, ⊎_elim, le_of_lt, le_refl}
+use Rattle.std.proofs.Common.{◌≡◌, ℕ, zero, suc, ◌+◌, ◌-◌, ◌<◌, ◌≤◌, true, false, List, [], ◌∷◌, ◌++◌, length, take, refl, sym, ◌∙◌, ap, subst, arith, ⊎_elim, le_of_lt, le_refl}
 use Rattle.std.specs.Prelude.{is_some, option_map, slice_index, Contains, IfSome, Option, Some, None}
 use Rattle.std.proofs.lemmas.Bool.{cases_eq, cases_lt}
 use Rattle.std.proofs.lemmas.List.{get_or_default}
@@ -10,13 +10,13 @@ use Rattle.ov_history.specs.Places.{living_at}
 use Rattle.ov_state.specs.declared.files.FileEntry.{FileEntry}
 use Rattle.ov_state.specs.declared.relisting.Relisting.{Relisting}
 use Rattle.ov_state.specs.Contents.{IsWell}
-use Rattle.ov_state.specs.Entries.{node_of, plain_file, AreOfNode}
-use Rattle.ov_state.specs.Relistings.{wants_after}
-use Rattle.ov_state.proofs.ChangedWants.{file-stays, other-node, take-all}
+use Rattle.ov_state.specs.Entries.{node_of, plain_file}
+use Rattle.ov_state.specs.Relistings.{wants_after, AreMoving, MayMove}
+use Rattle.ov_state.proofs.ChangedWants.{file-stays, take-all}
 use Rattle.ov_state.proofs.FilesByNode.{node-low}
 use Rattle.ov_state.proofs.FilesByNumber.{filed-there}
 
--- ---- places between the numbers of a node
+-- ---- places between the numbers of files that may move
 
 -- the first number behind so many of these
 abbrev pub number_behind : List ℕ → ℕ → ℕ
@@ -40,11 +40,11 @@ own_node files file node f here is =
     let both : Some f.node ≡ Some node = sym (ap (option_map (λ (g : Filed). g.node)) here) ∙ is in
     cc
 
-module _ (files : List (Option Filed)) (node : ℕ) (numbers : List ℕ) (are : AreOfNode files node numbers) where
-  number-low : (i : ℕ) → i < length numbers → slice_index numbers i < length files
-  number-low i inside = node-low files (slice_index numbers i) (ap is_some (are.own i inside))
+module _ {W : ℕ} (s : Catalogue) (r : Relisting W) (numbers : List ℕ) (are : AreMoving s r numbers) where
+  number-low : (i : ℕ) → i < length numbers → slice_index numbers i < length s.files
+  number-low i inside = node-low s.files (slice_index numbers i) (ap is_some (are.own i inside))
 
-  behind-low : (k : ℕ) → k ≤ length numbers → number_behind numbers k ≤ length files
+  behind-low : (k : ℕ) → k ≤ length numbers → number_behind numbers k ≤ length s.files
   behind-low zero inside = omega arith
   behind-low (suc k) inside = omega (arith, number-low k (omega arith))
 
@@ -60,11 +60,10 @@ module _ (files : List (Option Filed)) (node : ℕ) (numbers : List ℕ) (are : 
       (λ other. omega (arith, are.rise i k (omega arith) (omega arith)))
       (cases_eq i k)
 
-  -- a file between two of the numbers in a row is of another node
-  other-between : (k file : ℕ) → k ≤ length numbers → number_behind numbers k ≤ file
-      → ((i : ℕ) → k ≤ i → i < length numbers → file < slice_index numbers i) → node_of files file ≢ Some node
-  other-between k file few from before is =
-      let found : Contains numbers file = are.all file is in
+  -- a file between two of the numbers in a row isn't among them
+  none-between : (k file : ℕ) → k ≤ length numbers → number_behind numbers k ≤ file
+      → ((i : ℕ) → k ≤ i → i < length numbers → file < slice_index numbers i) → ¬ Contains numbers file
+  none-between k file few from before found =
       let at : slice_index numbers found.0 ≡ file = get_or_default numbers found.0 0 file found.1 ∙ found.2 in
       ⊎_elim
       (λ less. absurd (omega (arith, number-behind k found.0 less few)))
@@ -105,48 +104,51 @@ GoesOn s Holds =
 abbrev pub AreThere : Catalogue → Type 0
 AreThere s = (file : ℕ) → file < length s.files → is_some (living_at s.files file) ≡ true
 
+-- the file of this number has the wanted surface that it should have afterwards
+abbrev Stays : {W : ℕ} → Catalogue → Relisting W → ℕ → Type 0
+Stays s r file = (f : FileEntry) → living_at s.files file ≡ Some (plain_file f) → MayMove false s r file f
+
 module _ {W : ℕ} (s : Catalogue) (r : Relisting W) (limit : ℕ) (well : IsWell limit s) (there : AreThere s)
     (Holds : List (Option ℕ) → Type 0) (goes_on : GoesOn s Holds) where
   abbrev wants : List (Option ℕ)
   wants = wants_after (outline s) r 0 (places s.files)
 
-  skip-one : (file : ℕ) → file < length s.files → node_of s.files file ≢ Some r.node → Holds (take file wants) → Holds (take (file + 1) wants)
-  skip-one file low other holds =
+  skip-one : (file : ℕ) → file < length s.files → Stays s r file → Holds (take file wants) → Holds (take (file + 1) wants)
+  skip-one file low stays holds =
       let f : FileEntry = entry_of (filed_at s file) in
       let here : living_at s.files file ≡ Some (plain_file f) = filed-there s file (there file low) in
-      file-stays s r file f here Holds limit well
-      (other-node s r file f here limit well (λ same. other (ap (option_map (λ (g : Filed). g.node)) here ∙ ap Some same)))
-      (λ at surface same. goes_on (take file wants) _ f holds at surface same)
+      file-stays s r file f here Holds limit well (stays f here) (λ at surface same. goes_on (take file wants) _ f holds at surface same)
 
-  skip-some : (from n : ℕ) → from + n ≤ length s.files → ((file : ℕ) → from ≤ file → file < from + n → node_of s.files file ≢ Some r.node)
+  skip-some : (from n : ℕ) → from + n ≤ length s.files → ((file : ℕ) → from ≤ file → file < from + n → Stays s r file)
       → Holds (take from wants) → Holds (take (from + n) wants)
-  skip-some from zero low others holds =
+  skip-some from zero low stay holds =
       let none : from ≡ from + zero = omega arith in
       subst (λ n. Holds (take n wants)) none holds
-  skip-some from (suc n) low others holds =
+  skip-some from (suc n) low stay holds =
       let one : from + n + 1 ≡ from + suc n = omega arith in
-      let before = skip-some from n (omega arith) (λ file at less. others file at (omega arith)) holds in
-      subst (λ n. Holds (take n wants)) one (skip-one (from + n) (omega arith) (others (from + n) (omega arith) (omega arith)) before)
+      let before = skip-some from n (omega arith) (λ file at less. stay file at (omega arith)) holds in
+      subst (λ n. Holds (take n wants)) one (skip-one (from + n) (omega arith) (stay (from + n) (omega arith) (omega arith)) before)
 
-  skip-to : (from to : ℕ) → from ≤ to → to ≤ length s.files → ((file : ℕ) → from ≤ file → file < to → node_of s.files file ≢ Some r.node)
+  skip-to : (from to : ℕ) → from ≤ to → to ≤ length s.files → ((file : ℕ) → from ≤ file → file < to → Stays s r file)
       → Holds (take from wants) → Holds (take to wants)
-  skip-to from to rise low others holds =
+  skip-to from to rise low stay holds =
       let whole : from + (to - from) ≡ to = omega arith in
-      subst (λ n. Holds (take n wants)) whole (skip-some from (to - from) (omega arith) (λ file at less. others file at (omega arith)) holds)
+      subst (λ n. Holds (take n wants)) whole (skip-some from (to - from) (omega arith) (λ file at less. stay file at (omega arith)) holds)
 
-  module _ (numbers : List ℕ) (are : AreOfNode s.files r.node numbers) where
-    -- up to the next file of the node
-    pub next-of_node : (k : ℕ) → k < length numbers → Holds (take (number_behind numbers k) wants) → Holds (take (slice_index numbers k) wants)
-    next-of_node k inside holds =
-        skip-to (number_behind numbers k) (slice_index numbers k) (behind-next s.files r.node numbers are k inside)
-        (le_of_lt (number-low s.files r.node numbers are k inside))
-        (λ file from less. other-between s.files r.node numbers are k file (le_of_lt inside) from (before-next s.files r.node numbers are k file inside less))
+  module _ (numbers : List ℕ) (are : AreMoving s r numbers) where
+    -- up to the next file that may move
+    pub next-moving : (k : ℕ) → k < length numbers → Holds (take (number_behind numbers k) wants) → Holds (take (slice_index numbers k) wants)
+    next-moving k inside holds =
+        skip-to (number_behind numbers k) (slice_index numbers k) (behind-next s r numbers are k inside)
+        (le_of_lt (number-low s r numbers are k inside))
+        (λ file from less f here. are.others file f here
+        (none-between s r numbers are k file (le_of_lt inside) from (before-next s r numbers are k file inside less)))
         holds
 
-    -- behind the last file of the node
-    pub last-of_node : (k : ℕ) → k ≡ length numbers → Holds (take (number_behind numbers k) wants) → Holds wants
-    last-of_node k last holds =
+    -- behind the last file that may move
+    pub last-moving : (k : ℕ) → k ≡ length numbers → Holds (take (number_behind numbers k) wants) → Holds wants
+    last-moving k last holds =
         let few : k ≤ length numbers = omega arith in
         subst Holds (take-all s r (length s.files) refl)
-        (skip-to (number_behind numbers k) (length s.files) (behind-low s.files r.node numbers are k few) (le_refl (length s.files))
-        (λ file from less. other-between s.files r.node numbers are k file few from (λ i le within. absurd (omega arith))) holds)
+        (skip-to (number_behind numbers k) (length s.files) (behind-low s r numbers are k few) (le_refl (length s.files))
+        (λ file from less f here. are.others file f here (none-between s r numbers are k file few from (λ i le within. absurd (omega arith)))) holds)

@@ -90,9 +90,19 @@ pub record IsCountBelow (files : List (Option Filed)) (node : ℕ) (numbers : Li
   pub behind : (i : ℕ) → count ≤ i → i < length numbers
       → node ≤ node_at files (slice_index numbers i)
 
+-- each number is below those after it
+abbrev pub Ascend : List ℕ → Type 0
+Ascend numbers =
+    (i j : ℕ) → i < j → j < length numbers → slice_index numbers i < slice_index numbers j
+
 -- the numbers are those of all files with this base node, and ascend
 pub record AreOfNode (files : List (Option Filed)) (node : ℕ) (numbers : List ℕ) : Type 0 where
   pub own : (i : ℕ) → i < length numbers → node_of files (slice_index numbers i) ≡ Some node
   pub all : (file : ℕ) → node_of files file ≡ Some node → Contains numbers file
-  pub rise : (i j : ℕ) → i < j → j < length numbers
-      → slice_index numbers i < slice_index numbers j
+  pub rise : Ascend numbers
+
+-- at most one of the numbers is left, and that is this one where it is among them
+pub record IsOnly (number : ℕ) (numbers left : List ℕ) : Type 0 where
+  pub few : length left ≤ 1
+  pub own : (i : ℕ) → i < length left → Contains numbers (slice_index left i)
+  pub kept : Contains numbers number → Contains left number

@@ -1,10 +1,11 @@
 -- Inner: no public contract needs this. How surface nodes and rewrites are planned after the list
 -- of a file changed.
 use Rattle.std.specs.Prelude.{◌≡◌, ℕ, ◌+◌, ◌<◌, ◌≤◌, ◌==◌, Bool, true, false, not, nat_lt, List, []}
-use Rattle.std.specs.Prelude.{◌∷◌, ◌++◌, length, Option, Some, None, is_some}
+use Rattle.std.specs.Prelude.{◌∷◌, ◌++◌, length, slice_index, Contains, Option, Some, None, is_some}
 use Rattle.ov_history.specs.Places.{living_at}
 use Rattle.ov_base.specs.Sets.{IsBelow, Within}
 use Rattle.ov_base.specs.declared.limits.TheConstants.{MAX_LAYER_NODES}
+use Rattle.ov_base.specs.declared.mode.Mode.{Mode}
 use Rattle.ov_base.specs.declared.refusal.Refusal.{Refusal}
 use Rattle.ov_base.specs.declared.refusal.Refusal.TheVariants.{NoUser, NoFile, NodesFull, Spent}
 use Rattle.ov_graph.specs.declared.cover.GraphRefusal.{GraphRefusal}
@@ -21,7 +22,7 @@ use Rattle.ov_history.specs.Catalogue.{Nodes, Filed, Catalogue, outline, filed_a
 use Rattle.ov_history.specs.Catalogue.{with_surfaces, settled_files}
 use Rattle.ov_history.specs.Rewrites.{rewrites_from}
 use Rattle.ov_state.specs.Changes.{nodes_added, all_rewritten, AreNewNodes, AreOfFiles}
-use Rattle.ov_state.specs.Entries.{plain_file, plain_rewrites}
+use Rattle.ov_state.specs.Entries.{node_of, plain_file, plain_rewrites, Ascend}
 use Rattle.ov_state.specs.declared.change.Growth.{Growth}
 use Rattle.ov_state.specs.declared.change.Growth.TheVariants.{Access, Nothing}
 use Rattle.ov_state.specs.declared.change.Change.{Change}
@@ -123,6 +124,20 @@ MayMove false c r number f =
     same_surface f.surface
     (surface_at c.surface.sets (want_after (outline c) r number (place_of_file (plain_file f))))
     ≡ true
+
+-- where the test says so, each list that stays has the wanted surface set afterwards that it had
+abbrev pub WantsStay : {W : ℕ} → Bool → Mode → Relisting W → Type 0
+WantsStay true mode r =
+    (list : ℕ) → wanted_surface mode list r.after ≡ wanted_surface mode list r.before
+WantsStay false mode r = Unit {0}
+
+-- The numbers are of files of the base node, and ascend. Each other file has the wanted surface
+-- that it should have afterwards.
+pub record AreMoving {W : ℕ} (c : Catalogue) (r : Relisting W) (numbers : List ℕ) : Type 0 where
+  pub own : (i : ℕ) → i < length numbers → node_of c.files (slice_index numbers i) ≡ Some r.node
+  pub rise : Ascend numbers
+  pub others : (file : ℕ) (f : FileEntry) → living_at c.files file ≡ Some (plain_file f)
+      → ¬ Contains numbers file → MayMove false c r file f
 
 -- a change of one file's list, as it is planned in a state with this catalogue
 pub record IsRelisting {W : ℕ} (c : Catalogue) (r : Relisting W) : Type 0 where

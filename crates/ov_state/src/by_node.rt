@@ -1,9 +1,10 @@
 //! The numbers of files, ordered by base node and then by number.
 ghost use Rattle.std.specs.Prelude.{◌≡◌};
 ghost use Rattle.ov_state.specs.Entries.{node_at, plain_files};
-ghost use Rattle.ov_state.specs.Entries.{AreByNode, AreOfNode, IsCountBelow};
+ghost use Rattle.ov_state.specs.Entries.{Ascend, AreByNode, AreOfNode, IsCountBelow, IsOnly};
 
 use crate::files::FileEntry;
+use std::slice;
 
 /// The base node of the file of this number, and 0 where it isn't there.
 fn node_at(list: &[FileEntry], number: u32) -> u32
@@ -32,4 +33,15 @@ pub(crate) fn files_of_node<'a>(list: &[FileEntry], numbers: &'a [u32], node: u3
     let from = count_below(list, numbers, node);
     let to = count_below(list, numbers, node + 1);
     &numbers[from..to]
+}
+
+/// This one of the ascending numbers, or none where it isn't among them. It is found by halves.
+pub(crate) fn only(numbers: &[u32], number: u32) -> &[u32]
+    requires { Ascend numbers.now }
+    ensures { IsOnly number numbers.now result.now }
+{
+    match numbers.binary_search(&number) {
+        Ok(place) => slice::from_ref(&numbers[place]),
+        Err(_) => &[],
+    }
 }

@@ -1,5 +1,6 @@
-//! One pass over the files that may move after a relisting, which are those of its base node: the
-//! question for it and its plan collect the same wanted sets, each in its own way.
+//! One pass over the files that may move after a relisting: that of the relisting and, where the
+//! holders of its base node grow in Delta, those beside it. The question for it and its plan
+//! collect the same wanted sets, each in its own way.
 ghost use Rattle.std.specs.Prelude.{◌≡◌, ◌<◌, ◌≤◌, ◌+◌, ◌*◌, ◌++◌, ◌∷◌, [], ℕ, List, Option, Some};
 ghost use Rattle.std.specs.Prelude.{IfErr, IfSome, OnOk, is_some, length, take, true};
 ghost use Rattle.ov_base.specs.declared.limits.TheConstants.{MAX_LAYER_NODES};
@@ -12,13 +13,15 @@ ghost use Rattle.ov_state.specs.Asking.{Passes};
 ghost use Rattle.ov_state.specs.Contents.{nodes_of};
 ghost use Rattle.ov_state.specs.Entries.{node_of, plain_file};
 ghost use Rattle.ov_state.specs.Relistings.{room_refusal, want_if, wants_after};
-ghost use Rattle.ov_state.specs.Relistings.{IsFull, IsNext, IsRelisting, MayMove};
+ghost use Rattle.ov_state.specs.Relistings.{AreMoving, IsFull, IsNext, IsRelisting, MayMove};
+ghost use Rattle.ov_state.specs.Relistings.{WantsStay};
 
+use crate::by_node::only;
 use crate::fault::ChainFault;
 use crate::files::FileEntry;
 use crate::relisting::Relisting;
 use crate::state::State;
-use ov_base::{Refusal, UserSet};
+use ov_base::{Mode, Refusal, UserSet};
 use ov_graph::{Graph, GraphRefusal};
 use ov_surface::wanted;
 use ov_tokens::{Base, Surface};
@@ -137,9 +140,35 @@ impl<B: Graph<Base, W>, S: Graph<Surface, W>, const W: usize> State<B, S, W> {
         )
     }
 
+    /// Whether each other file wants after the relisting what it wanted. In Full that is its list,
+    /// whoever the holders are.
+    fn others_stay(&self, relisting: &Relisting<W>) -> bool
+        ensures { WantsStay result self.now.catalogue.mode relisting.now }
+    {
+        match self.mode {
+            Mode::Full => true,
+            Mode::Delta => relisting.before == relisting.after,
+        }
+    }
+
+    /// The numbers of the files to look at after the relisting, ascending: each other file keeps the
+    /// surface that it has. Where all others stay, the file of the relisting is the only one.
+    fn moving(&self, relisting: &Relisting<W>) -> &[u32]
+        requires { IsRelisting self.now.catalogue relisting.now }
+        ensures { AreMoving self.now.catalogue relisting.now result.now }
+    {
+        self.known();
+        let numbers = self.files_of_node(relisting.node);
+        if self.others_stay(relisting) {
+            only(numbers, relisting.file)
+        } else {
+            numbers
+        }
+    }
+
     /// Collects the wanted sets of all files after a relisting, where there is room for their nodes
-    /// and an epoch comes after this one. Only the files of the node are looked at: each other keeps
-    /// the surface that it has.
+    /// and an epoch comes after this one. Each file that isn't looked at keeps the surface that it
+    /// has.
     pub(crate) fn over_wants<C: Collector<S, W>>(
         &self,
         relisting: &Relisting<W>,
@@ -156,7 +185,7 @@ impl<B: Graph<Base, W>, S: Graph<Surface, W>, const W: usize> State<B, S, W> {
     {
         self.known();
         self.files_known();
-        let numbers = self.files_of_node(relisting.node);
+        let numbers = self.moving(relisting);
         for file in numbers {
             collector.known();
             self.collect_file(relisting, *file, collector)?;

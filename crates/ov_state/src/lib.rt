@@ -11,7 +11,7 @@
 //!   relisting   the list that changes, or why not                  │
 //!   site        a new file's place                                 │
 //!   remembering the base cover, where it was asked for before      │
-//!   collecting  the wanted surface of each file of the base node   │
+//!   collecting  the wanted surface of each file that may move      │
 //!   rewrites    the files that get another surface by it           │
 //!   new_nodes   the surface nodes that these need                  │
 //!   plan_new, plan_list     all that as a change                   │
@@ -50,9 +50,9 @@
 //! * `ask_enrol`, `ask_grant`, `ask_revoke` and `cover` tell an owner, before an update, the
 //!   numbers that it needs, or why the update would be refused. They touch no bytes, and plan no
 //!   surface nodes: of these they only count which sets would be new. A question and its update
-//!   take the same steps: one decision on the list, and one pass over the files of the base node,
-//!   which alone may move, with two collectors. What `cover` told can be given back by
-//!   [`State::remember`], so that the creation needn't plan it again.
+//!   take the same steps: one decision on the list, and one pass over the files that may move, with
+//!   two collectors. What `cover` told can be given back by [`State::remember`], so that the
+//!   creation needn't plan it again.
 //! * [`State::chain`] is refused exactly where a read is, unless memory is. It gives a reader of a
 //!   file the chains from the reader's two roots to the file's keys ([`Chained`]); over true tokens
 //!   they lead to these keys, and [`access_key_by`] walks the one of the base layer.
@@ -76,11 +76,12 @@
 //! Sets of users have W words; [`WIDTH`] is the least that holds all users of a store, and
 //! [`Catalogue`] is the state of that width.
 //!
-//! What a grant or a revocation costs, and its question, depends on the files of its base node and
-//! on the nodes of the layers, and not on how many other files there are: the files of a node are
-//! found by halves, and none of another node is looked at after that. A creation looks at a few
-//! files to find its file's place among them, and moves the numbers behind it, four bytes each. All
-//! this is read off the code, and no contract says it.
+//! What a grant or a revocation costs, and its question, depends on the nodes of the layers and not
+//! on how many other files there are: a few are looked at on the way to the file, which is found by
+//! halves. A grant in Delta by which the holders of a base node grow is the one exception. It goes
+//! through the files of that node, since bare ones get a surface, and looks at none of another node
+//! after that. A creation looks at a few files to find its file's place among them, and moves the
+//! numbers behind it, four bytes each. All this is read off the code, and no contract says it.
 //!
 //! Nothing is claimed of secrecy, nor that memory isn't refused.
 #![tactic(auto)]

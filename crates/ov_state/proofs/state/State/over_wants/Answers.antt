@@ -8,34 +8,34 @@ use Rattle.ov_state.specs.Relistings.{room_refusal, wants_after}
 use Rattle.ov_state.specs.declared.fault.ChainFault.{ChainFault}
 use Rattle.ov_state.proofs.ChangedWants.{full-all}
 use Rattle.ov_state.proofs.RoomTests.{full-room, some-room, spent-room}
-use Rattle.ov_state.proofs.SkippedFiles.{behind-more, last-of_node, next-of_node}
+use Rattle.ov_state.proofs.SkippedFiles.{behind-more, last-moving, next-moving}
 use Rattle.ov_state.proofs.state.State.over_wants.Goals as goal
 
 pub collect_file-requires : goal.collect_file-requires
 collect_file-requires g c =
     let s = c.args.self.now.catalogue in
-    let file = c.files_of_node-numbers.ensures.own c.loop-file.file-index c.loop-file-test.true in
-    let next = next-of_node s c.args.relisting.now _ c.known.ensures c.files_known.ensures
+    let file = c.moving-numbers.ensures.own c.loop-file.file-index c.loop-file-test.true in
+    let next = next-moving s c.args.relisting.now _ c.known.ensures c.files_known.ensures
     (λ (ws : List (Option ℕ)). g.C.Collector.has c.args.collector.now s ws c.loop-file.collector) (c.known-in-loop-file.ensures.stays c.args.collector.now s)
-    c.files_of_node-numbers.result.now c.files_of_node-numbers.ensures c.loop-file.file-index c.loop-file-test.true c.loop-file.invariant in
+    c.moving-numbers.result.now c.moving-numbers.ensures c.loop-file.file-index c.loop-file-test.true c.loop-file.invariant in
     (search rules, (search rules, (c.requires.relisting, (file, (c.args.collector.now, next)))))
 
 pub loop-file-preserved : goal.loop-file-preserved
 loop-file-preserved g c =
     let s = c.args.self.now.catalogue in
     let wants : List (Option ℕ) = wants_after (outline s) c.args.relisting.now 0 (outline s).files in
-    let next = next-of_node s c.args.relisting.now _ c.known.ensures c.files_known.ensures
+    let next = next-moving s c.args.relisting.now _ c.known.ensures c.files_known.ensures
     (λ (ws : List (Option ℕ)). g.C.Collector.has c.args.collector.now s ws c.loop-file.collector) (c.known-in-loop-file.ensures.stays c.args.collector.now s)
-    c.files_of_node-numbers.result.now c.files_of_node-numbers.ensures c.loop-file.file-index c.loop-file-test.true c.loop-file.invariant in
+    c.moving-numbers.result.now c.moving-numbers.ensures c.loop-file.file-index c.loop-file-test.true c.loop-file.invariant in
     subst (λ n. g.C.Collector.has c.args.collector.now s (take n wants) c.collect_file.new.collector)
-    (behind-more c.files_of_node-numbers.result.now c.loop-file.file-index) (c.in_ok-collect_file.ensures.ok c.args.collector.now next)
+    (behind-more c.moving-numbers.result.now c.loop-file.file-index) (c.in_ok-collect_file.ensures.ok c.args.collector.now next)
 
 pub returns-in_err-collect_file-clause-room : goal.returns-in_err-collect_file-clause-room
 returns-in_err-collect_file-clause-room g c =
     let s = c.args.self.now.catalogue in
     let y = outline s in
     let wants : List (Option ℕ) = wants_after y c.args.relisting.now 0 y.files in
-    let file = slice_index c.files_of_node-numbers.result.now c.loop-file.file-index in
+    let file = slice_index c.moving-numbers.result.now c.loop-file.file-index in
     let p = err_from_is_err_and c.from_residual.result c.from_residual.ensures.1 in
     rw p.1 (subst (λ (fault : ChainFault). IsRefusedFor (room_refusal (with_wants s.surface.sets wants) s.epoch) fault) (sym p.2)
     (full-room (with_wants s.surface.sets wants) s.epoch c.in_err-collect_file.field-0.0
@@ -46,24 +46,24 @@ returns-then-is_spent-clause-room g c =
     let s = c.args.self.now.catalogue in
     let y = outline s in
     let wants : List (Option ℕ) = wants_after y c.args.relisting.now 0 y.files in
-    let all = last-of_node s c.args.relisting.now _ c.known.ensures c.files_known.ensures
+    let all = last-moving s c.args.relisting.now _ c.known.ensures c.files_known.ensures
     (λ (ws : List (Option ℕ)). g.C.Collector.has c.args.collector.now s ws c.loop-file.collector) (c.known-2.ensures.stays c.args.collector.now s)
-    c.files_of_node-numbers.result.now c.files_of_node-numbers.ensures c.loop-file.file-index (omega arith) c.loop-file.invariant in
+    c.moving-numbers.result.now c.moving-numbers.ensures c.loop-file.file-index (omega arith) c.loop-file.invariant in
     spent-room (with_wants s.surface.sets wants) s.epoch (c.known-2.ensures.few c.args.collector.now s wants all) (sym c.is_spent.ensures ∙ c.if-is_spent.true)
 
 pub returns-clause-ok : goal.returns-clause-ok
 returns-clause-ok g c =
     let s = c.args.self.now.catalogue in
-    last-of_node s c.args.relisting.now _ c.known.ensures c.files_known.ensures
+    last-moving s c.args.relisting.now _ c.known.ensures c.files_known.ensures
     (λ (ws : List (Option ℕ)). g.C.Collector.has c.args.collector.now s ws c.loop-file.collector) (c.known-2.ensures.stays c.args.collector.now s)
-    c.files_of_node-numbers.result.now c.files_of_node-numbers.ensures c.loop-file.file-index (omega arith) c.loop-file.invariant
+    c.moving-numbers.result.now c.moving-numbers.ensures c.loop-file.file-index (omega arith) c.loop-file.invariant
 
 pub returns-clause-room : goal.returns-clause-room
 returns-clause-room g c =
     let s = c.args.self.now.catalogue in
     let y = outline s in
     let wants : List (Option ℕ) = wants_after y c.args.relisting.now 0 y.files in
-    let all = last-of_node s c.args.relisting.now _ c.known.ensures c.files_known.ensures
+    let all = last-moving s c.args.relisting.now _ c.known.ensures c.files_known.ensures
     (λ (ws : List (Option ℕ)). g.C.Collector.has c.args.collector.now s ws c.loop-file.collector) (c.known-2.ensures.stays c.args.collector.now s)
-    c.files_of_node-numbers.result.now c.files_of_node-numbers.ensures c.loop-file.file-index (omega arith) c.loop-file.invariant in
+    c.moving-numbers.result.now c.moving-numbers.ensures c.loop-file.file-index (omega arith) c.loop-file.invariant in
     some-room (with_wants s.surface.sets wants) s.epoch (c.known-2.ensures.few c.args.collector.now s wants all) (sym c.is_spent.ensures ∙ c.if-is_spent.false)
