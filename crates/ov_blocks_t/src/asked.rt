@@ -1,6 +1,7 @@
 //! The calls of extents behind a test that they may be made.
-ghost use Rattle.std.specs.Prelude.{◌≡◌, Contains, IsTrue};
-ghost use Rattle.ov_blocks.specs.Extents.{HasPlace, IsInside};
+ghost use Rattle.std.specs.Prelude.{◌≡◌, All, Contains, IsTrue};
+ghost use Rattle.std.specs.List.Sorted.{IsStrictlyIncreasing};
+ghost use Rattle.ov_blocks.specs.Extents.{BeginsOne, HasPlace, IsInside};
 ghost use Rattle.ov_blocks.specs.Writes.{place_in_blobs};
 
 use ov_blocks::{BLOCK_BYTES, Extent, Extents, MAX_EXTENT_BLOCKS, MAX_HELD};
@@ -41,6 +42,34 @@ pub fn place_from(rt: &impl Abort, extents: &Extents, length: u32, from: u32) ->
 pub fn release(rt: &impl Abort, extents: &mut Extents, first: u32, length: u32) {
     assert!(rt; is_held(extents, Extent { first, length }));
     extents.release(first, length);
+}
+
+// Whether the blocks rise.
+fn rise(blocks: &[u32]) -> bool
+    ensures { IsTrue result → IsStrictlyIncreasing blocks.now }
+{
+    (1..blocks.len()).all(|k| blocks[k - 1] < blocks[k])
+}
+
+// Whether an extent that is held begins at this block.
+fn begins_one(extents: &Extents, block: &u32) -> bool
+    ensures { IsTrue result → BeginsOne extents.now block.now }
+{
+    extents.held().iter().any(|extent| extent.first == *block)
+}
+
+// Whether an extent that is held begins at each of these blocks.
+fn begin_each(extents: &Extents, blocks: &[u32]) -> bool
+    ensures { IsTrue result → All (BeginsOne extents.now) blocks.now }
+{
+    blocks.iter().all(|block| begins_one(extents, block))
+}
+
+/// Gives up the extents that begin at these blocks.
+pub fn release_all(rt: &impl Abort, extents: &mut Extents, gone: &[u32]) {
+    assert!(rt; rise(gone));
+    assert!(rt; begin_each(extents, gone));
+    extents.release_all(gone);
 }
 
 // Whether the extent is held, and has so many bytes from `start` on.

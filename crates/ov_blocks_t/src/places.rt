@@ -1,5 +1,5 @@
 //! Which blocks are taken: rows by hand.
-use crate::asked::{place, place_from, release};
+use crate::asked::{place, place_from, release, release_all};
 use ov_base::Memory;
 use ov_blocks::{BLOCK_BYTES, Extent, Extents, MAX_BLOCKS};
 use std::alloc::{AllocError, Global};
@@ -102,6 +102,42 @@ fn ranges_that_are_held_or_free(rt: HostRuntime) -> Result<(), Fail> {
             "{first} beside {held:?}"
         );
         assert_eq!(rt; extents.held().len(), before + usize::from(*free));
+    }
+    Ok(())
+}
+
+// Ten extents that are held.
+const TEN: [(u32, u32); 10] = [
+    (0, 2),
+    (2, 1),
+    (5, 4),
+    (9, 1),
+    (12, 1),
+    (14, 1),
+    (16, 3),
+    (20, 1),
+    (21, 1),
+    (23, 2),
+];
+
+// The blocks at which some of the ten are given up, and what is left: eight of them go one by one,
+// and nine in one walk.
+const GIVEN_UP: [(&[u32], &[(u32, u32)]); 4] = [
+    (&[], &TEN),
+    (&[0, 2, 5, 12, 14, 20, 21, 23], &[(9, 1), (16, 3)]),
+    (&[0, 2, 5, 9, 12, 14, 20, 21, 23], &[(16, 3)]),
+    (&[0, 2, 5, 9, 12, 14, 16, 20, 21, 23], &[]),
+];
+
+#[test]
+fn extents_given_up_at_once(rt: HostRuntime) -> Result<(), Fail> {
+    for (gone, left) in &GIVEN_UP {
+        let mut extents = holding(&rt, rt.alloc(), &TEN)?;
+        release_all(&rt, &mut extents, *gone);
+        assert_eq!(rt; extents.held().len(), left.len(), "{gone:?}");
+        for (extent, one) in extents.held().iter().zip(*left) {
+            assert_eq!(rt; (extent.first, extent.length), *one, "{gone:?}");
+        }
     }
     Ok(())
 }
