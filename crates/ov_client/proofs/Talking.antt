@@ -65,6 +65,10 @@ module _ {P : Type 0} (peer : PeerTells P) (r : Reader) (file : List ℕ) where
   ended p q stage result (asks, leads, goes) =
       (asks, None, (q, leads, refl), (Ends result, goes, inl refl))
 
+  -- memory runs out between two asks
+  pub forgot : (p : P) (stage : Stage) → ReadsFrom peer p p r file stage (Err client.Memory)
+  forgot p stage = ([], None, (p, refl, refl), (stage, refl, inr refl))
+
   -- memory runs out after a read that is done
   pub forgot_bytes : (p q : P) (stage : Stage) (bytes : List ℕ)
       → ReadsFrom peer p q r file stage (Ok bytes)
