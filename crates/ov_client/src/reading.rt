@@ -47,10 +47,8 @@ fn gather<P: Peer>(
     ensures same { P.tells.borrow peer.new ≡ P.tells.borrow peer.old }
     ensures cause { HasClientCause (P.tells.faults peer.old) (P.tells.faults peer.new) result }
 {
-    let mut plain = match Vec::with_capacity(alloc, chained.length as usize) {
-        Ok(plain) => plain,
-        Err(_) => return Err(ClientFault::Memory),
-    };
+    // The length was only announced: memory is taken as the bytes come.
+    let mut plain = Vec::new(alloc);
     while plain.len() < chained.length as usize {
         match ask_chunk(alloc, peer, chained, plain.len() as u32) {
             Ok(Fetched::Bytes(chunk)) => match keys.append(chained.file, chunk, &mut plain) {

@@ -1,5 +1,5 @@
 -- Files by base node, as their numbers are kept and looked up.
-use Rattle.std.proofs.Common.{Bor, length, ◌≡◌, ℕ, zero, suc, ◌+◌, ◌-◌, ◌<◌, ◌≤◌, ◌⊎◌, inl, inr, ⊎_elim, true, false, true≢false, List, [], ◌∷◌, ◌++◌, refl, sym, ◌∙◌, ap, subst, arith, length-append}
+use Rattle.std.proofs.Common.{Bor, length, ◌≡◌, ℕ, zero, suc, ◌+◌, ◌-◌, ◌<◌, ◌≤◌, ◌⊎◌, inl, inr, ⊎_elim, true, true≢false, List, [], ◌∷◌, ◌++◌, refl, sym, ◌∙◌, ap, subst, arith, length-append}
 use Rattle.std.specs.Prelude.{is_some, insert, nat_lt, IfSome, option_map, slice_index, slice_index_or, slice_range, unwrap_or, Contains, Option, Some, None}
 use Rattle.std.specs.List.Sorted.{IsNonDecreasingBy}
 use Rattle.std.proofs.lemmas.Bool.{cases_eq, cases_lt}
@@ -7,7 +7,7 @@ use Rattle.std.proofs.lemmas.List.{get_or_default}
 use Rattle.std.proofs.lemmas.List.Edits.{get_or-between, get_or-insert_above, get_or-insert_at, get_or-insert_below, length-between, length-insert}
 use Rattle.std.proofs.lemmas.List.Sorted.{IsNonDecreasingBy-from_default}
 use Rattle.ov_history.specs.Catalogue.{Filed}
-use Rattle.ov_history.specs.Places.{change_at, living_at}
+use Rattle.ov_history.specs.Places.{change_at}
 use Rattle.ov_state.proofs.FilesByNumber.{length-plain, plain-got}
 use Rattle.ov_state.specs.declared.files.FileEntry.{FileEntry}
 use Rattle.ov_state.specs.Entries.{node_at, node_of, plain_file, plain_files, AreByNode, AreOfNode, ComesBefore, IsCountBelow}

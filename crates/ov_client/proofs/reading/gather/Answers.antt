@@ -8,23 +8,17 @@ use Rattle.ov_client.specs.declared.telling.Fetched.TheVariants.{Bytes, Moved}
 use Rattle.ov_client.proofs.Gathering.{Gathers, fetched_on, gathers_all, gathers_more, gathers_none}
 use Rattle.ov_client.proofs.Gathering.{longer}
 use Rattle.ov_client.proofs.Gathering.{no_room, size_is}
-use Rattle.ov_client.proofs.Talking.{forgot}
 use Rattle.ov_client.proofs.reading.gather.Goals as goal
-
-pub returns-in-Err-clause-talk : goal.returns-in-Err-clause-talk
-returns-in-Err-clause-talk g c = λ r file tries same.
-    forgot g.P.Peer.tells r file c.args.peer.now
-    (goes_on r tries c.args.chained.now [])
 
 pub loop-alloc-init : goal.loop-alloc-init
 loop-alloc-init g c = record {
   gathers = λ r file tries.
       subst (Gathers g.P.Peer.tells r file c.args.peer.now c.args.peer.now tries
       c.args.chained.now c.args.keys.now)
-      (sym c.in-Ok.ensures.items)
+      (sym c.new-plain.ensures.items)
       (gathers_none g.P.Peer.tells r file c.args.peer.now tries c.args.chained.now
       c.args.keys.now);
-  few = let none = ap length c.in-Ok.ensures.items in omega arith;
+  few = let none = ap length c.new-plain.ensures.items in omega arith;
   same = refl;
   later = omega arith;
 }
@@ -38,7 +32,7 @@ loop-alloc-smaller g c =
     c.in-Ok-Bytes.ensures.size in
     let more = longer c.args.keys.now d.file (length c.loop-alloc.plain.items)
     c.loop-alloc.plain.items c.in-Ok-Bytes.chunk
-    c.append.new.plain.items c.in-Ok-append.ensures in
+    c.append.new.plain.items c.in-Ok.ensures in
     omega (arith, size, more, c.len.ensures, c.len-in-loop-alloc.ensures, c.loop-alloc-test.true)
 
 pub loop-alloc-preserved : goal.loop-alloc-preserved
@@ -51,7 +45,7 @@ loop-alloc-preserved g c =
     subst (HasSize (chunk_bytes d.length start)) c.in-Ok-Bytes.field-0-is
     c.in-Ok-Bytes.ensures.size in
     let more = longer c.args.keys.now d.file (length plain) plain chunk c.append.new.plain.items
-    c.in-Ok-append.ensures in
+    c.in-Ok.ensures in
     let low : length plain < d.length = omega (arith, c.len.ensures, c.loop-alloc-test.true) in
     record {
       gathers = λ r file tries.
@@ -74,7 +68,7 @@ loop-alloc-preserved g c =
           c.ask_chunk.new.peer r file
           (AsksChunk tries d so_far.stored) (after_fetched r tries d so_far.stored) (Ok f))
           c.in-Ok-Bytes.field-0-is on))
-          c.in-Ok-append.ensures;
+          c.in-Ok.ensures;
       few = omega (arith, size, more, low, c.len-in-loop-alloc.ensures);
       same = c.ask_chunk.ensures.same ∙ c.loop-alloc.invariant.same;
       later = omega (arith, c.ask_chunk.ensures.cause.later, c.loop-alloc.invariant.later);
@@ -128,13 +122,13 @@ returns-in-Ok-Moved-clause-talk g c = λ r file tries same.
     (AsksChunk tries d so_far.stored) (after_fetched r tries d so_far.stored) (Ok f))
     c.in-Ok-Moved.field-0-is on)
 
-pub returns-in-Err-ask_chunk-clause-talk : goal.returns-in-Err-ask_chunk-clause-talk
-returns-in-Err-ask_chunk-clause-talk g c = λ r file tries same.
+pub returns-in-Err-clause-talk : goal.returns-in-Err-clause-talk
+returns-in-Err-clause-talk g c = λ r file tries same.
     let d = c.args.chained.now in
     let plain = c.loop-alloc.plain.items in
     let so_far = c.loop-alloc.invariant.gathers r file tries in
     let low : length plain < d.length = omega (arith, c.len.ensures, c.loop-alloc-test.true) in
-    let on = c.in-Err-ask_chunk.ensures.talk r file tries so_far.stored
+    let on = c.in-Err.ensures.talk r file tries so_far.stored
     (omega (
       arith,
       c.len-in-loop-alloc.ensures,
@@ -144,7 +138,7 @@ returns-in-Err-ask_chunk-clause-talk g c = λ r file tries same.
     )) in
     fetched_on g.P.Peer.tells r file c.args.peer.now c.loop-alloc.peer
     c.ask_chunk.new.peer tries d c.args.keys.now
-    plain so_far (Err c.in-Err-ask_chunk.fault) low on
+    plain so_far (Err c.in-Err.fault) low on
 
 pub returns-clause-talk : goal.returns-clause-talk
 returns-clause-talk g c = λ r file tries same.

@@ -1,4 +1,4 @@
-use Rattle.std.proofs.Common.{◌≤◌, ◌+◌, arith, sym, subst}
+use Rattle.std.proofs.Common.{◌≤◌, ◌+◌, arith, subst}
 use Rattle.ov_state.specs.Entries.{plain_files, IsCountBelow}
 use Rattle.ov_state.proofs.FilesByNode.{counts-rise, of_node-between}
 use Rattle.ov_state.proofs.by_node.files_of_node.Goals as goal
