@@ -1,5 +1,5 @@
 //! A server over its disk and its door.
-ghost use Rattle.std.specs.Prelude.{◌≡◌, Result, false};
+ghost use Rattle.std.specs.Prelude.{◌≡◌, ◌≤◌, [], Result, false};
 ghost use Rattle.ov_disk.specs.Disk.{Told};
 ghost use Rattle.ov_images.specs.Images.{StandsIn, keys};
 ghost use Rattle.ov_store.specs.Opened.{Opened};
@@ -7,20 +7,23 @@ ghost use Rattle.ov_store.specs.declared.begin.BeginRefused.{BeginRefused};
 ghost use Rattle.ov_session.specs.Doors.{IsUnused};
 ghost use Rattle.ov_report.specs.Ends.{EndsOr, IsPutTo};
 ghost use Rattle.ov_report.specs.Faults.{HasValues, fault_line, fault_status};
-ghost use Rattle.ov_host.specs.Hosting.{Begins, Hosts, IsOpenStatus, SaysDisk, SaysDoor};
+ghost use Rattle.ov_host.specs.Hosting.{Begins, Hosts, IsOpenStatus, SaysDisk};
+ghost use Rattle.ov_host.specs.Serving.{SaysDoor};
 
 use crate::disk_server::DiskServer;
 use crate::hosted::Hosted;
-use crate::serving::serve_door;
+use crate::sharing::serve_value;
 use ov_disk::Disk;
 use ov_io::Sink;
 use ov_report::{put_fault, values_are_known};
 use ov_server::Server;
-use ov_session::Door;
+use ov_serving::Spawner;
+use ov_session::{Door, Gate};
 use ov_settings::Settings;
 use ov_store::{BeginRefused, Store};
 use std::alloc::Global;
 use std::sync::Wait;
+use std::thread::Threads;
 
 // Begins the store on the disk by these settings.
 fn begin_store<D: Disk + Drop>(
@@ -63,24 +66,37 @@ fn hand_back<D: Disk + Drop, O: Sink>(
 }
 
 /// Begins the store on the disk by these settings, and serves it at the door: says where it
-/// listens, serves the sessions one after the other, and says how many there were. Where no store
-/// is begun the line says why. The disk is handed back as the sessions left it.
-pub fn host<R: Wait, D: Disk + Drop, A: Door, O: Sink>(
+/// listens, serves the sessions, as many at once as the settings have workers, and says how many
+/// there were. Where no store is begun the line says why. The disk is handed back as the sessions
+/// left it.
+pub fn host<
+    R: Threads + Wait + Copy + Send + 'static,
+    D: Disk + Drop + Send + 'static,
+    A: Door,
+    G: Gate + Drop + Send + Sync + 'static,
+    O: Sink,
+>(
     rt: &R,
     alloc: Global,
     settings: &Settings,
     disk: D,
     door: &mut A,
+    spawner: &mut Spawner<A::Stream, DiskServer<D>, G>,
+    gate: G,
     out: &mut O,
 ) -> Hosted<D>
-    requires { IsUnused (A.shows door.old) }
+where
+    A::Stream: Send + 'static,
+    requires unused { IsUnused (A.shows door.old) }
+    requires workers { (1 ≤ settings.now.workers) × (settings.now.workers ≤ 65536) }
+    requires spawner { spawner.old.started ≡ [] }
     ensures hosts { (begun : Result (Opened D) (BeginRefused D))
         × Begins D.tells (keys settings.now.base_check settings.now.surface.bytes)
         settings.now.mode disk begun
         × Hosts D.tells A.Stream.Source.tells A.Stream.Sink.tells
         (keys settings.now.base_check settings.now.surface.bytes) settings.now.mode disk begun
-        (A.shows door.old) (A.shows door.new) settings.now.sessions
-        (O.tells.written out.old) (O.tells.written out.new) result }
+        settings.now.workers (A.shows door.old) (A.shows door.new) spawner.old spawner.new
+        settings.now.sessions (O.tells.written out.old) (O.tells.written out.new) result }
     ensures disk { SaysDisk D.tells disk result }
     ensures door { SaysDoor (A.shows door.old).faults (A.shows door.new).faults result.status }
     ensures put { IsPutTo O.tells out.old out.new result.status }
@@ -91,8 +107,18 @@ pub fn host<R: Wait, D: Disk + Drop, A: Door, O: Sink>(
 {
     match begin_store(alloc, settings, disk) {
         Ok(store) => {
-            let mut server = DiskServer::new(Server::new(store, settings.surface));
-            let status = serve_door(rt, alloc, door, &mut server, settings.sessions, out);
+            let server = DiskServer::new(Server::new(store, settings.surface));
+            let (status, server) = serve_value(
+                rt,
+                alloc,
+                server,
+                settings.workers,
+                door,
+                spawner,
+                gate,
+                settings.sessions,
+                out,
+            );
             let disk = server.close();
             Hosted {
                 status,

@@ -1,8 +1,8 @@
 //! A server over its disk and its door.
 //!
 //! [`host`] begins the store on its disk, listens at its door, serves each stream that the door
-//! gives, one after the other, and ends with a status. It puts a line when it listens and one when
-//! it ends:
+//! gives in a session of its own, as many at once as the settings have workers, and ends with a
+//! status. It puts a line when it listens and one when it ends:
 //!
 //! | status | last line | where |
 //! |---|---|---|
@@ -26,6 +26,7 @@ mod hosted;
 mod hosting;
 mod laws;
 mod serving;
+mod sharing;
 
 pub use disk_server::DiskServer;
 pub use hosted::Hosted;

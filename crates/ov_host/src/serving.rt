@@ -1,19 +1,24 @@
 //! Listening, serving, and the lines that say so.
-ghost use Rattle.std.specs.Prelude.{◌≡◌, IfOk, MatchResult};
+ghost use Rattle.std.specs.Prelude.{◌≡◌, ◌<◌, [], All, length, IfOk, MatchResult};
+ghost use Rattle.std.specs.Arc.{arc_value};
 ghost use Rattle.std.specs.Io.KnownBytes.{Appends};
 ghost use Rattle.ov_session.specs.Doors.{FailsOnce, IsUnused, OpensAt};
-ghost use Rattle.ov_session.specs.Serving.{serves_alone};
+ghost use Rattle.ov_turn.specs.Passes.{IsPassOf};
+ghost use Rattle.ov_serving.specs.Sessions.{serves_by_pass};
 ghost use Rattle.ov_report.specs.Ends.{EndsIn, EndsOr, IsPutTo};
-ghost use Rattle.ov_host.specs.Hosting.{EndsServing, IsUntold, SaysDoor, Serves};
-ghost use Rattle.ov_host.specs.Hosting.{door_line, listening_line, served_line};
+ghost use Rattle.ov_host.specs.Serving.{EndsServing, IsUntold, SaysDoor, Serves};
+ghost use Rattle.ov_host.specs.Serving.{door_line, listening_line, served_line};
 
 use ov_base::Memory;
 use ov_io::{Fault, Sink};
 use ov_peer::Answerer;
 use ov_report::{WRITE_FAULT, put_last, put_memory};
-use ov_session::{Door, serve_each};
+use ov_serving::{Spawner, serve};
+use ov_session::{Door, Gate};
+use ov_turn::{Pass, Shared};
 use std::alloc::Global;
-use std::sync::Wait;
+use std::sync::{Arc, Wait};
+use std::thread::Threads;
 
 /// The status of a server whose door failed.
 pub const DOOR_FAULT: u8 = 13;
@@ -93,31 +98,47 @@ fn open<A: Door>(alloc: Global, door: &mut A) -> Result<Vec<u8>, Fault>
     }
 }
 
-/// Listens, says where, serves at most this many sessions one after the other, and says how many
-/// there were: the status.
-pub fn serve_door<R: Wait, A: Door, V: Answerer, O: Sink>(
+/// Listens, says where, serves at most this many sessions by these passes, as many at once as there
+/// are passes, and says how many there were: the status, and all passes.
+pub(crate) fn serve_door<
+    R: Threads + Wait + Copy + Send + 'static,
+    A: Door,
+    V: Answerer + Drop + Send + 'static,
+    G: Gate + Drop + Send + Sync + 'static,
+    O: Sink,
+>(
     rt: &R,
     alloc: Global,
     door: &mut A,
-    value: &mut V,
+    shared: &Arc<Shared<V>, Global>,
+    passes: Vec<Pass<V>>,
+    spawner: &mut Spawner<A::Stream, V, G>,
+    gate: &Arc<G, Global>,
     sessions: u32,
     out: &mut O,
-) -> u8
-    requires { IsUnused (A.shows door.old) }
-    ensures serves { Serves (serves_alone V.tells A.Stream.Source.tells A.Stream.Sink.tells)
-        value.old value.new (A.shows door.old) (A.shows door.new) sessions
-        (O.tells.written out.old) (O.tells.written out.new) result }
-    ensures door { SaysDoor (A.shows door.old).faults (A.shows door.new).faults result }
-    ensures put { IsPutTo O.tells out.old out.new result }
+) -> (u8, Vec<Pass<V>>)
+where
+    A::Stream: Send + 'static,
+    requires unused { IsUnused (A.shows door.old) }
+    requires passes { 0 < length passes.items }
+    requires own { All (IsPassOf (arc_value shared.now)) passes.items }
+    requires spawner { spawner.old.started ≡ [] }
+    ensures serves { Serves (serves_by_pass V.tells A.Stream.Source.tells A.Stream.Sink.tells)
+        passes.items result.1.items (A.shows door.old) (A.shows door.new) spawner.old spawner.new
+        sessions (O.tells.written out.old) (O.tells.written out.new) result.0 }
+    ensures own { All (IsPassOf (arc_value shared.now)) result.1.items }
+    ensures all { length result.1.items ≡ length passes.items }
+    ensures door { SaysDoor (A.shows door.old).faults (A.shows door.new).faults result.0 }
+    ensures put { IsPutTo O.tells out.old out.new result.0 }
 {
-    match open(alloc, door) {
-        Ok(address) => match tell(alloc, out, &address) {
-            Ok(()) => {
-                let (served, failed) = serve_each(rt, alloc, door, value, sessions);
-                put_end(alloc, out, served, failed)
-            }
-            Err(status) => status,
-        },
-        Err(Fault) => put_door(out),
+    let address = match open(alloc, door) {
+        Ok(address) => address,
+        Err(Fault) => return (put_door(out), passes),
+    };
+    if let Err(status) = tell(alloc, out, &address) {
+        return (status, passes);
     }
+    let end = serve(rt, alloc, door, shared, passes, spawner, gate, sessions);
+    let status = put_end(alloc, out, end.served, end.door_failed);
+    (status, end.passes)
 }
