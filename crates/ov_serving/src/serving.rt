@@ -109,6 +109,7 @@ fn begin<
             Err(session) => Some(run(rt, common.alloc, session)),
         },
         Err((mut stream, mut pass)) => {
+            spawner.refuse();
             let (shared, gate) = (&**common.shared, &**common.gate);
             let ending = serve_by_pass(
                 rt,

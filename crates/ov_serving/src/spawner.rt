@@ -1,5 +1,5 @@
 //! What starts sessions and finishes them.
-ghost use Rattle.std.specs.Prelude.{◌≡◌, [], false, true};
+ghost use Rattle.std.specs.Prelude.{◌≡◌, ◌+◌, ◌-◌, ◌^◌, [], false, min, true};
 
 use crate::slot::Slot;
 use ov_io::Stream;
@@ -60,6 +60,15 @@ impl<L: Stream, V: Answerer, G> Spawner<L, V, G> {
         }
     }
 
+    /// Counts a session that isn't started.
+    pub(crate) fn refuse(&mut self)
+        ensures { self.new ≡ record self.old {
+          refused = min (self.old.refused + 1) (2 ^ 64 - 1);
+        } }
+    {
+        self.refused = self.refused.saturating_add(1);
+    }
+
     /// The most sessions that were ever started and not finished at once.
     pub fn most(&self) -> usize
         ensures { result ≡ self.now.most }
@@ -67,7 +76,7 @@ impl<L: Stream, V: Answerer, G> Spawner<L, V, G> {
         self.most
     }
 
-    /// How many starts were refused.
+    /// How many sessions weren't started.
     pub fn refused(&self) -> u64
         ensures { result ≡ self.now.refused }
     {

@@ -100,7 +100,7 @@ pub fn start<
     ensures refuses { spawner.old.refuses ≡ true → IsErr result }
 {
     if spawner.refuses || spawner.started.reserve(1).is_err() {
-        spawner.refused = spawner.refused.saturating_add(1);
+        spawner.refuse();
         return Err(session);
     }
     match begin(rt, spawner.alloc, session) {
@@ -110,7 +110,7 @@ pub fn start<
             Ok(())
         }
         Err(session) => {
-            spawner.refused = spawner.refused.saturating_add(1);
+            spawner.refuse();
             Err(session)
         }
     }
