@@ -23,9 +23,9 @@
 //! * [`serve`] gives each stream of a door to one session, which one of the passes serves, and hands
 //!   it back to the door as it was left, under its number. The sessions in the order of their
 //!   numbers lead from the passes that it was given to those that it gives back (`LeadsPasses`).
-//! * A session that can't be started is run by the caller of `serve`, and counted in `alone`. Where
-//!   that is 0 there were once as many sessions at once as passes, or as were served; there are
-//!   never more of them than passes.
+//! * A session that can't be started is run by the caller of `serve`, and counted in `alone` and by
+//!   the spawner. Where `alone` is 0 there were once as many sessions at once as passes, or as were
+//!   served; there are never more of them than passes.
 //!
 //! `start`, `finish` and `serve` are functions and no methods of a trait: the kit proves a function
 //! that starts threads where its caller knows the types that the thread works with. Nothing is
