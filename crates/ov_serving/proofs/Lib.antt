@@ -5,3 +5,4 @@ mod Going
 mod Owning
 mod Accounting
 mod Telling
+mod Together

@@ -23,18 +23,22 @@ use Rattle.ov_serving.specs.Sessions.{serves_by_pass}
 
 -- ---- one pass's updates
 
-own_both : (k : ℕ) (xs ys : List Entry) → own k (xs ++ ys) ≡ own k xs ++ own k ys
+pub own_both : (k : ℕ) (xs ys : List Entry) → own k (xs ++ ys) ≡ own k xs ++ own k ys
 own_both k xs ys = filter-append (λ (e : Entry). e.pass == k) xs ys
 
-own_one : (k : ℕ) (e : Entry) → e.pass ≡ k → own k (e ∷ []) ≡ e ∷ []
-own_one k e same = by_test (e.pass == k) refl where
-  by_test : (b : Bool) → (e.pass == k) ≡ b → own k (e ∷ []) ≡ e ∷ []
+-- an update of the pass is the first of its own
+pub own_here : (k : ℕ) (e : Entry) (log : List Entry) → e.pass ≡ k
+    → own k (e ∷ log) ≡ e ∷ own k log
+own_here k e log same = by_test (e.pass == k) refl where
+  by_test : (b : Bool) → (e.pass == k) ≡ b → own k (e ∷ log) ≡ e ∷ own k log
   by_test true is = rw is refl
   by_test false is = absurd (grind (arith, nat_tests))
 
-own_none : (k : ℕ) (e : Entry) → e.pass ≢ k → own k (e ∷ []) ≡ []
-own_none k e other = by_test (e.pass == k) refl where
-  by_test : (b : Bool) → (e.pass == k) ≡ b → own k (e ∷ []) ≡ []
+-- an update of another pass is none of its own
+pub own_there : (k : ℕ) (e : Entry) (log : List Entry) → e.pass ≢ k
+    → own k (e ∷ log) ≡ own k log
+own_there k e log other = by_test (e.pass == k) refl where
+  by_test : (b : Bool) → (e.pass == k) ≡ b → own k (e ∷ log) ≡ own k log
   by_test true is = absurd (other (grind (arith, nat_tests)))
   by_test false is = rw is refl
 
@@ -48,7 +52,7 @@ module _ (k : ℕ) where
     it = entry k call (spelling_of request)
 
     by_test : (b : Bool) → own k (longer_if b [] it) ≡ longer_if b [] it
-    by_test true = own_one k it refl
+    by_test true = own_here k it [] refl
     by_test false = refl
 
   -- all that a pass's exchanges accepted are its own
@@ -70,7 +74,7 @@ module _ (k : ℕ) where
       it = entry number call (spelling_of request)
 
       by_test : (b : Bool) → own k (longer_if b [] it) ≡ []
-      by_test true = own_none k it other
+      by_test true = own_there k it [] other
       by_test false = refl
 
     -- none that another pass's exchanges accepted is this pass's own
@@ -115,7 +119,7 @@ module _ {V : Type 0} (answerer : AnswererTells V) where
     by_test true =
         own_both k log (it ∷ [])
         ∙ (ap (λ l. l ++ own k (it ∷ [])) goes.1
-        ∙ ap (λ l. own k p.knowledge.seen ++ l) (own_one k it refl))
+        ∙ ap (λ l. own k p.knowledge.seen ++ l) (own_here k it [] refl))
     by_test false = goes.1 ∙ sym (append-nil (own k p.knowledge.seen))
   turn_sees start p request None q (log, goes, is) = record {
     number = ap number_of is;

@@ -1,5 +1,6 @@
 -- What holds of a shared value behind sessions.
 use Rattle.std.specs.Prelude.{◌≡◌, ℕ, ◌+◌, List, ◌++◌, All, length}
+use Rattle.std.specs.List.Sorted.{IsPermutation}
 use Rattle.ov_io.specs.Tells.{SourceTells, SinkTells}
 use Rattle.ov_peer.specs.Tells.{AnswererTells}
 use Rattle.ov_session.specs.Exchanges.{Exchange}
@@ -49,6 +50,17 @@ module _ {V S : Type 0} (answerer : AnswererTells V) (source : SourceTells S) (s
         → IsNumbered s.passes log → All (λ p. GoesOnFrom answerer s.start p.knowledge log) after
         → (k : ℕ)
         → own k log ≡ own k (accepted_in_sessions answerer source sink passes sessions after leads)
+
+    -- so the list has all updates that these sessions accepted, each once, and no other
+    abbrev pub LogIsAllThatSessionsAccepted : Type 0
+    LogIsAllThatSessionsAccepted =
+        (s : SharedState V) (passes after : List (PassState V))
+        (sessions : List (PassSession (PassState V) S)) (log : List Entry)
+        → AreFirst answerer s passes → length passes ≡ s.passes
+        → (leads : LeadsPasses (serves_by_pass answerer source sink) passes sessions after)
+        → IsNumbered s.passes log → All (λ p. GoesOnFrom answerer s.start p.knowledge log) after
+        → IsPermutation log
+        (accepted_in_sessions answerer source sink passes sessions after leads)
 
     -- what all sessions were told is one history: that list's
     abbrev pub SessionsAreToldOneHistory : Type 0

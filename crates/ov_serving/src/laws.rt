@@ -1,6 +1,7 @@
 //! Laws of a value that sessions share. Each function does nothing.
-ghost use Rattle.ov_serving.specs.Laws.{FirstPassesAreOfIt, LogIsWhatSessionsAccepted};
-ghost use Rattle.ov_serving.specs.Laws.{PassesSeeTheirOwn, SessionsAreToldOneHistory};
+ghost use Rattle.ov_serving.specs.Laws.{FirstPassesAreOfIt, LogIsAllThatSessionsAccepted};
+ghost use Rattle.ov_serving.specs.Laws.{LogIsWhatSessionsAccepted, PassesSeeTheirOwn};
+ghost use Rattle.ov_serving.specs.Laws.{SessionsAreToldOneHistory};
 
 use ov_io::Stream;
 use ov_peer::Answerer;
@@ -20,6 +21,11 @@ pub fn passes_see_their_own<V: Answerer, L: Stream>()
 /// by this pass accepted, in the same order.
 pub fn the_log_is_what_sessions_accepted<V: Answerer, L: Stream>()
     ensures { LogIsWhatSessionsAccepted V.tells L.Source.tells L.Sink.tells }
+{}
+
+/// That list has all updates that the sessions accepted, each once, and no other.
+pub fn the_log_is_all_that_sessions_accepted<V: Answerer, L: Stream>()
+    ensures { LogIsAllThatSessionsAccepted V.tells L.Source.tells L.Sink.tells }
 {}
 
 /// All sessions are told of that one list: each reply is the value's after a first part of it.

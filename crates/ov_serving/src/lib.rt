@@ -28,11 +28,11 @@
 //!   never more of them than passes.
 //!
 //! **What the value accepted** is told by `close` of ov_turn as one list of updates. The laws of
-//! this crate join it to the sessions: of each pass the list has just what the exchanges of the
-//! sessions by it accepted, in the same order ([`the_log_is_what_sessions_accepted`]), and each reply
-//! of each session is the value's after a first part of that list, which goes on by the request's own
-//! update where it was accepted ([`sessions_are_told_one_history`]). Which of two passes came first is
-//! told by nothing else.
+//! this crate join it to the sessions. The list has all updates that their exchanges accepted, each
+//! once and no other, and those of one pass in the order in which it asked
+//! ([`the_log_is_what_sessions_accepted`]). Each reply of each session is the value's after a first
+//! part of the list, which goes on by the request's own update where that was accepted
+//! ([`sessions_are_told_one_history`]).
 //!
 //! `start`, `finish` and `serve` are functions and no methods of a trait: the kit proves a function
 //! that starts threads where its caller knows the types that the thread works with. Nothing is
@@ -67,7 +67,7 @@ mod starting;
 pub use asker::SessionPass;
 pub use laws::{
     first_passes_are_of_it, passes_see_their_own, sessions_are_told_one_history,
-    the_log_is_what_sessions_accepted,
+    the_log_is_all_that_sessions_accepted, the_log_is_what_sessions_accepted,
 };
 pub use serving::{ServeEnd, serve};
 pub use session::{Ended, Session};
