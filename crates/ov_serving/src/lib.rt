@@ -27,6 +27,13 @@
 //!   the spawner. Where `alone` is 0 there were once as many sessions at once as passes, or as were
 //!   served; there are never more of them than passes.
 //!
+//! **What the value accepted** is told by `close` of ov_turn as one list of updates. The laws of
+//! this crate join it to the sessions. The list has all updates that their exchanges accepted, each
+//! once and no other, and those of one pass in the order in which it asked
+//! ([`the_log_is_what_sessions_accepted`]). Each reply of each session is the value's after a first
+//! part of the list, which goes on by the request's own update where that was accepted
+//! ([`sessions_are_told_one_history`]).
+//!
 //! `start`, `finish` and `serve` are functions and no methods of a trait: the kit proves a function
 //! that starts threads where its caller knows the types that the thread works with. Nothing is
 //! claimed of time: that two sessions really run at once is shown by a test (`ov_serving_t`), in
@@ -42,11 +49,15 @@
 //! | `Sessions` | what one session does, and what is left of it |
 //! | `Spawning` | what a spawner shows, and what `start` and `finish` do to it |
 //! | `AtOnce` | sessions by number, the passes that serve them, and how many ran at once |
+//! | `Accepted` | the updates that exchanges and sessions accepted |
+//! | `Told` | what sessions were told of one list of updates |
+//! | `Laws` | what holds of a shared value behind sessions |
 //! | `Slots` | inner: what a spawner keeps of a session |
 //! | `Places` | inner: how far the sessions of a door are |
 #![tactic(auto)]
 
 mod asker;
+mod laws;
 mod serving;
 mod session;
 mod slot;
@@ -54,6 +65,10 @@ mod spawner;
 mod starting;
 
 pub use asker::SessionPass;
+pub use laws::{
+    first_passes_are_of_it, passes_see_their_own, sessions_are_told_one_history,
+    the_log_is_all_that_sessions_accepted, the_log_is_what_sessions_accepted,
+};
 pub use serving::{ServeEnd, serve};
 pub use session::{Ended, Session};
 pub use slot::{Done, Of, Outcome, Slot};
