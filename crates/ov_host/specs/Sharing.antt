@@ -1,5 +1,6 @@
 -- A value that sessions share while a door is served, and what it is left with.
 use Rattle.std.specs.Prelude.{◌≡◌, ◌⊎◌, ℕ, List, [], length, Option}
+use Rattle.std.specs.List.Sorted.{IsPermutation}
 use Rattle.std.proofs.Common.{inl, inr}
 use Rattle.ov_io.specs.Tells.{SinkTells, SourceTells}
 use Rattle.ov_peer.specs.Tells.{AnswererTells}
@@ -33,7 +34,8 @@ module _ {V S G : Type 0} (answerer : AnswererTells V) (source : SourceTells S) 
     (value left : V) (workers : ℕ) (old new : Doorway S) (idle done : SpawnerState S V G)
     (wanted : ℕ) (before after : Option (List ℕ)) (status : ℕ) where
   -- The value was shared by so many passes, by which the door was served. It is left with one list
-  -- of accepted updates, and those of each pass are the ones that its sessions accepted.
+  -- of accepted updates: each that a session accepted is there once, and those of a pass are in the
+  -- order of its sessions.
   pub record Shares : Type 0 where
     pub shared : SharedState V
     pub start : shared.start ≡ value
@@ -45,7 +47,9 @@ module _ {V S G : Type 0} (answerer : AnswererTells V) (source : SourceTells S) 
     pub serves : Serves (serves_by_pass answerer source sink) first last old new idle done wanted
         before after status
     pub is_left : IsLeft answerer shared last left
-    pub accepts : (pass : ℕ) → own pass is_left.0
+    pub accepts : IsPermutation is_left.0
+        (accepted answerer source sink first last old new idle done wanted before after status serves)
+    pub in_order : (pass : ℕ) → own pass is_left.0
         ≡ own pass (accepted answerer source sink first last old new idle done wanted before after
         status serves)
 
