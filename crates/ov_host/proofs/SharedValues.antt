@@ -12,9 +12,11 @@ use Rattle.ov_turn.specs.Passes.{AreFirst, IsLeft, first_pass, PassState, Shared
 use Rattle.ov_serving.specs.Sessions.{serves_by_pass}
 use Rattle.ov_serving.specs.Spawning.{SpawnerState}
 use Rattle.ov_serving.proofs.Accounting.{log_is_accepted}
+use Rattle.ov_serving.proofs.Telling.{first_are_of_it, told_one_history}
 use Rattle.ov_serving.proofs.Together.{log_is_all}
+use Rattle.ov_serving.specs.Told.{SessionsAreTold}
 use Rattle.ov_host.specs.Serving.{Serves}
-use Rattle.ov_host.specs.Sharing.{accepted}
+use Rattle.ov_host.specs.Sharing.{AreToldOf, accepted}
 
 -- a list has the updates of the pass of its first one
 own_first : (e : Entry) (log : List Entry) → own e.pass (e ∷ log) ≡ [] → ⊥
@@ -83,3 +85,16 @@ module _ {V S : Type 0} (answerer : AnswererTells V) (source : SourceTells S) (s
   own_accepted last value old new idle done wanted before after status (inr (address, here, inr tells)) left =
       log_is_accepted answerer source sink s first last tells.serves.sessions.sessions left.0 are_first all
       tells.serves.sessions.passes left.2 left.3
+
+  -- what the sessions were told is the value's
+  pub told_of_it : {G : Type 0} (value : V) (last : List (PassState V)) (left_value : V) (old new : Doorway S) (idle done : SpawnerState S V G) (wanted : ℕ)
+      (before after : Option (List ℕ)) (status : ℕ) → s.start ≡ value
+      → (serves : Serves (serves_by_pass answerer source sink) first last old new idle done wanted before after status)
+      → (left : IsLeft answerer s last left_value)
+      → AreToldOf answerer source sink value left.0 first last old new idle done wanted before after status serves
+  told_of_it value last left_value old new idle done wanted before after status start (inl fails) left = tt
+  told_of_it value last left_value old new idle done wanted before after status start (inr (address, here, inl fails)) left = tt
+  told_of_it value last left_value old new idle done wanted before after status start (inr (address, here, inr tells)) left =
+      subst (λ (v : V). SessionsAreTold answerer v left.0 source sink first tells.serves.sessions.sessions last tells.serves.sessions.passes) start
+      (told_one_history answerer source sink s first last tells.serves.sessions.sessions left.0
+      (first_are_of_it answerer s first are_first) tells.serves.sessions.passes left.3)

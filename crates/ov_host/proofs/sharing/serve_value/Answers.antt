@@ -1,7 +1,7 @@
 use Rattle.std.proofs.Common.{rules, ◌≡◌, ◌∙◌, inr, length, subst}
 use Rattle.std.specs.Arc.{arc_value}
 use Rattle.ov_turn.specs.Passes.{AreFirst, IsLeft, SharedState}
-use Rattle.ov_host.proofs.SharedValues.{all_accepted, own_accepted}
+use Rattle.ov_host.proofs.SharedValues.{all_accepted, own_accepted, told_of_it}
 use Rattle.ov_host.proofs.sharing.serve_value.Goals as goal
 
 pub returns-in-Ok-share-clause-serves : goal.returns-in-Ok-share-clause-serves
@@ -17,6 +17,7 @@ returns-in-Ok-share-clause-serves g c =
     let before = g.O.Sink.tells.written c.args.out.now in
     let after = g.O.Sink.tells.written c.serve_door-status.new.out in
     let status = c.serve_door-status.result.0 in
+    let start : shared.start ≡ c.args.value = search rules in
     let number : shared.passes ≡ c.args.workers = search rules in
     let all : length first ≡ c.args.workers = search rules in
     let are_first : AreFirst tells shared first = search rules in
@@ -26,7 +27,7 @@ returns-in-Ok-share-clause-serves g c =
     c.only_owned.ensures c.close.ensures in
     inr (record {
       shared = shared;
-      start = search rules;
+      start = start;
       number = number;
       first = first;
       all = all;
@@ -40,4 +41,7 @@ returns-in-Ok-share-clause-serves g c =
       in_order = own_accepted tells source sink shared first are_first as_many last c.close.result
           old new c.args.spawner.now c.serve_door-status.new.spawner c.args.sessions before after
           status c.serve_door-status.ensures.serves left;
+      told = told_of_it tells source sink shared first are_first as_many c.args.value last
+          c.close.result old new c.args.spawner.now c.serve_door-status.new.spawner c.args.sessions
+          before after status start c.serve_door-status.ensures.serves left;
     })
