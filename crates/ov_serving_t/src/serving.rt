@@ -3,6 +3,7 @@ ghost use Rattle.std.specs.Prelude.{◌≡◌, ◌<◌, ◌∷◌, [], false, le
 ghost use Rattle.std.specs.Arc.{arc_value};
 ghost use Rattle.ov_turn.specs.Passes.{IsPassOf};
 
+use crate::closing::serve_and_close;
 use ov_base::{Memory, Octets};
 use ov_io::{MemSink, MemSource, MemStream};
 use ov_peer::Answerer;
@@ -182,5 +183,20 @@ fn a_caller_serves_what_cannot_be_started(rt: HostRuntime) -> Result<(), Fail> {
     assert_eq!(rt; end.alone, 3);
     assert_eq!(rt; spawner.refused(), 3);
     assert_eq!(rt; spawner.most(), 0);
+    expect_all(&rt, &door)
+}
+
+#[test]
+fn the_value_comes_back(rt: HostRuntime) -> Result<(), Fail> {
+    let alloc = rt.alloc();
+    let mut door = door(alloc, &INPUTS)?;
+    let gate = Arc::new(alloc, OpenGate)?;
+    let mut spawner = Spawner::refusing(alloc);
+    let parrot = Parrot { epoch: 3 };
+    let Some(parrot) = serve_and_close(&rt, alloc, &mut door, parrot, 2, &mut spawner, &gate, 9)
+    else {
+        return Err(Fail::from("no value"));
+    };
+    assert_eq!(rt; parrot.epoch, 3);
     expect_all(&rt, &door)
 }
