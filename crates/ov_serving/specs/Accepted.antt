@@ -51,27 +51,27 @@ accepted_in_exchanges number calls (e ∷ more) =
 
 -- ---- sessions
 
-module _ {V S : Type 0} (answerer : AnswererTells V) (source : SourceTells S) (sink : SinkTells S)
-  where
-    -- what a session by a pass exchanged
-    abbrev pub exchanges_in : (s : PassSession (PassState V) S)
-        → IsServed (serves_by_pass answerer source sink) s → List Exchange
-    exchanges_in s served =
-        exchanges_of (in_turns answerer) s.before s.after (link source sink s.session.given)
-        (link source sink s.session.left) s.session.ending served.0
+module _ {V S : Type 0} (answerer : AnswererTells V) (source : SourceTells S)
+    (sink : SinkTells S) where
+  -- what a session by a pass exchanged
+  abbrev pub exchanges_in : (s : PassSession (PassState V) S)
+      → IsServed (serves_by_pass answerer source sink) s → List Exchange
+  exchanges_in s served =
+      exchanges_of (in_turns answerer) s.before s.after (link source sink s.session.given)
+      (link source sink s.session.left) s.session.ending served.0
 
-    -- the updates that it accepted
-    abbrev pub accepted_in_session : (s : PassSession (PassState V) S)
-        → IsServed (serves_by_pass answerer source sink) s → List Entry
-    accepted_in_session s served =
-        accepted_in_exchanges s.before.knowledge.number s.before.calls (exchanges_in s served)
+  -- the updates that it accepted
+  abbrev pub accepted_in_session : (s : PassSession (PassState V) S)
+      → IsServed (serves_by_pass answerer source sink) s → List Entry
+  accepted_in_session s served =
+      accepted_in_exchanges s.before.knowledge.number s.before.calls (exchanges_in s served)
 
-    -- The updates that these sessions accepted, in the order of the sessions. Those that the pass
-    -- with a number asked are the `own` ones of that number.
-    abbrev pub accepted_in_sessions : (passes : List (PassState V))
-        (sessions : List (PassSession (PassState V) S)) (after : List (PassState V))
-        → LeadsPasses (serves_by_pass answerer source sink) passes sessions after → List Entry
-    accepted_in_sessions passes [] after moved = []
-    accepted_in_sessions passes (s ∷ more) after (others, moved, served, leads) =
-        accepted_in_session s served
-        ++ accepted_in_sessions (s.after ∷ others) more after leads
+  -- The updates that these sessions accepted, in the order of the sessions. Those that the pass
+  -- with a number asked are the `own` ones of that number.
+  abbrev pub accepted_in_sessions : (passes : List (PassState V))
+      (sessions : List (PassSession (PassState V) S)) (after : List (PassState V))
+      → LeadsPasses (serves_by_pass answerer source sink) passes sessions after → List Entry
+  accepted_in_sessions passes [] after moved = []
+  accepted_in_sessions passes (s ∷ more) after (others, moved, served, leads) =
+      accepted_in_session s served
+      ++ accepted_in_sessions (s.after ∷ others) more after leads

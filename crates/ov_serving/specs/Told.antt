@@ -27,13 +27,14 @@ module _ {V : Type 0} (answerer : AnswererTells V) (start : V) (log : List Entry
   AreTold number calls (e ∷ more) =
       IsTold number (calls + 1) e.request e.reply × AreTold number (calls + 1) more
 
-  module _ {S : Type 0} (source : SourceTells S) (sink : SinkTells S) where
-    -- so is each exchange of these sessions
-    abbrev pub SessionsAreTold : (passes : List (PassState V))
-        (sessions : List (PassSession (PassState V) S)) (after : List (PassState V))
-        → LeadsPasses (serves_by_pass answerer source sink) passes sessions after → Type 0
-    SessionsAreTold passes [] after moved = Unit {0}
-    SessionsAreTold passes (s ∷ more) after (others, moved, served, leads) =
-        AreTold s.before.knowledge.number s.before.calls
-        (exchanges_in answerer source sink s served)
-        × SessionsAreTold (s.after ∷ others) more after leads
+module _ {V S : Type 0} (answerer : AnswererTells V) (start : V) (log : List Entry)
+    (source : SourceTells S) (sink : SinkTells S) where
+  -- so is each exchange of these sessions
+  abbrev pub SessionsAreTold : (passes : List (PassState V))
+      (sessions : List (PassSession (PassState V) S)) (after : List (PassState V))
+      → LeadsPasses (serves_by_pass answerer source sink) passes sessions after → Type 0
+  SessionsAreTold passes [] after moved = Unit {0}
+  SessionsAreTold passes (s ∷ more) after (others, moved, served, leads) =
+      AreTold answerer start log s.before.knowledge.number s.before.calls
+      (exchanges_in answerer source sink s served)
+      × SessionsAreTold (s.after ∷ others) more after leads

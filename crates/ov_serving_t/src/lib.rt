@@ -1,6 +1,9 @@
 //! Tests of `ov_serving`: sessions in threads of their own, of which the first waits until the
-//! second was asked, and sessions that are served by their caller.
+//! second was asked, sessions that are served by their caller, and a value that is shared and taken
+//! back.
 #![tactic(auto)]
 
+#[cfg(test)]
+mod closing;
 #[cfg(test)]
 mod serving;

@@ -3,6 +3,7 @@ ghost use Rattle.std.specs.Prelude.{◌≡◌, ◌<◌, ◌∷◌, [], false, le
 ghost use Rattle.std.specs.Arc.{arc_value};
 ghost use Rattle.ov_turn.specs.Passes.{IsPassOf};
 
+use crate::closing::serve_and_close;
 use ov_base::{Memory, Octets};
 use ov_io::{MemSink, MemSource, MemStream};
 use ov_peer::Answerer;
@@ -11,10 +12,11 @@ use ov_session::{Gate, MemDoor, OpenGate, SessionEnd};
 use ov_turn::{Pass, Shared};
 use std::alloc::Global;
 use std::process::Abort;
-use std::sync::Arc;
 use std::sync::atomic::{AtomicBool, Ordering};
+use std::sync::{Arc, Wait};
 use std::test::Fail;
 use std::thread;
+use std::thread::Threads;
 
 /// Answers each frame with a Bytes of itself. It has no memory for a frame that begins with 0xff.
 #[derive(Drop)]
@@ -44,22 +46,33 @@ impl Answerer for Parrot {
     }
 }
 
-/// Holds the first session before its request until the second has come to one.
+/// Holds the first session before its request until another one has come to one.
 #[derive(Drop)]
-struct SecondFirst {
-    second: AtomicBool,
+struct FirstWaits {
+    other: u32,
+    came: AtomicBool,
     held: AtomicBool,
 }
 
-impl Gate for SecondFirst {
+impl FirstWaits {
+    fn of(other: u32) -> FirstWaits {
+        FirstWaits {
+            other,
+            came: AtomicBool::new(false),
+            held: AtomicBool::new(false),
+        }
+    }
+}
+
+impl Gate for FirstWaits {
     fn pause(&self, session: u32, request: u32) {
         let _ = request;
-        if session == 1 {
-            self.second.store(true, Ordering::SeqCst);
+        if session == self.other {
+            self.came.store(true, Ordering::SeqCst);
         }
         if session == 0 {
             for _ in 0..10_000_000u32 {
-                if self.second.load(Ordering::SeqCst) {
+                if self.came.load(Ordering::SeqCst) {
                     self.held.store(true, Ordering::SeqCst);
                     return;
                 }
@@ -129,21 +142,18 @@ const WRITTEN: [&[u8]; 3] = [
     &[0, 0, 0, 1, 0x8e],
 ];
 
-#[test]
-fn the_first_session_waits_for_the_second(rt: HostRuntime) -> Result<(), Fail> {
-    let alloc = rt.alloc();
+/// Serves three streams by two passes, while the first session waits for this other one.
+fn serve_three<R: Threads + Wait + Abort + Copy + Send + 'static>(
+    rt: &R,
+    alloc: Global,
+    other: u32,
+) -> Result<(), Fail> {
     let mut door = door(alloc, &INPUTS)?;
     let (shared, passes) = share(alloc)?;
-    let gate = Arc::new(
-        alloc,
-        SecondFirst {
-            second: AtomicBool::new(false),
-            held: AtomicBool::new(false),
-        },
-    )?;
+    let gate = Arc::new(alloc, FirstWaits::of(other))?;
     let mut spawner = Spawner::new(alloc);
     let end = serve(
-        &rt,
+        rt,
         alloc,
         &mut door,
         &shared,
@@ -158,7 +168,17 @@ fn the_first_session_waits_for_the_second(rt: HostRuntime) -> Result<(), Fail> {
     assert_eq!(rt; end.passes.len(), 2);
     assert_eq!(rt; spawner.most(), 2);
     assert!(rt; gate.held.load(Ordering::SeqCst));
-    expect_all(&rt, &door)
+    expect_all(rt, &door)
+}
+
+#[test]
+fn the_first_session_waits_for_the_second(rt: HostRuntime) -> Result<(), Fail> {
+    serve_three(&rt, rt.alloc(), 1)
+}
+
+#[test]
+fn a_session_that_stands_still_holds_up_no_other(rt: HostRuntime) -> Result<(), Fail> {
+    serve_three(&rt, rt.alloc(), 2)
 }
 
 #[test]
@@ -182,5 +202,20 @@ fn a_caller_serves_what_cannot_be_started(rt: HostRuntime) -> Result<(), Fail> {
     assert_eq!(rt; end.alone, 3);
     assert_eq!(rt; spawner.refused(), 3);
     assert_eq!(rt; spawner.most(), 0);
+    expect_all(&rt, &door)
+}
+
+#[test]
+fn the_value_comes_back(rt: HostRuntime) -> Result<(), Fail> {
+    let alloc = rt.alloc();
+    let mut door = door(alloc, &INPUTS)?;
+    let gate = Arc::new(alloc, OpenGate)?;
+    let mut spawner = Spawner::refusing(alloc);
+    let parrot = Parrot { epoch: 3 };
+    let Some(parrot) = serve_and_close(&rt, alloc, &mut door, parrot, 2, &mut spawner, &gate, 9)
+    else {
+        return Err(Fail::from("no value"));
+    };
+    assert_eq!(rt; parrot.epoch, 3);
     expect_all(&rt, &door)
 }
