@@ -3,10 +3,16 @@
 #![tactic(auto)]
 
 #[cfg(test)]
+mod commands;
+#[cfg(test)]
 mod frames;
+#[cfg(test)]
+mod lines;
 #[cfg(test)]
 mod one_pass;
 #[cfg(test)]
 mod pair;
+#[cfg(test)]
+mod port;
 #[cfg(test)]
 mod two_passes;
