@@ -16,7 +16,7 @@ use Rattle.ov_serving.specs.declared.session.Ended.{Ended}
 use Rattle.ov_serving.specs.declared.session.Session as made
 use Rattle.ov_serving.specs.declared.serving.Next.TheVariants as nexts
 use Rattle.ov_serving.specs.AtOnce.{PassSession, ServesAll, plain}
-use Rattle.ov_serving.specs.Places.{Begins, ComesBack, EndsFirst, FreesOne, GoesOn, HasServed, IsBusy, LeavesFree, Over, Stands, TakesNext, and_places, parts}
+use Rattle.ov_serving.specs.Places.{Begins, ComesBack, EndsOne, FreesOne, GoesOn, HasServed, IsBusy, LeavesFree, Over, Stands, TakesNext, and_places, parts}
 use Rattle.ov_serving.specs.Sessions.{IsOfSame, serves_by_pass}
 use Rattle.ov_serving.specs.Spawning.{CountsRefused, Finishes, SpawnerState}
 use Rattle.ov_serving.proofs.Placing.{all_over, leads_all, length_over, told_all}
@@ -67,7 +67,8 @@ refused_same first mid last alone now so is count = record {
 finish_leaves : {L V G : Type 0} (one : OneSession (PassState V) L)
     (spawner after : SpawnerState L V G) (e : Ended L V) → Finishes one spawner (Some e) after
     → after ≡ record spawner { started = after.started }
-finish_leaves one spawner after e (s, listed, (number, served), is) = is
+finish_leaves {L} {V} {G} one spawner after e (before, s, others, listed, (number, served), is) =
+    is ∙ ap (λ l. record spawner { started = l }) (sym (ap (λ (x : SpawnerState L V G). x.started) is))
 
 begin_leaves : {L V G : Type 0} (one : OneSession (PassState V) L) (number : ℕ) (stream : L)
     (pass : PassState V) (spawner after : SpawnerState L V G) (e : Ended L V)
@@ -131,12 +132,12 @@ module _ {L V G : Type 0} (one : OneSession (PassState V) L)
 
   -- ---- a pass is free
 
-  freed_first : (free freed : List (PassState V)) (new newer : Doorway L)
+  freed_one : (free freed : List (PassState V)) (new newer : Doorway L)
       (spawner after : SpawnerState L V G) (served alone : ℕ) → Goes free new spawner served alone
       → free ≡ [] → (e : Ended L V) → Finishes one spawner (Some e) after
       → ComesBack e new newer free freed
       → Goes freed newer after served alone × (0 < length freed)
-  freed_first free freed new newer spawner after served alone so none e ends back =
+  freed_one free freed new newer spawner after served alone so none e ends back =
       let most : after.most ≡ spawner.most = ap (λ (x : SpawnerState L V G). x.most) (finish_leaves one spawner after e ends) in
       let empty : length free ≡ 0 = ap length none in
       let longer : length freed ≡ length free + 1 =
@@ -171,7 +172,7 @@ module _ {L V G : Type 0} (one : OneSession (PassState V) L)
     subst (λ (l : List (PassState V)). 0 < length l) (sym list) is,
   )
   freed free left new newer spawner after served alone so (inr (true, none, (e, ends, back))) =
-      freed_first free left new newer spawner after served alone so none e ends back
+      freed_one free left new newer spawner after served alone so none e ends back
   freed free left new newer spawner after served alone so (inr (false, none, (idle, same, door, list))) =
       let empty : length free ≡ 0 = ap length none in
       let still : length spawner.started ≡ 0 = ap length idle in
@@ -315,7 +316,7 @@ module _ {L V G : Type 0} (one : OneSession (PassState V) L)
   pub one_finished : (free left : List (PassState V)) (new newer : Doorway L)
       (spawner after : SpawnerState L V G) (wanted served alone : ℕ) (failed : Bool)
       → Has free new spawner wanted served alone failed
-      → EndsFirst one spawner after new newer free left true
+      → EndsOne one spawner after new newer free left true
       → Has left newer after wanted served alone failed
   one_finished free left new newer spawner after wanted served alone failed so (e, ends, back) =
       let most : after.most ≡ spawner.most = ap (λ (x : SpawnerState L V G). x.most) (finish_leaves one spawner after e ends) in
@@ -363,7 +364,7 @@ module _ {L V G : Type 0} (one : OneSession (PassState V) L)
   pub ended_all : (free left : List (PassState V)) (new newer : Doorway L)
       (spawner after : SpawnerState L V G) (wanted served alone : ℕ) (failed : Bool)
       → Has free new spawner wanted served alone failed
-      → EndsFirst one spawner after new newer free left false
+      → EndsOne one spawner after new newer free left false
       → ServesAll one passes left old newer wanted served failed
   ended_all free left new newer spawner after wanted served alone failed so (idle, same, door, list) =
       subst (λ (d : Doorway L). ServesAll one passes left old d wanted served failed) (sym door)

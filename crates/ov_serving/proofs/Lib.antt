@@ -2,3 +2,7 @@ mod Calls
 mod Placing
 mod Standing
 mod Going
+mod Owning
+mod Accounting
+mod Telling
+mod Together

@@ -97,25 +97,25 @@ pub record ComesBack {L V : Type 0} (ended : Ended L V) (old new : Doorway L)
   pub frees : freed ≡ free ++ ended.pass ∷ []
 
 module _ {L V G : Type 0} where
-  -- the first started session is out of the door
-  abbrev pub FirstIsOut : Doorway L → List (Session L V G) → Type 0
-  FirstIsOut d [] = Unit {0}
-  FirstIsOut d (s ∷ more) = IsOut d s.number
+  -- the started sessions are out of the door
+  abbrev pub AreOut : Doorway L → List (Session L V G) → Type 0
+  AreOut d [] = Unit {0}
+  AreOut d (s ∷ more) = IsOut d s.number × AreOut d more
 
-  -- the first started session was finished, or there was none
-  abbrev pub EndsFirst : OneSession (PassState V) L → (before after : SpawnerState L V G)
+  -- one of the started sessions was finished, or there was none
+  abbrev pub EndsOne : OneSession (PassState V) L → (before after : SpawnerState L V G)
       → (old new : Doorway L) → (free freed : List (PassState V)) → Bool → Type 0
-  EndsFirst one before after old new free freed true =
+  EndsOne one before after old new free freed true =
       (e : Ended L V) × Finishes one before (Some e) after × ComesBack e old new free freed
-  EndsFirst one before after old new free freed false =
+  EndsOne one before after old new free freed false =
       (before.started ≡ []) × (after ≡ before) × (new ≡ old) × (freed ≡ free)
 
-  -- a pass was free, or the first started session was finished
+  -- a pass was free, or one of the started sessions was finished
   abbrev pub FreesOne : OneSession (PassState V) L → (before after : SpawnerState L V G)
       → (old new : Doorway L) → (free freed : List (PassState V)) → Type 0
   FreesOne one before after old new free freed =
       ((0 < length free) × (after ≡ before) × (new ≡ old) × (freed ≡ free))
-      ⊎ ((ended : Bool) × (free ≡ []) × EndsFirst one before after old new free freed ended)
+      ⊎ ((ended : Bool) × (free ≡ []) × EndsOne one before after old new free freed ended)
 
   -- the session of a stream was started, or it was served here
   abbrev pub Begins : OneSession (PassState V) L → ℕ → L → PassState V

@@ -8,8 +8,8 @@ use Rattle.ov_serving.specs.declared.session.Session.{Session}
 use Rattle.ov_serving.specs.declared.session.Ended.{Ended}
 use Rattle.ov_serving.specs.Sessions.{EndsAs}
 
--- The sessions that were started and aren't finished, in order; the most that there ever were of
--- these; how many starts were refused, a number that stays at 18,446,744,073,709,551,615; and
+-- The sessions that were started and aren't finished, in the order in which they were started; the
+-- most that there ever were of these; how many starts were refused, a number that stays at 18,446,744,073,709,551,615; and
 -- whether every start is refused.
 pub record SpawnerState (L V G : Type 0) : Type 0 where
   pub started : List (Session L V G)
@@ -34,10 +34,11 @@ module _ {L V G : Type 0} where
   Starts old s (Err back) new =
       (back ≡ s) × (new ≡ record old { refused = min (old.refused + 1) (2 ^ 64 - 1) })
 
-  -- the first of the started sessions ended so, or there was none
+  -- one of the started sessions ended so, and the others stay; or there was none
   abbrev pub Finishes : OneSession (PassState V) L → SpawnerState L V G → Option (Ended L V)
       → SpawnerState L V G → Type 0
   Finishes one old (Some e) new =
-      (s : Session L V G) × (old.started ≡ s ∷ new.started) × EndsAs one s e
-      × (new ≡ record old { started = new.started })
+      (before : List (Session L V G)) × (s : Session L V G) × (after : List (Session L V G))
+      × (old.started ≡ before ++ s ∷ after) × EndsAs one s e
+      × (new ≡ record old { started = before ++ after })
   Finishes one old None new = (old.started ≡ []) × (new ≡ old)

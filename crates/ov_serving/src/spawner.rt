@@ -5,15 +5,17 @@ use crate::slot::Slot;
 use ov_io::Stream;
 use ov_peer::Answerer;
 use std::alloc::Global;
-use std::collections::VecDeque;
 use std::marker::Model;
+use std::sync::Arc;
+use std::thread::Parker;
 
-/// Starts sessions in threads of their own, and finishes them in the order in which they were
-/// started.
+/// Starts sessions in threads of their own, and finishes each once it is over.
 #[derive(Drop)]
 pub struct Spawner<L: Stream, V: Answerer, G> {
     pub(crate) alloc: Global,
-    pub(crate) started: VecDeque<Slot<L, V, G>>,
+    pub(crate) started: Vec<Slot<L, V, G>>,
+    // Where it sleeps until a session is over; there from the first thread on.
+    pub(crate) bell: Option<Arc<Parker, Global>>,
     pub(crate) most: usize,
     pub(crate) refused: u64,
     pub(crate) refuses: bool,
@@ -40,7 +42,8 @@ impl<L: Stream, V: Answerer, G> Spawner<L, V, G> {
     {
         Spawner {
             alloc,
-            started: VecDeque::new(alloc),
+            started: Vec::new(alloc),
+            bell: None,
             most: 0,
             refused: 0,
             refuses: false,
@@ -53,7 +56,8 @@ impl<L: Stream, V: Answerer, G> Spawner<L, V, G> {
     {
         Spawner {
             alloc,
-            started: VecDeque::new(alloc),
+            started: Vec::new(alloc),
+            bell: None,
             most: 0,
             refused: 0,
             refuses: true,
