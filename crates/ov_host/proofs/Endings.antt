@@ -49,7 +49,7 @@ served_ends false served old new status ends = by_line (ended_or (served_line se
 
 module _ {V S G : Type 0} (one : OneSession (PassState V) S) (first last : List (PassState V)) (old new : Doorway S) (idle done : SpawnerState S V G)
     (wanted : ℕ) (before after : Option (List ℕ)) (status : ℕ) where
-  pub serves_ends : Serves one first last old new idle done wanted before after status → Ended status
+  serves_ends : Serves one first last old new idle done wanted before after status → Ended status
   unfolding Ended
   serves_ends (inl fails) = by_line (ended_in door_line 13 before after status fails.ends) where
     by_line : (status ≡ 13) ⊎ (status ≡ 6) → (status ≡ 0) ⊎ ((status ≡ 6) ⊎ ((status ≡ 7) ⊎ (status ≡ 13)))

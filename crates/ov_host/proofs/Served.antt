@@ -26,7 +26,7 @@ module _ {V S G : Type 0} (answerer : AnswererTells V) (source : SourceTells S) 
       → answerer.reached value (made answerer source sink value left workers old new idle done wanted before after status serves) left
   value_reached (inl fails) = fails.same
   value_reached (inr shares) =
-      subst (λ (v : V). answerer.reached v (spellings shares.is_left.0) left) shares.start shares.is_left.1.0
+      subst (λ (v : V). answerer.reached v (spellings shares.is_left.0) left) shares.start shares.is_left.1
 
 module _ {D S G : Type 0} (disk_tells : DiskTells D) (source : SourceTells S) (sink : SinkTells S) where
   -- what is done with a server

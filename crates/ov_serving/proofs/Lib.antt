@@ -3,6 +3,6 @@ mod Placing
 mod Standing
 mod Going
 mod Owning
-mod Accounting
-mod Telling
-mod Together
+pub mod Accounting
+pub mod Telling
+pub mod Together

@@ -9,9 +9,10 @@ use Rattle.ov_peer.specs.Tells.{AnswererTells}
 use Rattle.ov_turn.specs.declared.view.Entry.{Entry}
 use Rattle.ov_turn.specs.Logs.{own}
 use Rattle.ov_serving.specs.Accepted.{accepted_in_sessions}
-use Rattle.ov_serving.specs.Laws.{LogIsAllThatSessionsAccepted}
+use Rattle.ov_serving.specs.Laws.{LogIsAllThatSessionsAccepted, SessionsLeaveValues}
 use Rattle.ov_serving.proofs.Accounting.{log_is_accepted}
 use Rattle.ov_serving.proofs.Owning.{own_both, own_here, own_there}
+use Rattle.ov_serving.proofs.Telling.{first_are_of_it, told_one_history}
 
 -- the list at a pass's first update
 record Cut (k : ℕ) (log : List Entry) (e : Entry) (rest : List Entry) : Type 0 where
@@ -89,3 +90,13 @@ module _ {V S : Type 0} (answerer : AnswererTells V) (source : SourceTells S) (s
         same_updates log (accepted_in_sessions answerer source sink passes sessions after leads)
         (log_is_accepted answerer source sink s passes after sessions log first many leads numbered
         goes)
+
+    pub leave_values : SessionsLeaveValues answerer source sink
+    leave_values s left passes after sessions first many leads (log, reached, numbered, goes) = record {
+      log = log;
+      reached = reached;
+      each = log_is_accepted answerer source sink s passes after sessions log first many leads numbered goes;
+      all = log_is_all s passes after sessions log first many leads numbered goes;
+      told = told_one_history answerer source sink s passes after sessions log
+          (first_are_of_it answerer s passes first) leads goes;
+    }

@@ -5,8 +5,8 @@ use Rattle.ov_io.specs.Tells.{SourceTells, SinkTells}
 use Rattle.ov_peer.specs.Tells.{AnswererTells}
 use Rattle.ov_session.specs.Exchanges.{Exchange}
 use Rattle.ov_turn.specs.declared.view.Entry.{Entry}
-use Rattle.ov_turn.specs.Logs.{GoesOnFrom, IsNumbered, own}
-use Rattle.ov_turn.specs.Passes.{AreFirst, IsPassOf, PassState, SharedState}
+use Rattle.ov_turn.specs.Logs.{GoesOnFrom, IsNumbered, own, spellings}
+use Rattle.ov_turn.specs.Passes.{AreFirst, IsLeft, IsPassOf, PassState, SharedState}
 use Rattle.ov_serving.specs.Accepted.{accepted_in_exchanges, accepted_in_sessions, exchanges_in}
 use Rattle.ov_serving.specs.AtOnce.{IsServed, LeadsPasses, PassSession}
 use Rattle.ov_serving.specs.Sessions.{serves_by_pass}
@@ -71,3 +71,28 @@ module _ {V S : Type 0} (answerer : AnswererTells V) (source : SourceTells S) (s
         → (leads : LeadsPasses (serves_by_pass answerer source sink) passes sessions after)
         → All (λ p. GoesOnFrom answerer s.start p.knowledge log) after
         → SessionsAreTold answerer s.start log source sink passes sessions after leads
+
+    -- Sessions left the value so, from this start. It has accepted one list of updates: all that
+    -- these sessions accepted, each once, and those of each pass in the order in which it asked.
+    -- What the sessions were told is that list's.
+    pub record LeavesValue (start left : V) (passes : List (PassState V))
+        (sessions : List (PassSession (PassState V) S)) (after : List (PassState V))
+        (leads : LeadsPasses (serves_by_pass answerer source sink) passes sessions after)
+        : Type 0 where
+      pub log : List Entry
+      pub reached : answerer.reached start (spellings log) left
+      pub each : (k : ℕ) → own k log
+          ≡ own k (accepted_in_sessions answerer source sink passes sessions after leads)
+      pub all : IsPermutation log
+          (accepted_in_sessions answerer source sink passes sessions after leads)
+      pub told : SessionsAreTold answerer start log source sink passes sessions after leads
+
+    -- a shared value that its first passes give back through sessions was left so
+    abbrev pub SessionsLeaveValues : Type 0
+    SessionsLeaveValues =
+        (s : SharedState V) (left : V) (passes after : List (PassState V))
+        (sessions : List (PassSession (PassState V) S))
+        → AreFirst answerer s passes → length passes ≡ s.passes
+        → (leads : LeadsPasses (serves_by_pass answerer source sink) passes sessions after)
+        → IsLeft answerer s after left
+        → LeavesValue s.start left passes sessions after leads

@@ -1,7 +1,7 @@
 //! Laws of a value that sessions share. Each function does nothing.
 ghost use Rattle.ov_serving.specs.Laws.{FirstPassesAreOfIt, LogIsAllThatSessionsAccepted};
 ghost use Rattle.ov_serving.specs.Laws.{LogIsWhatSessionsAccepted, PassesSeeTheirOwn};
-ghost use Rattle.ov_serving.specs.Laws.{SessionsAreToldOneHistory};
+ghost use Rattle.ov_serving.specs.Laws.{SessionsAreToldOneHistory, SessionsLeaveValues};
 
 use ov_io::Stream;
 use ov_peer::Answerer;
@@ -31,4 +31,9 @@ pub fn the_log_is_all_that_sessions_accepted<V: Answerer, L: Stream>()
 /// All sessions are told of that one list: each reply is the value's after a first part of it.
 pub fn sessions_are_told_one_history<V: Answerer, L: Stream>()
     ensures { SessionsAreToldOneHistory V.tells L.Source.tells L.Sink.tells }
+{}
+
+/// All of this together, of a value that `close` gave back.
+pub fn sessions_leave_values<V: Answerer, L: Stream>()
+    ensures { SessionsLeaveValues V.tells L.Source.tells L.Sink.tells }
 {}
