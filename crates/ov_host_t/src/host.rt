@@ -1,20 +1,13 @@
-//! Each status of a server, over a disk, a door and a sink in memory.
-
-ghost use Rattle.std.specs.Prelude.{◌≡◌, [], false};
-
-use ov_base::{Key, Mode, Octets};
+//! Each status of a server.
+use crate::memory::{Given, HELLO, octets, serve, stream};
+use ov_base::{Mode, Octets};
 use ov_disk::MemDisk;
-use ov_host::{Hosted, host};
-use ov_io::{MemSink, MemSource, MemStream};
-use ov_session::{MemDoor, SessionEnd};
-use ov_settings::Settings;
-use std::alloc::{AllocError, Global};
+use ov_session::OpenGate;
+use std::alloc::Global;
 use std::process::Abort;
 use std::sync::Wait;
 use std::test::Fail;
-
-// A Hello with its length field, and the reply of an empty store of this mode.
-const HELLO: &[u8] = &[0, 0, 0, 1, 1];
+use std::thread::Threads;
 
 /// What a case has, and what comes of it.
 struct Case {
@@ -35,7 +28,7 @@ struct Case {
     out: &'static [u8],
 }
 
-// Two sessions over a disk where no store was begun.
+/// Two sessions over a disk where no store was begun.
 const USUAL: Case = Case {
     before: None,
     book: b"",
@@ -124,109 +117,82 @@ static CASES: [Case; 12] = [
     },
 ];
 
-// The table, of which no proof computes anything.
+/// The table, of which no proof computes anything.
 fn cases() -> &'static [Case] {
     &CASES
 }
 
-// The settings of a server in this mode that serves this many sessions.
-fn settings(alloc: Global, mode: Mode, sessions: u32) -> Result<Settings, AllocError> {
-    Ok(Settings {
-        address: Octets::new(alloc),
+/// What a server is given for a case, on this disk.
+fn given(rt: &impl Abort, alloc: Global, case: &Case, disk: MemDisk) -> Given {
+    let mut streams = Vec::new(alloc);
+    for _ in 0..case.streams {
+        streams.push(stream(rt, alloc, HELLO)).expect(rt, "memory");
+    }
+    Given {
+        mode: Mode::Full,
+        sessions: case.sessions,
+        disk,
+        streams,
+        door_fails: octets(rt, alloc, case.door_fails),
+        out_fails: octets(rt, alloc, case.out_fails),
+    }
+}
+
+/// A disk on which an earlier server began a store in this mode.
+fn begun_disk<R: Threads + Wait + Copy + Send + 'static>(
+    rt: &R,
+    alloc: Global,
+    mode: Mode,
+    has_threads: bool,
+) -> MemDisk {
+    let given = Given {
         mode,
-        surface: Key { bytes: [7; 32] },
-        base_check: [17; 32],
-        book: Octets::new(alloc),
-        blobs: Octets::new(alloc),
-        sessions,
-        workers: 1,
-    })
+        sessions: 1,
+        disk: MemDisk::new(alloc),
+        streams: Vec::new(alloc),
+        door_fails: Octets::new(alloc),
+        out_fails: Octets::new(alloc),
+    };
+    serve(rt, alloc, given, OpenGate, has_threads).hosted.disk
 }
 
-fn octets(rt: &impl Abort, alloc: Global, bytes: &[u8]) -> Octets {
-    Octets::copy(alloc, bytes).expect(rt, "memory")
-}
-
-// A stream with one request.
-fn stream(rt: &impl Abort, alloc: Global) -> MemStream {
-    let source = MemSource::new(octets(rt, alloc, HELLO), 3, Octets::new(alloc));
-    let sink = MemSink::new(alloc, Octets::new(alloc));
-    MemStream { source, sink }
-}
-
-// A door with this many streams.
-fn door(rt: &impl Abort, alloc: Global, streams: u32, fails: &[u8]) -> MemDoor
-    ensures given { result.gave ≡ [] }
-    ensures faults { result.faults ≡ 0 }
-    ensures open { result.closed ≡ false }
-{
-    let mut waiting = Vec::new(alloc);
-    for _ in 0..streams {
-        waiting.push(stream(rt, alloc)).expect(rt, "memory");
-    }
-    MemDoor::new(alloc, waiting, octets(rt, alloc, fails))
-}
-
-// The disk of a case, on which an earlier server may have begun a store.
-fn disk<R: Abort + Wait>(rt: &R, alloc: Global, case: &Case) -> MemDisk {
-    let mut disk = MemDisk::of(alloc, octets(rt, alloc, case.book), Octets::new(alloc));
-    match case.before {
-        Some(mode) => {
-            let mut out = MemSink::new(alloc, Octets::new(alloc));
-            let mut door = door(rt, alloc, 0, b"");
-            let settings = settings(alloc, mode, 1).expect(rt, "memory");
-            let _ = host(rt, alloc, &settings, &mut disk, &mut door, &mut out);
-        }
-        None => {}
-    }
-    match case.disk_fails {
-        Some(call) => disk.fail_at(call).expect(rt, "memory"),
-        None => {}
+/// The disk of a case.
+fn disk<R: Abort + Threads + Wait + Copy + Send + 'static>(
+    rt: &R,
+    alloc: Global,
+    case: &Case,
+    has_threads: bool,
+) -> MemDisk {
+    let mut disk = match case.before {
+        Some(mode) => begun_disk(rt, alloc, mode, has_threads),
+        None => MemDisk::of(alloc, octets(rt, alloc, case.book), Octets::new(alloc)),
+    };
+    if let Some(call) = case.disk_fails {
+        disk.fail_at(call).expect(rt, "memory");
     }
     disk
 }
 
-// Serves as the case wants it, and asserts what comes of it.
-fn assert_case<R: Abort + Wait>(rt: &R, alloc: Global, case: &Case) {
-    let disk = disk(rt, alloc, case);
-    let mut door = door(rt, alloc, case.streams, case.door_fails);
-    let mut out = MemSink::new(alloc, octets(rt, alloc, case.out_fails));
-    let settings = settings(alloc, Mode::Full, case.sessions).expect(rt, "memory");
-    let hosted: Hosted<MemDisk> = host(rt, alloc, &settings, disk, &mut door, &mut out);
-    assert_eq!(rt; out.written(), case.out);
-    assert_eq!(rt; hosted.status, case.status);
-    assert_eq!(rt; !hosted.begun, case.back);
+/// Serves as the case wants it, and asserts what comes of it.
+fn assert_case<R: Abort + Threads + Wait + Copy + Send + 'static>(
+    rt: &R,
+    alloc: Global,
+    case: &Case,
+    has_threads: bool,
+) {
+    let disk = disk(rt, alloc, case, has_threads);
+    let given = given(rt, alloc, case, disk);
+    let left = serve(rt, alloc, given, OpenGate, has_threads);
+    assert_eq!(rt; left.out.written(), case.out);
+    assert_eq!(rt; left.hosted.status, case.status);
+    assert_eq!(rt; !left.hosted.begun, case.back);
 }
 
 #[test]
 fn each_status_of_a_server(rt: HostRuntime) -> Result<(), Fail> {
     for case in cases() {
-        assert_case(&rt, rt.alloc(), case);
-    }
-    Ok(())
-}
-
-#[test]
-fn each_stream_is_answered(rt: HostRuntime) -> Result<(), Fail> {
-    let mut door = door(&rt, rt.alloc(), 2, b"");
-    let mut out = MemSink::new(rt.alloc(), Octets::new(rt.alloc()));
-    let settings = settings(rt.alloc(), Mode::Full, 2)?;
-    let _ = host(
-        &rt,
-        rt.alloc(),
-        &settings,
-        MemDisk::new(rt.alloc()),
-        &mut door,
-        &mut out,
-    );
-    for number in 0..2 {
-        match door.back(number) {
-            Some(back) => {
-                assert_eq!(rt; back.ending, SessionEnd::End);
-                assert_eq!(rt; back.stream.sink.written().len(), 42);
-            }
-            None => return Err(Fail::from("not taken back")),
-        }
+        assert_case(&rt, rt.alloc(), case, true);
+        assert_case(&rt, rt.alloc(), case, false);
     }
     Ok(())
 }
