@@ -1,4 +1,4 @@
-"""What several tools have in common: folders, the example keys, keyed hashes, frames and byte strings."""
+"""What several tools have in common: folders, the example keys, keyed hashes, frames, byte strings and servers."""
 import atexit
 import functools
 import hashlib
@@ -6,6 +6,7 @@ import hmac
 import os
 import pathlib
 import struct
+import subprocess
 import tempfile
 import time
 
@@ -39,6 +40,27 @@ def framed(frame):
 def literal(data):
     """The bytes as a byte string of Rattle."""
     return 'b"' + "".join(f"\\x{byte:02x}" for byte in data) + '"'
+
+
+def compiled(name, folder):
+    """Compiles a program of this folder that is plain Rust into another."""
+    words = ["rustc", "--edition", "2021", "-O", ROOT / "tools" / (name + ".rs"), "-o", folder / name]
+    subprocess.run(words, check=True)
+
+
+def started(folder, *words):
+    """A server in this folder that listens, and where."""
+    with open(folder / "told", "wb") as told:
+        process = subprocess.Popen(words, cwd=folder, stdout=subprocess.PIPE, stderr=told)
+    line = process.stdout.readline().decode().split()
+    assert line[:1] == ["listening"], (folder / "told").read_text()
+    return process, line[1]
+
+
+def processor(process):
+    """Processor seconds of a process that runs, in all of its threads, and of those that ended."""
+    # The system's number for the clock of another process.
+    return time.clock_gettime(~process.pid << 3 | 2)
 
 
 def timed(words, folder, script):

@@ -16,12 +16,11 @@ import subprocess
 import sys
 import time
 
-from common import KEYS, framed, new_folder
+from common import KEYS, compiled, framed, new_folder, processor, started
 # It takes the two programs from the same words.
 from network_cases import CLIENT, HELLO, SERVER, ask, settings
 from network_frames import ASK, LIST, MIB, Owner, begun, creations, reads, turns, u32
 
-TOOLS = pathlib.Path(__file__).resolve().parent
 DISK, FREE = pathlib.Path(sys.argv[3] if len(sys.argv) > 3 else ".").resolve(), "/dev/shm"
 RUNS, ASKS, UPDATES, FILES = 3, 20_000, 2_000, 32
 PREFIX = "network_times_"
@@ -29,18 +28,9 @@ PREFIX = "network_times_"
 GOOD = {0x81, 0x82, 0x83, 0x84, 0x85, 0x86, 0x8F}
 
 
-def start(folder, *words):
-    """A server of this folder that listens, and where."""
-    with open(folder / "told", "wb") as told:
-        process = subprocess.Popen(words, cwd=folder, stdout=subprocess.PIPE, stderr=told)
-    line = process.stdout.readline().decode().split()
-    assert line[:1] == ["listening"], (folder / "told").read_text()
-    return process, line[1]
-
-
 def start_real(folder, sessions=1_000_000):
     (folder / "settings.toml").write_text(settings(sessions, mode="full"))
-    return start(folder, SERVER, "settings.toml")
+    return started(folder, SERVER, "settings.toml")
 
 
 def stop(folder, process):
@@ -61,11 +51,6 @@ def session(address, frames):
     return float(done.stdout)
 
 
-def processor(process):
-    """Processor seconds of a process that runs."""
-    return int(pathlib.Path("/proc/%d/schedstat" % process.pid).read_text().split()[0]) / 1e9
-
-
 def processor_at_end(process):
     _, process.returncode, used = os.wait4(process.pid, 0)
     assert process.returncode == 0, process.returncode
@@ -81,7 +66,7 @@ def run(place):
     figures = [session(address, "frames"), processor_at_end(process) - before]
     (OUT / "replies").rename(OUT / "sizes")
     for way in ([], ["two"]):
-        process, address = start(folder, OUT / "plain_echo", OUT / "sizes", "book", *way)
+        process, address = started(folder, OUT / "plain_echo", OUT / "sizes", "book", *way)
         figures += [session(address, "frames"), processor_at_end(process)]
     shutil.rmtree(folder)
     return figures
@@ -161,8 +146,7 @@ if __name__ == "__main__":
     os.umask(0o077)
     OUT = new_folder(FREE, PREFIX)
     for plain in ("plain_session", "plain_echo"):
-        source = TOOLS / (plain + ".rs")
-        subprocess.run(["rustc", "--edition", "2021", "-O", source, "-o", OUT / plain], check=True)
+        compiled(plain, OUT)
     rows()
     commands(DISK)
     commands(FREE)
