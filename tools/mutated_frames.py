@@ -136,7 +136,7 @@ class Pair:
     """A server that listens, and the reference with the same keys and an empty store."""
 
     def __init__(self, arguments, number, sessions):
-        stage, client, self.scripts = trials.reference(arguments, "wire_client", "scripts")
+        stage, client, self.wire, self.layers = trials.reference(arguments, "wire_client", "wire", "layers")
         self.chance = trials.chance_of(arguments, "server", number)
         mode = self.chance.choice(MODES)
         base, surface = (bytes.fromhex(line) for line in KEYS.read_text().split())
@@ -144,17 +144,20 @@ class Pair:
         self.requests = client.Requests(self.chance, self.local)
         with trials.place_of(arguments) as self.folder:
             self.server = network.Server(self.folder, sessions, mode=mode)
-            self.others, self.cases, self.wrong, self.number = [b"\1"], 0, [], number
+            self.others, self.sent, self.cases, self.wrong, self.number = [b"\1"], [], 0, [], number
             try:
                 self.play(sessions)
             finally:
                 self.server.kill()
+        if self.wrong and arguments.keep:
+            arguments.keep.mkdir(parents=True, exist_ok=True)
+            (arguments.keep / f"server{number}.frames").write_bytes(b"".join(map(framed, self.sent)))
 
     def play(self, sessions):
-        for turn in range(sessions - 1):
+        for _ in range(sessions - 1):
             with self.server.connect() as stream:
                 stream.setsockopt(socket.IPPROTO_TCP, socket.TCP_NODELAY, 1)
-                self.session(stream, turn)
+                self.session(stream)
             if self.wrong:
                 return
         with self.server.connect() as stream:
@@ -171,13 +174,23 @@ class Pair:
         if how < 0.08:
             return random_frame(self.chance)
         if how < 0.45:
-            frame = self.requests.good()
+            frame = self.requests.good() if self.chance.random() < 0.9 else self.reading()
             self.others = self.others[-60:] + [frame]
         else:
             frame = self.chance.choice(self.others)
         return frame if how < 0.25 else changed(self.chance, frame, self.others)
 
-    def session(self, stream, turn):
+    def reading(self):
+        """The first request of a user who is on a list."""
+        at = self.local.store.cat
+        living = [(name, at.list_of(file)) for name, file in at.living.items()]
+        listed = [(name, users) for name, users in living if users]
+        if not listed:
+            return self.wire.hello()
+        name, users = self.chance.choice(listed)
+        return self.wire.chain_request(at.users[self.chance.choice(self.layers.members(users))], name)
+
+    def session(self, stream):
         left = PER_SESSION
         while left > 0 and not self.wrong:
             frames, size = [], 0
@@ -193,6 +206,7 @@ class Pair:
         self.ending(stream)
 
     def exchange(self, stream, frames):
+        self.sent += [frame for frame, _ in frames]
         try:
             stream.sendall(b"".join(framed(frame) for frame, _ in frames))
             for frame, wanted in frames:
