@@ -17,12 +17,14 @@ writes, syncs or cuts `store.book` or `store.blobs` fails:
 |---|---|
 | the status | 4; also 0 where the call was short, since the rest is asked for then, and where it was a look |
 | the lines | a front of the right ones, whole replies, and `error disk`; all of them at status 0 |
-| what the store is, opened again | that of the updates that were answered, or of one more: all files, as all users read them |
+| what is read behind it, every list and file | the updates that were answered, or one more |
 
-A look is a read of a file that is open for reading alone: the program looks whether a store was begun, to say of a new
-one on standard error. What is right is said by the machine of `tools/plain_machine.py`. It needs a C compiler (`cc`, `gcc`, `clang`, or the
-kit's). A program that the library doesn't see, since it is linked with no library, is tried under limits on the size of
-files instead: at each size a write fails from there on, as on a full disk, and no read and no sync fails.
+A look is a read of a file that is open for reading alone: the program looks whether a store was begun, to say of a
+new one on standard error.
+
+What is right is said by the machine of `tools/plain_machine.py`. It needs a C compiler (`cc`, `gcc`, `clang`, or the
+kit's). A program that the library doesn't see, since it is linked with no library, is tried under limits on the size
+of files instead: at each size a write fails from there on, as on a full disk, and no read and no sync fails.
 """
 import errno
 import os
@@ -42,6 +44,7 @@ COMMANDS, BEFORE = 60, 30
 LIBRARY = pathlib.Path(__file__).resolve().with_suffix(".c")
 COMPILERS = ("cc", "gcc", "clang", "/opt/rattle/toolchain/bin/clang")
 SECONDS = 60
+KINDS = {"r": "reads", "w": "writes", "s": "syncs", "t": "cuts", "l": "looks"}
 # By name: the error, 0 for a call that is short, and whether all calls behind it fail too.
 FAULTS = {
     "EIO": (errno.EIO, False),
@@ -239,7 +242,7 @@ def main():
             if not calls:
                 print("the library sees no call, so the program has its own: limits on the size of files are tried")
                 tries.all_limits()
-            kinds = ", ".join(f"{calls.count(kind)} {word}" for kind, word in zip("rwstl", ("reads", "writes", "syncs", "cuts", "looks")))
+            kinds = ", ".join(f"{calls.count(kind)} {word}" for kind, word in KINDS.items())
             ended = ", ".join(f"{count} with status {status}" for status, count in sorted(tries.ended.items()))
             print(f"{mode}, from command {first + 1} on: {kinds}; runs ended: {ended}", flush=True)
             cases, wrong = cases + tries.cases, wrong + tries.wrong

@@ -44,7 +44,7 @@ def parsed():
     trials.with_reference(parser, required=True)
     trials.with_jobs(parser)
     parser.add_argument("--count", type=trials.whole, default=20_000, metavar="N", help="how many frames (20000)")
-    parser.add_argument("--only", type=int, metavar="SERVER", help="tries the frames of the server of this number alone")
+    parser.add_argument("--only", type=int, metavar="NUMBER", help="tries the frames of this server alone")
     return parser.parse_args()
 
 
@@ -212,7 +212,8 @@ class Pair:
             for frame, wanted in frames:
                 self.is_right("a frame", frame, network.reply(stream), wanted)
         except (AssertionError, OSError) as error:
-            self.wrong.append(f"server {self.number}: {error!r} behind one of {[frame[:99].hex() for frame, _ in frames]}")
+            sent = " ".join(frame[:99].hex() for frame, _ in frames)
+            self.wrong.append(f"server {self.number}: {error!r} behind one of {sent}")
 
     def ending(self, stream):
         """The stream ends, mostly behind a length field that isn't one or isn't kept."""

@@ -27,9 +27,7 @@ one to three places, and opened.
 The script of a case is empty, or reads and lists every file, or does so and makes two more updates.
 """
 import os
-import pathlib
 import subprocess
-import sys
 
 import trials
 from common import KEYS
@@ -112,7 +110,8 @@ def a_record(chance, book):
 
 def near(chance, value, most):
     """Another number in its place: near it, or at an end of what there is."""
-    return chance.choice([value + 1, value - 1, value ^ 1, value + 32, 0, 1, most, chance.randrange(most + 1)]) % (most + 1)
+    others = [value + 1, value - 1, value ^ 1, value + 32, 0, 1, most, chance.randrange(most + 1)]
+    return chance.choice(others) % (most + 1)
 
 
 def a_field(chance, book, blobs, other):
@@ -245,7 +244,12 @@ def answered(program, folder, mode, script, book, blobs):
     for name, data in zip(FILES, (book, blobs, b"")):
         (folder / name).write_bytes(data)
     done = subprocess.run(
-        [program, "run", MODES[mode]], cwd=folder, input=script, stdout=subprocess.PIPE, stderr=subprocess.DEVNULL, timeout=SECONDS
+        [program, "run", MODES[mode]],
+        cwd=folder,
+        input=script,
+        stdout=subprocess.PIPE,
+        stderr=subprocess.DEVNULL,
+        timeout=SECONDS,
     )
     return b"%d\n%s" % (done.returncode, done.stdout), *((folder / name).read_bytes() for name in FILES)
 
@@ -283,8 +287,9 @@ def difference(arguments, folder, store, number, case):
     if arguments.keep:
         kept = arguments.keep / f"case{number}"
         kept.mkdir(parents=True, exist_ok=True)
-        for name, data in [("script", script), ("store.book", book), ("store.blobs", blobs), ("keys.hex", KEYS.read_bytes())]:
+        for name, data in zip(("script", "store.book", "store.blobs"), (script, book, blobs)):
             (kept / name).write_bytes(data)
+        (kept / "keys.hex").write_bytes(KEYS.read_bytes())
         for name, data in zip(("lines", *FILES), zip(got, wanted)):
             (kept / f"program.{name}").write_bytes(data[0])
             (kept / f"reference.{name}").write_bytes(data[1])
@@ -304,7 +309,9 @@ class Work:
         (folder / "keys.hex").chmod(0o600)
         store, other = (Store(self.arguments, it) for it in (number, number + 1))
         first, count = number * PER_STORE, self.arguments.count
-        cases = [self.arguments.only] if self.arguments.only is not None else range(first, min(first + PER_STORE, count))
+        cases = range(first, min(first + PER_STORE, count))
+        if self.arguments.only is not None:
+            cases = [self.arguments.only]
         found = [
             difference(self.arguments, folder, store, it, case_of(self.arguments, store, other, it)) for it in cases
         ]

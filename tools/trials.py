@@ -46,7 +46,11 @@ def whole(word):
 def with_reference(parser, **more):
     """The options of a tool that compares with the independent reference."""
     parser.add_argument(
-        "--oracle", type=pathlib.Path, metavar="FOLDER", help="has the package `oracle`, the independent reference", **more
+        "--oracle",
+        type=pathlib.Path,
+        metavar="FOLDER",
+        help="has the package `oracle`, the independent reference",
+        **more,
     )
     parser.add_argument("--stage", type=int, default=15, help="which of its stages the program is at (15)")
 
