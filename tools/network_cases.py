@@ -24,7 +24,8 @@ from common import KEYS, framed, keyed, new_folder
 
 WORDS = [word for word in sys.argv[1:] if word != "--slow"]
 SLOW = "--slow" in sys.argv
-SERVER = str(pathlib.Path(WORDS[0]).resolve())
+# A tool that imports this file and reads its own words says which server it is.
+SERVER = str(pathlib.Path(WORDS[0]).resolve()) if WORDS else None
 CLIENT = str(pathlib.Path(WORDS[1]).resolve()) if len(WORDS) > 1 else None
 BASE_MASTER, SURFACE = (bytes.fromhex(line) for line in KEYS.read_text().split())
 SECONDS = 60
