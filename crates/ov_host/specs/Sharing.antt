@@ -17,34 +17,34 @@ use Rattle.ov_report.specs.Faults.{memory_line}
 use Rattle.ov_host.specs.Serving.{Serves}
 
 module _ {V S G : Type 0} (answerer : AnswererTells V) (source : SourceTells S) (sink : SinkTells S)
-    where
-  -- the updates that the sessions accepted, in the order of the sessions
-  abbrev pub accepted : (first last : List (PassState V)) (old new : Doorway S)
-      (idle done : SpawnerState S V G) (wanted : ℕ) (before after : Option (List ℕ)) (status : ℕ)
-      → Serves (serves_by_pass answerer source sink) first last old new idle done wanted before
-      after status → List Entry
-  accepted first last old new idle done wanted before after status (inl fails) = []
-  accepted first last old new idle done wanted before after status
-      (inr (address, here, inl fails)) = []
-  accepted first last old new idle done wanted before after status
-      (inr (address, here, inr tells)) =
-      accepted_in_sessions answerer source sink first tells.serves.sessions.sessions last
-      tells.serves.sessions.passes
+  where
+    -- the updates that the sessions accepted, in the order of the sessions
+    abbrev pub accepted : (first last : List (PassState V)) (old new : Doorway S)
+        (idle done : SpawnerState S V G) (wanted : ℕ) (before after : Option (List ℕ)) (status : ℕ)
+        → Serves (serves_by_pass answerer source sink) first last old new idle done wanted before
+        after status → List Entry
+    accepted first last old new idle done wanted before after status (inl fails) = []
+    accepted first last old new idle done wanted before after status
+        (inr (address, here, inl fails)) = []
+    accepted first last old new idle done wanted before after status
+        (inr (address, here, inr tells)) =
+        accepted_in_sessions answerer source sink first tells.serves.sessions.sessions last
+        tells.serves.sessions.passes
 
-  -- each reply in the sessions is the value's after a first part of this list, which goes on by the
-  -- request's own update where the reply accepts it
-  abbrev pub AreToldOf : V → List Entry → (first last : List (PassState V)) (old new : Doorway S)
-      (idle done : SpawnerState S V G) (wanted : ℕ) (before after : Option (List ℕ)) (status : ℕ)
-      → Serves (serves_by_pass answerer source sink) first last old new idle done wanted before
-      after status → Type 0
-  AreToldOf value log first last old new idle done wanted before after status (inl fails) =
-      Unit {0}
-  AreToldOf value log first last old new idle done wanted before after status
-      (inr (address, here, inl fails)) = Unit {0}
-  AreToldOf value log first last old new idle done wanted before after status
-      (inr (address, here, inr tells)) =
-      SessionsAreTold answerer value log source sink first tells.serves.sessions.sessions last
-      tells.serves.sessions.passes
+    -- each reply in the sessions is the value's after a first part of this list, which goes on by the
+    -- request's own update where the reply accepts it
+    abbrev pub AreToldOf : V → List Entry → (first last : List (PassState V)) (old new : Doorway S)
+        (idle done : SpawnerState S V G) (wanted : ℕ) (before after : Option (List ℕ)) (status : ℕ)
+        → Serves (serves_by_pass answerer source sink) first last old new idle done wanted before
+        after status → Type 0
+    AreToldOf value log first last old new idle done wanted before after status (inl fails) =
+        Unit {0}
+    AreToldOf value log first last old new idle done wanted before after status
+        (inr (address, here, inl fails)) = Unit {0}
+    AreToldOf value log first last old new idle done wanted before after status
+        (inr (address, here, inr tells)) =
+        SessionsAreTold answerer value log source sink first tells.serves.sessions.sessions last
+        tells.serves.sessions.passes
 
 module _ {V S G : Type 0} (answerer : AnswererTells V) (source : SourceTells S) (sink : SinkTells S)
     (value left : V) (workers : ℕ) (old new : Doorway S) (idle done : SpawnerState S V G)
