@@ -425,27 +425,67 @@ def memory_that_is_refused():
 
 def no_descriptor_is_free():
     """A connection for which the server has no descriptor waits, and is answered once there is one."""
-    server = Server(new_folder(), 1)
+    server = Server(new_folder(), 3)
     pid = server.process.pid
+    with server.connect() as stream:
+        assert ask(stream, HELLO) == welcome(0)
+    time.sleep(0.5)
+    # The server waits for a connection, for which the system keeps one descriptor already.
     most = 1 + max(int(entry) for entry in os.listdir(f"/proc/{pid}/fd"))
     _, hard = resource.prlimit(pid, resource.RLIMIT_NOFILE)
     resource.prlimit(pid, resource.RLIMIT_NOFILE, (most, hard))
-    with server.connect() as stream:
-        stream.sendall(framed(HELLO))
-        time.sleep(1.5)
-        resource.prlimit(pid, resource.RLIMIT_NOFILE, (hard, hard))
-        assert reply(stream) == welcome(0)
-    told = server.end(1)
+    with server.connect() as first:
+        assert ask(first, HELLO) == welcome(0)
+        with server.connect() as stream:
+            stream.sendall(framed(HELLO))
+            time.sleep(1.5)
+            resource.prlimit(pid, resource.RLIMIT_NOFILE, (hard, hard))
+            assert reply(stream) == welcome(0)
+    told = server.end(3)
     assert told and all(line.startswith("overstored: warning: can't accept, trying again") for line in told), told
 
 
-def a_silent_client():
-    """A client that says nothing for five minutes is cut off, and then the next one is answered."""
+def silent_clients_hold_workers():
+    """Clients that say nothing hold a worker each: a further one is answered while a worker is left, and else waits
+    until one of them leaves."""
+    server = Server(new_folder(), 12, workers=3)
+    with server.connect(), server.connect() as second:
+        for _ in range(8):
+            with server.connect() as stream:
+                assert ask(stream, HELLO) == welcome(0)
+        with server.connect(), server.connect() as stream:
+            stream.sendall(framed(HELLO))
+            stream.settimeout(1)
+            try:
+                raise AssertionError(("answered while all workers were held", stream.recv(1)))
+            except TimeoutError:
+                pass
+            stream.settimeout(SECONDS)
+            second.close()
+            assert reply(stream) == welcome(0)
+    assert server.end(12) == []
+
+
+def sessions_take_turns():
+    """Sessions that are open at once are answered in turn, and see each other's updates."""
     server = Server(new_folder(), 2)
+    with server.connect() as one, server.connect() as two:
+        for epoch in range(20):
+            asker, other = (one, two) if epoch % 2 else (two, one)
+            assert ask(asker, enrolment(epoch, b"u%d" % epoch)) == b"\x84" + struct.pack(">I", epoch + 1)
+            assert ask(other, enrolment(epoch, b"v")) == b"\x89" + struct.pack(">I", epoch + 1)
+            assert ask(other, HELLO) == welcome(epoch + 1)
+    assert server.end(2) == []
+
+
+def a_silent_client():
+    """A client that says nothing for five minutes is cut off, and then the next one is answered. The system counts
+    long times roughly, and may add a ninth."""
+    server = Server(new_folder(), 2, workers=1)
     began = time.monotonic()
     with server.connect(), socket.create_connection(("127.0.0.1", server.port), timeout=400) as stream:
         assert ask(stream, HELLO) == welcome(0)
-        assert 299 < time.monotonic() - began < 310
+        assert 299 < time.monotonic() - began < 335
     told = server.end(2)
     assert len(told) == 1 and "session 0 with" in told[0], told
 
@@ -526,6 +566,8 @@ CASES = [
     keys_that_are_passed_over,
     memory_that_is_refused,
     no_descriptor_is_free,
+    silent_clients_hold_workers,
+    sessions_take_turns,
 ]
 
 if __name__ == "__main__":
