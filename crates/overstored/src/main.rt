@@ -12,6 +12,8 @@
 //! | `texts` | all texts |
 #![tactic(auto)]
 
+ghost use Rattle.std.specs.Prelude.{◌≤◌};
+
 mod disk;
 mod door;
 mod heads;
@@ -27,14 +29,17 @@ use ov_disk::FileDisk;
 use ov_files::{FileFault, begins, fault_of, held_places, words_of};
 use ov_host::host;
 use ov_io::{FileSource, StdSink};
-use ov_session::TcpDoor;
+use ov_serving::Spawner;
+use ov_session::{OpenGate, TcpDoor};
 use ov_settings::{Settings, read_settings};
-use std::cell::Cell;
+use std::alloc::Global;
 use std::io::ErrorKind;
 use std::net::Net;
 use std::process::ExitCode;
 use std::str;
-use std::sync::Wait;
+use std::sync::atomic::AtomicBool;
+use std::sync::{Arc, Wait};
+use std::thread::Threads;
 use texts::{HELP, NO_MEMORY, NO_SETTINGS, VERSION};
 
 // The exit statuses that `main` itself gives.
@@ -99,48 +104,96 @@ fn begun_by(
     }))
 }
 
-// Serves by these settings. The net is the runtime with the leave to open sockets and to wait,
-// which it has in `main` alone.
-fn serve<N: Net + Wait + AllocGlobal + Copy + Drop>(
+// The disk over these files, which knows by the flag whether the server listens.
+fn disk_over(
+    rt: &HostRuntime,
+    book: &str,
+    blobs: &str,
+    listens: Arc<AtomicBool, Global>,
+) -> Result<SpokenDisk<FileDisk<HostRuntime>, HostRuntime>, Memory> {
+    let disk = FileDisk::new(*rt, book, blobs)?;
+    let name = String::from_str(rt.alloc(), book)?;
+    Ok(SpokenDisk::new(disk, name, *rt, listens))
+}
+
+// A flag that isn't set yet, twice.
+fn flags(alloc: Global) -> Result<(Arc<AtomicBool, Global>, Arc<AtomicBool, Global>), Memory> {
+    let Ok(one) = Arc::new(alloc, AtomicBool::new(false)) else {
+        return Err(Memory);
+    };
+    match Arc::try_clone(&one) {
+        Ok(two) => Ok((one, two)),
+        Err(_) => Err(Memory),
+    }
+}
+
+// Serves by these settings, or has no memory to begin. The net is the runtime with the leave to open
+// sockets, to start threads and to wait, which it has in `main` alone.
+fn try_serve<N: Net + Threads + Wait + AllocGlobal + Copy + Send + Drop + 'static>(
     net: &N,
     rt: &HostRuntime,
     settings: &Settings,
     logs: bool,
-) -> u8 {
+) -> Result<u8, Memory>
+where
+    N::Stream: Send + 'static,
+    requires { (1 ≤ settings.now.workers) × (settings.now.workers ≤ 65536) }
+{
     let book = text_of(settings.book.as_slice());
     let blobs = text_of(settings.blobs.as_slice());
     let address = text_of(settings.address.as_slice());
-    let Ok(disk) = FileDisk::new(*rt, book, blobs) else {
-        return print(rt, NO_MEMORY, out_of_memory(rt));
-    };
-    let Ok(name) = String::from_str(rt.alloc(), book) else {
-        return print(rt, NO_MEMORY, out_of_memory(rt));
-    };
-    let Ok(door) = TcpDoor::new(*net, address) else {
-        return print(rt, NO_MEMORY, out_of_memory(rt));
-    };
-    let listens = Cell::new(false);
-    let disk = SpokenDisk::new(disk, name, *rt, &listens);
-    let Ok(begun) = begun_by(rt, settings, book, blobs) else {
-        return print(rt, NO_MEMORY, out_of_memory(rt));
-    };
-    let mut door = SpokenDoor::new(door, *rt, &listens, logs, begun);
+    let (listens, known) = flags(rt.alloc())?;
+    let disk = disk_over(rt, book, blobs, known)?;
+    let door = TcpDoor::new(*net, address)?;
+    let begun = begun_by(rt, settings, book, blobs)?;
+    let mut door = SpokenDoor::new(door, *rt, listens, logs, begun);
+    let mut spawner = Spawner::new(rt.alloc());
     let mut out = StdSink::new(rt.stdout());
-    let status = host(net, rt.alloc(), settings, disk, &mut door, &mut out).status;
+    let status = host(
+        net,
+        rt.alloc(),
+        settings,
+        disk,
+        &mut door,
+        &mut spawner,
+        OpenGate,
+        &mut out,
+    )
+    .status;
     told::end(rt, status, book, blobs);
-    told::door(rt, status, address, listens.get(), door.door.reason());
-    status
+    told::door(rt, status, address, door.has_listened(), door.door.reason());
+    Ok(status)
+}
+
+// Serves by these settings.
+fn serve<N: Net + Threads + Wait + AllocGlobal + Copy + Send + Drop + 'static>(
+    net: &N,
+    rt: &HostRuntime,
+    settings: &Settings,
+    logs: bool,
+) -> u8
+where
+    N::Stream: Send + 'static,
+    requires { (1 ≤ settings.now.workers) × (settings.now.workers ≤ 65536) }
+{
+    match try_serve(net, rt, settings, logs) {
+        Ok(status) => status,
+        Err(Memory) => print(rt, NO_MEMORY, out_of_memory(rt)),
+    }
 }
 
 // Reads the settings in this file, which the words name where they are one word, and serves by
 // them.
-fn serve_by<N: Net + Wait + AllocGlobal + Copy + Drop>(
+fn serve_by<N: Net + Threads + Wait + AllocGlobal + Copy + Send + Drop + 'static>(
     net: &N,
     rt: &HostRuntime,
     words: &[String],
     path: &str,
     logs: bool,
-) -> u8 {
+) -> u8
+where
+    N::Stream: Send + 'static,
+{
     let Ok(mut source) = FileSource::new(*rt, path) else {
         return out_of_memory(rt);
     };
@@ -162,11 +215,14 @@ fn serve_by<N: Net + Wait + AllocGlobal + Copy + Drop>(
 }
 
 // Does what the words ask for.
-fn answer_words<N: Net + Wait + AllocGlobal + Copy + Drop>(
+fn answer_words<N: Net + Threads + Wait + AllocGlobal + Copy + Send + Drop + 'static>(
     net: &N,
     rt: &HostRuntime,
     words: &[String],
-) -> u8 {
+) -> u8
+where
+    N::Stream: Send + 'static,
+{
     match words {
         [word] if word.as_str() == LOG => serve_by(net, rt, &[], "", true),
         [word] => match told_by(word.as_str()) {

@@ -9,7 +9,7 @@ pub const HELP: &str = "\
 Usage: overstored [--log] SETTINGS
        overstored --help | -h | --version | -V
 
-Serves an over-encryption store over TCP, one session after the other, by the
+Serves an over-encryption store over TCP, some sessions at once, by the
 settings in a TOML file, which nobody but the server may read:
 
   address = \"127.0.0.1:7400\"  HOST:PORT where it listens; port 0 is any free one
@@ -21,6 +21,7 @@ settings in a TOML file, which nobody but the server may read:
   book = \"/var/lib/overstored/store.book\"    the store's files, which the first
   blobs = \"/var/lib/overstored/store.blobs\"  start makes
   sessions = 1000000          how many are served before it ends, 1 to 1000000
+  workers = 4                 how many run at once, 1 to 64; 4 where it is left out
 
 It puts `listening ADDRESS`, and `served N` at its end. SIGTERM ends it safely.
 With --log standard error has a line for each update that was accepted and for
@@ -63,6 +64,7 @@ pub fn error_in(fault: SettingsFault) -> &'static str {
         SettingsFault::Book => "`book` is missing or no text",
         SettingsFault::Blobs => "`blobs` is missing or no text",
         SettingsFault::Sessions => "`sessions` is missing or no number from 1 to 1000000",
+        SettingsFault::Workers => "`workers` is no number from 1 to 64",
     }
 }
 
@@ -71,7 +73,7 @@ pub fn hint_on(fault: SettingsFault) -> &'static str {
     match fault {
         SettingsFault::Read => "see that it is a file that you may read",
         SettingsFault::Memory => NO_ROOM.1,
-        SettingsFault::TooLong => "seven keys are wanted, and no more",
+        SettingsFault::TooLong => "eight keys are read, and no more",
         SettingsFault::NotToml => "a text stands in double quotes, and each key once",
         SettingsFault::Address => "write address = \"HOST:PORT\"",
         SettingsFault::Mode => "write mode = \"full\" or mode = \"delta\"",
@@ -80,11 +82,12 @@ pub fn hint_on(fault: SettingsFault) -> &'static str {
         SettingsFault::Book => "write the path of the store's book, in double quotes",
         SettingsFault::Blobs => "write the path of the store's blobs, in double quotes",
         SettingsFault::Sessions => "write sessions = 1000000",
+        SettingsFault::Workers => "write workers = 4, or leave it out, which is the same",
     }
 }
 
 /// What to do about a key that isn't read.
-pub const OTHER_KEY: &str = "`overstored --help` lists the seven keys; see how this one is spelled";
+pub const OTHER_KEY: &str = "`overstored --help` lists the eight keys; see how this one is spelled";
 
 /// What is wrong where memory was refused, and what to do.
 pub const NO_ROOM: (&str, &str) = (

@@ -13,7 +13,7 @@ use std::fs;
 use std::io::ErrorKind;
 
 // The keys that are read. All others are passed over.
-const KEYS: [&str; 7] = [
+const KEYS: [&str; 8] = [
     "address",
     "mode",
     "surface",
@@ -21,6 +21,7 @@ const KEYS: [&str; 7] = [
     "book",
     "blobs",
     "sessions",
+    "workers",
 ];
 
 // Says what is wrong.
