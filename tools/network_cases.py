@@ -291,6 +291,8 @@ def statuses():
     for key in ("address", "mode", "surface", "base_check", "book", "blobs", "sessions"):
         refused(new_folder(), settings(1, **{key: None}), 2, b"error settings\n", "`%s`" % key)
     refused(new_folder(), settings(0), 2, b"error settings\n", "`sessions`")
+    for number in (0, 65, "4"):
+        refused(new_folder(), settings(1, workers=number), 2, b"error settings\n", "`workers`")
     refused(new_folder(), "sessions = 1\nmode delta\n", 2, b"error settings\n", "settings.toml: line 2")
     refused(new_folder(), settings(1) + "#" * 65_536, 2, b"error settings\n", "settings.toml")
     with open("/dev/full", "wb") as full:
@@ -390,11 +392,11 @@ def stores_of_others():
 
 
 def keys_that_are_passed_over():
-    server = Server(new_folder(), 1, workers=4)
+    server = Server(new_folder(), 1, workers=4, worker=4)
     server.connect().close()
     assert server.end(1) == [
-        "overstored: warning: settings.toml: `workers` is passed over",
-        "overstored: hint: `overstored --help` lists the seven keys; see how this one is spelled",
+        "overstored: warning: settings.toml: `worker` is passed over",
+        "overstored: hint: `overstored --help` lists the eight keys; see how this one is spelled",
     ]
 
 

@@ -139,6 +139,7 @@ fn settings(alloc: Global, mode: Mode, sessions: u32) -> Result<Settings, AllocE
         book: Octets::new(alloc),
         blobs: Octets::new(alloc),
         sessions,
+        workers: 1,
     })
 }
 

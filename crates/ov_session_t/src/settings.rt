@@ -1,7 +1,7 @@
 //! Settings files, and others that are none.
 use ov_base::{Memory, Mode, Octets};
 use ov_io::{MemSource, Source};
-use ov_settings::{MAX_SESSIONS, Settings, read_settings};
+use ov_settings::{DEFAULT_WORKERS, MAX_SESSIONS, Settings, read_settings};
 use std::alloc::{AllocError, Global};
 use std::process::Abort;
 use std::test::Fail;
@@ -28,7 +28,7 @@ static ROWS: [(&str, &str, u8); 27] = [
     ("", "", 0),
     (
         "sessions",
-        "workers = 4\nsessions = 0x1\n[more]\nkeys = true\n",
+        "threads = 4\nsessions = 0x1\n[more]\nkeys = true\n",
         0,
     ),
     ("mode", "'mode' = 'full' # each file\n", 0),
@@ -66,13 +66,36 @@ static ROWS: [(&str, &str, u8); 27] = [
     ("sessions", "settings.sessions = 5\n", 2),
 ];
 
-// The table, of which no proof computes anything.
+// A line behind the others, and the number of workers that is read, or the status.
+static WORKERS: [(&str, Result<u32, u8>); 15] = [
+    ("", Ok(4)),
+    ("workers = 1\n", Ok(1)),
+    ("workers = 0x2\n", Ok(2)),
+    ("workers = 64\n", Ok(64)),
+    ("workers = 0\n", Err(2)),
+    ("workers = 65\n", Err(2)),
+    ("workers = 4294967300\n", Err(2)),
+    ("workers = -1\n", Err(2)),
+    ("workers = 4.0\n", Err(2)),
+    ("workers = \"4\"\n", Err(2)),
+    ("workers = true\n", Err(2)),
+    ("workers = [4]\n", Err(2)),
+    ("[workers]\n", Err(2)),
+    ("workers = 4\nworkers = 4\n", Err(2)),
+    ("[more]\nworkers = 65\n", Ok(4)),
+];
+
+// The tables, of which no proof computes anything.
 fn rows() -> &'static [(&'static str, &'static str, u8)] {
     &ROWS
 }
 
 fn lines() -> &'static [(&'static str, &'static str)] {
     &LINES
+}
+
+fn workers_rows() -> &'static [(&'static str, Result<u32, u8>)] {
+    &WORKERS
 }
 
 // The text of a settings file with this line in place of the one with its key.
@@ -125,6 +148,11 @@ fn status(alloc: Global, words: usize, bytes: &[u8], fails: &[u8]) -> u8 {
     }
 }
 
+// The number of workers that is read, or the status.
+fn workers(alloc: Global, bytes: &[u8]) -> Result<u32, u8> {
+    Ok(read(alloc, 1, bytes, b"")?.workers)
+}
+
 // The values of the lines above.
 fn assert_values(rt: &impl Abort, settings: &Settings) {
     assert_eq!(rt; settings.address.as_slice(), b"127.0.0.1:7400".as_slice());
@@ -134,6 +162,7 @@ fn assert_values(rt: &impl Abort, settings: &Settings) {
     assert_eq!(rt; settings.book.as_slice(), b"/srv/store.book".as_slice());
     assert_eq!(rt; settings.blobs.as_slice(), b"/srv/store.blobs".as_slice());
     assert_eq!(rt; settings.sessions, MAX_SESSIONS);
+    assert_eq!(rt; settings.workers, DEFAULT_WORKERS);
 }
 
 #[test]
@@ -141,6 +170,16 @@ fn each_key_is_wanted_as_it_should_be(rt: HostRuntime) -> Result<(), Fail> {
     for (key, line, code) in rows() {
         let text = text_with(rt.alloc(), key, line)?;
         assert_eq!(rt; status(rt.alloc(), 1, &text, b""), *code, "{line}");
+    }
+    Ok(())
+}
+
+#[test]
+fn workers_are_four_or_the_number_that_is_given(rt: HostRuntime) -> Result<(), Fail> {
+    for (line, wanted) in workers_rows() {
+        let mut text = text_with(rt.alloc(), "", "")?;
+        text.extend_from_slice(line.as_bytes())?;
+        assert_eq!(rt; workers(rt.alloc(), &text), *wanted, "{line}");
     }
     Ok(())
 }

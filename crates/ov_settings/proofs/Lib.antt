@@ -1,3 +1,4 @@
 pub mod Missing
 pub mod OneReading
 pub mod Whole
+pub mod Workers

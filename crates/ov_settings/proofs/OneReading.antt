@@ -1,5 +1,5 @@
 -- A settings file has one reading.
-use Rattle.std.proofs.Common.{◌≡◌, ℕ, List, codes, refl, sym, ◌∙◌, ap, subst}
+use Rattle.std.proofs.Common.{◌≡◌, ℕ, inl, inr, List, None, codes, refl, sym, ◌∙◌, ap, subst}
 use Rattle.std.proofs.lemmas.Option.{same_Some}
 use Rattle.hex.proofs.HexLemmas.{decode_of-same}
 use Rattle.toml.specs.Data.{Members}
@@ -7,7 +7,7 @@ use Rattle.ov_base.specs.declared.key.Key.{Key}
 use Rattle.ov_base.specs.declared.mode.Mode.{Mode}
 use Rattle.ov_base.proofs.Modes.{one_word}
 use Rattle.ov_keyfile.specs.KeyFile.{IsKeyLine}
-use Rattle.ov_settings.specs.Settings.{AreSettings, HoldsDigits, HoldsSessions, HoldsText, IsSettingsFile}
+use Rattle.ov_settings.specs.Settings.{AreSettings, HoldsDigits, HoldsNumber, HoldsText, HoldsWorkers, IsMissing, IsSettingsFile, integer_at}
 use Rattle.ov_settings.specs.declared.settings.Settings.{Settings}
 
 -- a key has one text
@@ -21,10 +21,23 @@ digits_once m key one two (t, at_key, is) (u, at_it, other) =
     let there : IsKeyLine t two = subst (λ (line : List ℕ). IsKeyLine line two) same other in
     decode_of-same t one two is.decoded there.decoded
 
-sessions_once : (m : Members) (one two : ℕ) → HoldsSessions m one → HoldsSessions m two → one ≡ two
-sessions_once m one two a b =
-    let same = same_Some _ _ (sym a.number ∙ b.number) in
+-- a key has one number
+number_once : (m : Members) (key : List ℕ) (limit one two : ℕ) → HoldsNumber m key limit one → HoldsNumber m key limit two → one ≡ two
+number_once m key limit one two a b =
+    let same = same_Some _ _ (sym a.is ∙ b.is) in
     cc
+
+-- a key that is missing has no number
+never_both : (m : Members) (key : List ℕ) (limit n : ℕ) → HoldsNumber m key limit n → IsMissing m key → ⊥
+never_both m key limit n has none =
+    let nothing : integer_at m key ≡ None = rw none in
+    cc (has.is, nothing)
+
+workers_once : (m : Members) (one two : ℕ) → HoldsWorkers m one → HoldsWorkers m two → one ≡ two
+workers_once m one two (inl a) (inl b) = number_once m (codes "workers") _ one two a b
+workers_once m one two (inl a) (inr (none, e)) = absurd (never_both m (codes "workers") _ one a none)
+workers_once m one two (inr (none, e)) (inl b) = absurd (never_both m (codes "workers") _ two b none)
+workers_once m one two (inr (none, e)) (inr (too, f)) = e ∙ sym f
 
 key_of_bytes : List ℕ → Key
 key_of_bytes bytes = record { bytes = bytes }
@@ -34,11 +47,11 @@ unfolding key_of_bytes
 key_once one two e = ap key_of_bytes e
 
 -- settings of these values
-made : List ℕ → Mode → Key → List ℕ → List ℕ → List ℕ → ℕ → Settings
-made address mode surface base_check book blobs sessions =
-    record { address = address; mode = mode; surface = surface; base_check = base_check; book = book; blobs = blobs; sessions = sessions }
+made : List ℕ → Mode → Key → List ℕ → List ℕ → List ℕ → ℕ → ℕ → Settings
+made address mode surface base_check book blobs sessions workers =
+    record { address = address; mode = mode; surface = surface; base_check = base_check; book = book; blobs = blobs; sessions = sessions; workers = workers }
 
-made_of : (s : Settings) → made s.address s.mode s.surface s.base_check s.book s.blobs s.sessions ≡ s
+made_of : (s : Settings) → made s.address s.mode s.surface s.base_check s.book s.blobs s.sessions s.workers ≡ s
 unfolding made
 made_of s = refl
 
@@ -50,7 +63,8 @@ values_once m one two a b =
     let base : one.base_check ≡ two.base_check = digits_once m (codes "base_check") _ _ a.base_check b.base_check in
     let book : one.book ≡ two.book = text_once m (codes "book") _ _ a.book b.book in
     let blobs : one.blobs ≡ two.blobs = text_once m (codes "blobs") _ _ a.blobs b.blobs in
-    let sessions : one.sessions ≡ two.sessions = sessions_once m _ _ a.sessions b.sessions in
+    let sessions : one.sessions ≡ two.sessions = number_once m (codes "sessions") _ _ _ a.sessions b.sessions in
+    let workers : one.workers ≡ two.workers = workers_once m _ _ a.workers b.workers in
     cc (made_of one, made_of two)
 
 -- the document is one, and so are the values

@@ -9,7 +9,7 @@ use Rattle.ov_io.proofs.Pieces.{while_as}
 use Rattle.ov_settings.specs.Settings.{FindsOr, IsReadAs, IsSettingsFile, TakesEnough, fault_code}
 use Rattle.ov_settings.specs.declared.settings.Settings.{Settings}
 use Rattle.ov_settings.specs.declared.fault.SettingsFault.{SettingsFault}
-use Rattle.ov_settings.specs.declared.fault.SettingsFault.TheVariants.{Memory, Read, TooLong, NotToml, Address, Mode as ModeKey, Surface, BaseCheck, Book, Blobs, Sessions}
+use Rattle.ov_settings.specs.declared.fault.SettingsFault.TheVariants.{Memory, Read, TooLong, NotToml, Address, Mode as ModeKey, Surface, BaseCheck, Book, Blobs, Sessions, Workers}
 use Rattle.ov_settings.specs.declared.reading.TheConstants.{ENOUGH, LONGEST}
 
 -- no fault for what isn't found is one of a read
@@ -34,6 +34,7 @@ code_of_read BaseCheck e = absurd (omega arith)
 code_of_read Book e = absurd (omega arith)
 code_of_read Blobs e = absurd (omega arith)
 code_of_read Sessions e = absurd (omega arith)
+code_of_read Workers e = absurd (omega arith)
 
 module _ {S : Type 0} (tells : SourceTells S) where
   -- the size of the buffer is known, and the failure may be said otherwise

@@ -14,8 +14,9 @@ use Rattle.ov_settings.specs.declared.fault.SettingsFault.TheVariants.{Read, Mem
 use Rattle.ov_settings.specs.declared.fault.SettingsFault.TheVariants.{NotToml, Address}
 use Rattle.ov_settings.specs.declared.fault.SettingsFault.TheVariants.{Mode as ModeKey, Surface}
 use Rattle.ov_settings.specs.declared.fault.SettingsFault.TheVariants.{BaseCheck, Book, Blobs}
-use Rattle.ov_settings.specs.declared.fault.SettingsFault.TheVariants.{Sessions}
-use Rattle.ov_settings.specs.declared.settings.TheConstants.{MAX_SESSIONS}
+use Rattle.ov_settings.specs.declared.fault.SettingsFault.TheVariants.{Sessions, Workers}
+use Rattle.ov_settings.specs.declared.settings.TheConstants.{DEFAULT_WORKERS, MAX_SESSIONS}
+use Rattle.ov_settings.specs.declared.settings.TheConstants.{MAX_WORKERS}
 use Rattle.ov_settings.specs.declared.reading.TheConstants.{ENOUGH, LONGEST}
 use Rattle.ov_io.specs.Calls.{TakesWhile}
 use Rattle.ov_io.specs.Tells.{SourceTells}
@@ -43,11 +44,26 @@ abbrev pub HoldsDigits : Members → List ℕ → List ℕ → Type 0
 HoldsDigits document key bytes =
     (text : List ℕ) × HoldsText document key text × IsKeyLine text bytes
 
+-- the key has this number, which is from 1 to a limit
+pub record HoldsNumber (document : Members) (key : List ℕ) (limit number : ℕ) : Type 0 where
+  pub is : integer_at document key ≡ Some (pos number)
+  pub some : 1 ≤ number
+  pub most : number ≤ limit
+
 -- this number of sessions is wanted, and is one that a server takes
-pub record HoldsSessions (document : Members) (sessions : ℕ) : Type 0 where
-  pub number : integer_at document (codes "sessions") ≡ Some (pos sessions)
-  pub some : 1 ≤ sessions
-  pub most : sessions ≤ MAX_SESSIONS
+abbrev pub HoldsSessions : Members → ℕ → Type 0
+HoldsSessions document sessions = HoldsNumber document (codes "sessions") MAX_SESSIONS sessions
+
+-- the document doesn't have the key
+abbrev pub IsMissing : Members → List ℕ → Type 0
+IsMissing document key = get_member key document ≡ None
+
+-- So many sessions are to run at the same time: the key has this number, from 1 to 64; or it is
+-- missing, and the number is 4.
+abbrev pub HoldsWorkers : Members → ℕ → Type 0
+HoldsWorkers document workers =
+    HoldsNumber document (codes "workers") MAX_WORKERS workers
+    ⊎ (IsMissing document (codes "workers") × (workers ≡ DEFAULT_WORKERS))
 
 -- the document has each key as it should be, and these are the values
 pub record AreSettings (document : Members) (s : Settings) : Type 0 where
@@ -58,6 +74,7 @@ pub record AreSettings (document : Members) (s : Settings) : Type 0 where
   pub book : HoldsText document (codes "book") s.book
   pub blobs : HoldsText document (codes "blobs") s.blobs
   pub sessions : HoldsSessions document s.sessions
+  pub workers : HoldsWorkers document s.workers
 
 -- ---- a settings file
 
@@ -97,6 +114,7 @@ fault_code BaseCheck = 2
 fault_code Book = 2
 fault_code Blobs = 2
 fault_code Sessions = 2
+fault_code Workers = 2
 
 -- A value is found that is so; or no value is, or memory was refused. It isn't said of a read.
 abbrev pub FindsOr : {T : Type 0} → (T → Type 0) → Result T SettingsFault → Type 0

@@ -6,7 +6,7 @@ use ov_base::Memory;
 use ov_io::Fault;
 
 /// Why there are no settings. The variants with the name of a key say that it is missing, or not as
-/// it should be.
+/// it should be; that of `workers`, which may be missing, that it is there and not as it should be.
 #[derive(Clone, Copy, Debug, PartialEq, Eq)]
 pub enum SettingsFault {
     /// A read failed.
@@ -24,6 +24,7 @@ pub enum SettingsFault {
     Book,
     Blobs,
     Sessions,
+    Workers,
 }
 
 impl SettingsFault {

@@ -2,12 +2,13 @@
 ghost use Rattle.std.specs.Prelude.{◌≡◌, IfOk, option_map};
 ghost use Rattle.toml.specs.View.{table_view};
 ghost use Rattle.ov_settings.specs.Settings.{AreSettings, Finds, FindsOr, HoldsDigits, HoldsMode};
-ghost use Rattle.ov_settings.specs.Settings.{HoldsSessions, HoldsText, fault_code};
+ghost use Rattle.ov_settings.specs.Settings.{HoldsNumber, HoldsSessions, HoldsText, HoldsWorkers};
+ghost use Rattle.ov_settings.specs.Settings.{fault_code};
 ghost use Rattle.ov_settings.specs.Settings.{integer_at, text_at};
 ghost use Rattle.ov_keyfile.specs.KeyFile.{IsKeyLine};
 
 use crate::fault::SettingsFault;
-use crate::settings::{MAX_SESSIONS, Settings};
+use crate::settings::{DEFAULT_WORKERS, MAX_SESSIONS, MAX_WORKERS, Settings};
 use ov_base::{Key, Memory, Mode, Octets};
 use ov_keyfile::key_of;
 use std::alloc::Global;
@@ -74,13 +75,36 @@ fn mode_of(table: &Table) -> Result<Mode, SettingsFault>
     }
 }
 
+// The number at a key, where it is from 1 to `most`, or this fault.
+fn number_of(
+    table: &Table,
+    key: &str,
+    most: u32,
+    fault: SettingsFault,
+) -> Result<u32, SettingsFault>
+    requires { fault_code fault ≡ 2 }
+    ensures { FindsOr (HoldsNumber (table_view table.now) key.now most) result }
+{
+    match number_at(table, key) {
+        Some(number) if 1 <= number && number <= most as i64 => Ok(number as u32),
+        _ => Err(fault),
+    }
+}
+
 // The number of sessions.
 fn sessions_of(table: &Table) -> Result<u32, SettingsFault>
     ensures { FindsOr (HoldsSessions (table_view table.now)) result }
 {
-    match number_at(table, "sessions") {
-        Some(number) if 1 <= number && number <= MAX_SESSIONS as i64 => Ok(number as u32),
-        _ => Err(SettingsFault::Sessions),
+    number_of(table, "sessions", MAX_SESSIONS, SettingsFault::Sessions)
+}
+
+// The number of workers. A key that is there has to be as it should be.
+fn workers_of(table: &Table) -> Result<u32, SettingsFault>
+    ensures { FindsOr (HoldsWorkers (table_view table.now)) result }
+{
+    match table.get("workers") {
+        Some(_) => number_of(table, "workers", MAX_WORKERS, SettingsFault::Workers),
+        None => Ok(DEFAULT_WORKERS),
     }
 }
 
@@ -93,6 +117,7 @@ pub fn settings_of(alloc: Global, table: &Table) -> Result<Settings, SettingsFau
     let base = digits_of(table, "base_check", SettingsFault::BaseCheck)?;
     let base_check = base.bytes;
     let sessions = sessions_of(table)?;
+    let workers = workers_of(table)?;
     let address = text_of(alloc, table, "address", SettingsFault::Address)?;
     let book = text_of(alloc, table, "book", SettingsFault::Book)?;
     let blobs = text_of(alloc, table, "blobs", SettingsFault::Blobs)?;
@@ -104,5 +129,6 @@ pub fn settings_of(alloc: Global, table: &Table) -> Result<Settings, SettingsFau
         book,
         blobs,
         sessions,
+        workers,
     })
 }

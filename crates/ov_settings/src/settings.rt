@@ -5,6 +5,12 @@ use ov_base::{Key, Mode, Octets};
 /// The most sessions that one server serves before it ends.
 pub const MAX_SESSIONS: u32 = 1_000_000;
 
+/// The most sessions that run at the same time.
+pub const MAX_WORKERS: u32 = 64;
+
+/// How many sessions run at the same time where the file doesn't say it.
+pub const DEFAULT_WORKERS: u32 = 4;
+
 /// What a server is told by its settings file.
 #[derive(Drop)]
 pub struct Settings {
@@ -20,4 +26,7 @@ pub struct Settings {
     pub blobs: Octets,
     /// How many sessions are served, from 1 to [`MAX_SESSIONS`].
     pub sessions: u32,
+    /// How many sessions run at the same time, from 1 to [`MAX_WORKERS`], and [`DEFAULT_WORKERS`]
+    /// where the key isn't there.
+    pub workers: u32,
 }

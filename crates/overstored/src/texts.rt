@@ -9,8 +9,8 @@ pub const HELP: &str = "\
 Usage: overstored [--log] SETTINGS
        overstored --help | -h | --version | -V
 
-Serves an over-encryption store over TCP, some sessions at once, by the
-settings in a TOML file, which nobody but the server may read:
+Serves an over-encryption store over TCP by the settings in a TOML file, which
+nobody but the server may read:
 
   address = \"127.0.0.1:7400\"  HOST:PORT where it listens; port 0 is any free one
   mode = \"full\"               the store's for good: in \"full\" each file has a
@@ -21,7 +21,8 @@ settings in a TOML file, which nobody but the server may read:
   book = \"/var/lib/overstored/store.book\"    the store's files, which the first
   blobs = \"/var/lib/overstored/store.blobs\"  start makes
   sessions = 1000000          how many are served before it ends, 1 to 1000000
-  workers = 4                 how many run at once, 1 to 64; 4 where it is left out
+  workers = 4                 how many run at the same time at most, 1 to 64;
+                              this key may be left out, and is 4 then
 
 It puts `listening ADDRESS`, and `served N` at its end. SIGTERM ends it safely.
 With --log standard error has a line for each update that was accepted and for
@@ -82,7 +83,7 @@ pub fn hint_on(fault: SettingsFault) -> &'static str {
         SettingsFault::Book => "write the path of the store's book, in double quotes",
         SettingsFault::Blobs => "write the path of the store's blobs, in double quotes",
         SettingsFault::Sessions => "write sessions = 1000000",
-        SettingsFault::Workers => "write workers = 4, or leave it out, which is the same",
+        SettingsFault::Workers => "write workers = 4, or leave the key out, which means the same",
     }
 }
 

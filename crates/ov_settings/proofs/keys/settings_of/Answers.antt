@@ -1,7 +1,7 @@
 use Rattle.ov_base.specs.declared.key.Key.{Key}
 use Rattle.std.proofs.Common.{codes}
 use Rattle.toml.specs.View.{table_view}
-use Rattle.ov_settings.specs.Settings.{AreSettings, HoldsDigits}
+use Rattle.ov_settings.specs.Settings.{AreSettings, HoldsDigits, HoldsWorkers}
 use Rattle.ov_settings.specs.declared.settings.Settings.{Settings}
 use Rattle.ov_settings.proofs.Missing.{missing_on}
 use Rattle.ov_settings.proofs.keys.settings_of.Goals as goal
@@ -17,3 +17,9 @@ returns-in_err-base c =
     let m = table_view c.args.table.now in
     missing_on (λ (key : Key). HoldsDigits m (codes "base_check") key.bytes) (AreSettings m) (λ (s : Settings). record { bytes = s.base_check }) (λ s is. is.base_check)
     c.in_err-base.field-0.0 c.from_residual-in_err-base.result c.from_residual-in_err-base.ensures.1 c.in_err-base.ensures
+
+pub returns-in_err-workers : goal.returns-in_err-workers
+returns-in_err-workers c =
+    let m = table_view c.args.table.now in
+    missing_on (HoldsWorkers m) (AreSettings m) (λ (s : Settings). s.workers) (λ s is. is.workers)
+    c.in_err-workers.field-0.0 c.from_residual-in_err-workers.result c.from_residual-in_err-workers.ensures.1 c.in_err-workers.ensures
