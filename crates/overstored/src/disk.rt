@@ -3,24 +3,26 @@ ghost use Rattle.std.specs.Prelude.{◌≡◌};
 
 use crate::texts::FAILED_WRITE;
 use ov_disk::{Area, Disk, DiskFault};
-use std::cell::Cell;
+use std::alloc::Global;
+use std::sync::Arc;
+use std::sync::atomic::{AtomicBool, Ordering};
 
 /// The disk in it, which says so once where a write or a sync of it fails while the server listens:
 /// the store over it then refuses every update. Of a disk that fails before, the end of the server
-/// says more.
+/// says more. Whichever session's thread has the disk when it fails says it, by one print.
 #[derive(Drop)]
-pub struct SpokenDisk<'a, D, R> {
+pub struct SpokenDisk<D, R> {
     disk: D,
     book: String,
     rt: R,
-    listens: &'a Cell<bool>,
+    listens: Arc<AtomicBool, Global>,
     said: bool,
 }
 
-impl<'a, D, R: Eprint> SpokenDisk<'a, D, R> {
+impl<D, R: Eprint> SpokenDisk<D, R> {
     /// This disk of the store with this book, with a runtime that prints; and whether the server
-    /// listens.
-    pub fn new(disk: D, book: String, rt: R, listens: &'a Cell<bool>) -> SpokenDisk<'a, D, R> {
+    /// listens, as its door notes it.
+    pub fn new(disk: D, book: String, rt: R, listens: Arc<AtomicBool, Global>) -> SpokenDisk<D, R> {
         SpokenDisk {
             disk,
             book,
@@ -34,17 +36,18 @@ impl<'a, D, R: Eprint> SpokenDisk<'a, D, R> {
     fn note(&mut self, failed: bool)
         ensures { self.new.disk ≡ self.old.disk }
     {
-        if failed && self.listens.get() && !self.said {
+        if failed && self.listens.load(Ordering::SeqCst) && !self.said {
             self.said = true;
             let book = self.book.as_str();
             let (error, hint) = FAILED_WRITE;
-            let _ = eprintln!(self.rt; "overstored: error: {book}: {error}");
-            let _ = eprintln!(self.rt; "overstored: hint: {hint}");
+            let _ = eprintln!(self.rt;
+                "overstored: error: {book}: {error}\noverstored: hint: {hint}"
+            );
         }
     }
 }
 
-impl<D: Disk, R: Eprint> Disk for SpokenDisk<'_, D, R> {
+impl<D: Disk, R: Eprint> Disk for SpokenDisk<D, R> {
     ghost tells = { record {
       reads = λ d. D.tells.reads d.disk;
       may_leave = λ d. D.tells.may_leave d.disk;

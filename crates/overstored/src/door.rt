@@ -11,9 +11,11 @@ use crate::told;
 use ov_base::Mode;
 use ov_io::{Fault, StdStream};
 use ov_session::{Door, SessionEnd, TcpDoor};
-use std::cell::Cell;
+use std::alloc::Global;
 use std::fmt::{Display, Formatter, Write};
 use std::net::{Net, SocketAddr};
+use std::sync::Arc;
+use std::sync::atomic::{AtomicBool, Ordering};
 use std::time::{Clock, Duration};
 use std::{fmt, thread};
 
@@ -29,9 +31,9 @@ const PAUSE_SECONDS: u64 = 1;
 /// update that was accepted and the end of each session. It counts for itself, tells where the door in
 /// it listens, and nothing of the streams.
 #[derive(Drop)]
-pub struct SpokenDoor<'a, N: Net + AllocGlobal + Drop, R> {
+pub struct SpokenDoor<N: Net + AllocGlobal + Drop, R> {
     pub door: TcpDoor<N>,
-    listens: &'a Cell<bool>,
+    listens: Arc<AtomicBool, Global>,
     logs: bool,
     begun: Option<Begun>,
     given: u64,
@@ -47,17 +49,17 @@ pub struct Begun {
     pub mode: Mode,
 }
 
-impl<'a, N: Net + AllocGlobal + Drop, R> SpokenDoor<'a, N, R> {
+impl<N: Net + AllocGlobal + Drop, R> SpokenDoor<N, R> {
     /// This door, which gave nothing yet, with a runtime that prints; where it notes that it listens;
     /// whether a log is kept; and the store that is begun, if one is, of which it says so once it is
     /// asked to listen.
     pub fn new(
         door: TcpDoor<N>,
         rt: R,
-        listens: &'a Cell<bool>,
+        listens: Arc<AtomicBool, Global>,
         logs: bool,
         begun: Option<Begun>,
-    ) -> SpokenDoor<'a, N, R>
+    ) -> SpokenDoor<N, R>
         ensures given { result.given ≡ 0 }
         ensures open_ { result.closed ≡ false }
     {
@@ -73,6 +75,11 @@ impl<'a, N: Net + AllocGlobal + Drop, R> SpokenDoor<'a, N, R> {
         }
     }
 
+    /// Whether it ever listened.
+    pub fn has_listened(&self) -> bool {
+        self.listens.load(Ordering::SeqCst)
+    }
+
     // Counts a fault.
     fn fail(&mut self) -> Fault
         ensures door { self.new.door ≡ self.old.door }
@@ -86,24 +93,22 @@ impl<'a, N: Net + AllocGlobal + Drop, R> SpokenDoor<'a, N, R> {
     }
 }
 
-impl<N: Net + AllocGlobal + Drop, R: Eprint + Clock> SpokenDoor<'_, N, R> {
-    // The next stream of the door in this one. Where none can be had it is asked again after a pause.
-    fn next(&mut self) -> Result<Option<StdStream<N::Stream>>, Fault>
-        ensures given { self.new.given ≡ self.old.given }
-        ensures closed { self.new.closed ≡ self.old.closed }
-        ensures faults { self.new.faults ≡ self.old.faults }
-        ensures listens { option_map (λ l. socket_text l.bound) self.new.door.listening
-            ≡ option_map (λ l. socket_text l.bound) self.old.door.listening }
-    {
-        for _ in 1..MOST_TRIES {
-            if let Ok(next) = self.door.accept() {
-                return Ok(next);
-            }
-            told::no_connection(&self.rt, self.door.reason());
-            thread::sleep(&self.rt, Duration::from_secs(PAUSE_SECONDS));
+// The next stream of a door. Where none can be had the door is asked again after a pause.
+fn next_of<N: Net + AllocGlobal + Drop, R: Eprint + Clock>(
+    rt: &R,
+    door: &mut TcpDoor<N>,
+) -> Result<Option<StdStream<N::Stream>>, Fault>
+    ensures { option_map (λ l. socket_text l.bound) door.new.listening
+        ≡ option_map (λ l. socket_text l.bound) door.old.listening }
+{
+    for _ in 1..MOST_TRIES {
+        if let Ok(next) = door.accept() {
+            return Ok(next);
         }
-        self.door.accept()
+        told::no_connection(rt, door.reason());
+        thread::sleep(rt, Duration::from_secs(PAUSE_SECONDS));
     }
+    door.accept()
 }
 
 // A session, by its number, and the address of its client, where that is known.
@@ -137,7 +142,7 @@ fn say_end<R: Eprint>(rt: &R, session: Session, end: SessionEnd) {
 }
 
 impl<N: Net + AllocGlobal + Drop, R: Eprint + Clock + AllocGlobal + Copy + Drop> Door
-    for SpokenDoor<'_, N, R> {
+    for SpokenDoor<N, R> {
     type Stream = LoggedStream<StdStream<N::Stream>, R>;
 
     ghost shows = { λ d. record {
@@ -155,7 +160,7 @@ impl<N: Net + AllocGlobal + Drop, R: Eprint + Clock + AllocGlobal + Copy + Drop>
         }
         match self.door.listen(address) {
             Ok(()) => {
-                self.listens.set(true);
+                self.listens.store(true, Ordering::SeqCst);
                 Ok(())
             }
             Err(Fault) => Err(self.fail()),
@@ -167,11 +172,16 @@ impl<N: Net + AllocGlobal + Drop, R: Eprint + Clock + AllocGlobal + Copy + Drop>
         if self.given == u64::MAX {
             return Err(self.fail());
         }
-        match self.next() {
+        match next_of(&self.rt, &mut self.door) {
             Ok(Some(stream)) => {
                 self.given += 1;
-                let log = self.logs.then(|| Log::new(self.rt, self.door.client()));
-                Ok(Some(LoggedStream { stream, log }))
+                let client = self.door.client();
+                let log = self.logs.then(|| Log::new(self.rt, client));
+                Ok(Some(LoggedStream {
+                    stream,
+                    client,
+                    log,
+                }))
             }
             Ok(None) => {
                 self.closed = true;
@@ -191,7 +201,7 @@ impl<N: Net + AllocGlobal + Drop, R: Eprint + Clock + AllocGlobal + Copy + Drop>
             Some(log) => log.ended(number, end),
             None => {}
         }
-        let client = self.door.client();
+        let client = stream.client;
         say_end(&self.rt, Session { number, client }, end);
     }
 }

@@ -1,8 +1,11 @@
 //! The program `overstored`: a server of an over-encryption store over TCP.
 //!
-//! `overstored [--log] SETTINGS` reads its settings by [`read_settings`], and serves by [`host`], whose
-//! contracts say what it answers and with which status it ends; `main` makes the real files, the
-//! real door and the sink, and says on standard error what is wrong and what to do.
+//! `overstored [--log] SETTINGS` reads its settings by [`read_settings`], and serves by [`host`], as
+//! many sessions at once as the settings have workers, each in a thread of its own. Their contracts
+//! say what it answers and with which status it ends; `main` makes the real files, the real door, the
+//! sink and what starts the threads, and says on standard error what is wrong and what to do. A line
+//! there is one print, and one write where it has at most 1,024 bytes, so that lines of sessions which
+//! run at once don't mix.
 //!
 //! | module | what it does |
 //! |---|---|
@@ -11,6 +14,8 @@
 //! | `log`, `stream`, `heads` | what is logged, of the frames that pass over a stream |
 //! | `texts` | all texts |
 #![tactic(auto)]
+
+ghost use Rattle.std.specs.Prelude.{◌≤◌, IfOk};
 
 mod disk;
 mod door;
@@ -26,15 +31,18 @@ use ov_base::Memory;
 use ov_disk::FileDisk;
 use ov_files::{FileFault, begins, fault_of, held_places, words_of};
 use ov_host::host;
-use ov_io::{FileSource, StdSink};
-use ov_session::TcpDoor;
+use ov_io::{FileSource, Source, StdSink};
+use ov_serving::Spawner;
+use ov_session::{OpenGate, TcpDoor};
 use ov_settings::{Settings, read_settings};
-use std::cell::Cell;
+use std::alloc::Global;
 use std::io::ErrorKind;
 use std::net::Net;
 use std::process::ExitCode;
 use std::str;
-use std::sync::Wait;
+use std::sync::atomic::AtomicBool;
+use std::sync::{Arc, Wait};
+use std::thread::Threads;
 use texts::{HELP, NO_MEMORY, NO_SETTINGS, VERSION};
 
 // The exit statuses that `main` itself gives.
@@ -99,52 +107,112 @@ fn begun_by(
     }))
 }
 
-// Serves by these settings. The net is the runtime with the leave to open sockets and to wait,
-// which it has in `main` alone.
-fn serve<N: Net + Wait + AllocGlobal + Copy + Drop>(
+// The disk over these files, which knows by the flag whether the server listens.
+fn disk_over(
+    rt: &HostRuntime,
+    book: &str,
+    blobs: &str,
+    listens: Arc<AtomicBool, Global>,
+) -> Result<SpokenDisk<FileDisk<HostRuntime>, HostRuntime>, Memory> {
+    let disk = FileDisk::new(*rt, book, blobs)?;
+    let name = String::from_str(rt.alloc(), book)?;
+    Ok(SpokenDisk::new(disk, name, *rt, listens))
+}
+
+// A flag that isn't set yet, twice.
+fn flags(alloc: Global) -> Result<(Arc<AtomicBool, Global>, Arc<AtomicBool, Global>), Memory> {
+    let Ok(one) = Arc::new(alloc, AtomicBool::new(false)) else {
+        return Err(Memory);
+    };
+    match Arc::try_clone(&one) {
+        Ok(two) => Ok((one, two)),
+        Err(_) => Err(Memory),
+    }
+}
+
+// Serves by these settings, or has no memory to begin. The net is the runtime with the leave to open
+// sockets, to start threads and to wait, which it has in `main` alone.
+fn try_serve<N: Net + Threads + Wait + AllocGlobal + Copy + Send + Drop + 'static>(
     net: &N,
     rt: &HostRuntime,
     settings: &Settings,
     logs: bool,
-) -> u8 {
+) -> Result<u8, Memory>
+where
+    N::Stream: Send + 'static,
+    requires { (1 ≤ settings.now.workers) × (settings.now.workers ≤ 65536) }
+{
     let book = text_of(settings.book.as_slice());
     let blobs = text_of(settings.blobs.as_slice());
     let address = text_of(settings.address.as_slice());
-    let Ok(disk) = FileDisk::new(*rt, book, blobs) else {
-        return print(rt, NO_MEMORY, out_of_memory(rt));
-    };
-    let Ok(name) = String::from_str(rt.alloc(), book) else {
-        return print(rt, NO_MEMORY, out_of_memory(rt));
-    };
-    let Ok(door) = TcpDoor::new(*net, address) else {
-        return print(rt, NO_MEMORY, out_of_memory(rt));
-    };
-    let listens = Cell::new(false);
-    let disk = SpokenDisk::new(disk, name, *rt, &listens);
-    let Ok(begun) = begun_by(rt, settings, book, blobs) else {
-        return print(rt, NO_MEMORY, out_of_memory(rt));
-    };
-    let mut door = SpokenDoor::new(door, *rt, &listens, logs, begun);
+    let (listens, known) = flags(rt.alloc())?;
+    let disk = disk_over(rt, book, blobs, known)?;
+    let door = TcpDoor::new(*net, address)?;
+    let begun = begun_by(rt, settings, book, blobs)?;
+    let mut door = SpokenDoor::new(door, *rt, listens, logs, begun);
+    let mut spawner = Spawner::new(rt.alloc());
     let mut out = StdSink::new(rt.stdout());
-    let status = host(net, rt.alloc(), settings, disk, &mut door, &mut out).status;
+    let status = host(
+        net,
+        rt.alloc(),
+        settings,
+        disk,
+        &mut door,
+        &mut spawner,
+        OpenGate,
+        &mut out,
+    )
+    .status;
     told::end(rt, status, book, blobs);
-    told::door(rt, status, address, listens.get(), door.door.reason());
-    status
+    told::door(rt, status, address, door.has_listened(), door.door.reason());
+    Ok(status)
+}
+
+// Serves by these settings.
+fn serve<N: Net + Threads + Wait + AllocGlobal + Copy + Send + Drop + 'static>(
+    net: &N,
+    rt: &HostRuntime,
+    settings: &Settings,
+    logs: bool,
+) -> u8
+where
+    N::Stream: Send + 'static,
+    requires { (1 ≤ settings.now.workers) × (settings.now.workers ≤ 65536) }
+{
+    match try_serve(net, rt, settings, logs) {
+        Ok(status) => status,
+        Err(Memory) => print(rt, NO_MEMORY, out_of_memory(rt)),
+    }
+}
+
+// The settings that the source has left, by words that are one word. Their workers are as many as a
+// server may have.
+fn settings_from<K: Source>(
+    rt: &HostRuntime,
+    words: &[String],
+    source: &mut K,
+) -> Result<Settings, u8>
+    ensures { IfOk result (λ s. (1 ≤ s.workers) × (s.workers ≤ 65536)) }
+{
+    read_settings(rt.alloc(), words, source)
 }
 
 // Reads the settings in this file, which the words name where they are one word, and serves by
 // them.
-fn serve_by<N: Net + Wait + AllocGlobal + Copy + Drop>(
+fn serve_by<N: Net + Threads + Wait + AllocGlobal + Copy + Send + Drop + 'static>(
     net: &N,
     rt: &HostRuntime,
     words: &[String],
     path: &str,
     logs: bool,
-) -> u8 {
+) -> u8
+where
+    N::Stream: Send + 'static,
+{
     let Ok(mut source) = FileSource::new(*rt, path) else {
         return out_of_memory(rt);
     };
-    match read_settings(rt.alloc(), words, &mut source) {
+    match settings_from(rt, words, &mut source) {
         Ok(settings) => {
             told::open_settings(rt, path);
             told::other_keys(rt, path);
@@ -162,11 +230,14 @@ fn serve_by<N: Net + Wait + AllocGlobal + Copy + Drop>(
 }
 
 // Does what the words ask for.
-fn answer_words<N: Net + Wait + AllocGlobal + Copy + Drop>(
+fn answer_words<N: Net + Threads + Wait + AllocGlobal + Copy + Send + Drop + 'static>(
     net: &N,
     rt: &HostRuntime,
     words: &[String],
-) -> u8 {
+) -> u8
+where
+    N::Stream: Send + 'static,
+{
     match words {
         [word] if word.as_str() == LOG => serve_by(net, rt, &[], "", true),
         [word] => match told_by(word.as_str()) {

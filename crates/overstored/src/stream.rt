@@ -3,12 +3,16 @@ ghost use Rattle.std.specs.Prelude.{◌≡◌};
 
 use crate::log::Log;
 use ov_io::{Fault, Sink, Source, Stream};
+use std::net::SocketAddr;
 use std::time::Clock;
 
-/// The stream in it, and the log of its session, where one is kept. It tells what the stream tells.
+/// The stream in it, the address of its client, where that is known, and the log of its session,
+/// where one is kept. It tells what the stream tells. It may go to the thread of its session, whose
+/// lines it puts by one print each.
 #[derive(Drop)]
 pub struct LoggedStream<S, R> {
     pub stream: S,
+    pub client: Option<SocketAddr>,
     pub log: Option<Log<R>>,
 }
 
