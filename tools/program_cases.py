@@ -284,10 +284,13 @@ def replies_that_are_counted():
         master, terminal = pty.openpty()
         done = subprocess.run([PROGRAM, *words], cwd=store_folder(), input=script, stdout=subprocess.PIPE, stderr=terminal)
         os.set_blocking(master, False)
+        said = b""
         try:
-            said = os.read(master, 65536)
+            # A terminal gives what was written in pieces.
+            while piece := os.read(master, 65536):
+                said += piece
         except BlockingIOError:
-            said = b""
+            pass
         os.close(terminal)
         os.close(master)
         assert done.returncode == 0 and done.stdout.endswith(b"end epoch 1\n"), done.returncode
