@@ -12,7 +12,7 @@ use crate::slot::{Done, Of, Outcome, Slot, go};
 use crate::spawner::Spawner;
 use ov_io::Stream;
 use ov_peer::Answerer;
-use ov_session::Gate;
+use ov_session::{Dismiss, Gate};
 use std::alloc::Global;
 use std::snapshot::Snapshot;
 use std::sync::atomic::{AtomicBool, Ordering};
@@ -34,7 +34,7 @@ fn done<L: Stream, V: Answerer, G>(
 /// Starts a thread for the session. Where none can be made the session comes back.
 fn begin<
     R: Threads + Wait + Copy + Send + 'static,
-    L: Stream + Drop + Send + 'static,
+    L: Stream + Dismiss + Drop + Send + 'static,
     V: Answerer + Drop + Send + 'static,
     G: Gate + Drop + Send + Sync + 'static,
 >(rt: &R, alloc: Global, session: Session<L, V, G>) -> Result<Slot<L, V, G>, Session<L, V, G>>
@@ -71,7 +71,7 @@ fn begin<
 }
 
 /// Waits for the end of a slot's session.
-fn end_of<R: Threads + Wait, L: Stream + Drop, V: Answerer + Drop, G: Gate + Drop>(
+fn end_of<R: Threads + Wait, L: Stream + Dismiss + Drop, V: Answerer + Drop, G: Gate + Drop>(
     rt: &R,
     alloc: Global,
     slot: Slot<L, V, G>,
@@ -91,7 +91,7 @@ fn end_of<R: Threads + Wait, L: Stream + Drop, V: Answerer + Drop, G: Gate + Dro
 /// refused or no thread can be made it comes back, and the spawner counts that.
 pub fn start<
     R: Threads + Wait + Copy + Send + 'static,
-    L: Stream + Drop + Send + 'static,
+    L: Stream + Dismiss + Drop + Send + 'static,
     V: Answerer + Drop + Send + 'static,
     G: Gate + Drop + Send + Sync + 'static,
 >(rt: &R, spawner: &mut Spawner<L, V, G>, session: Session<L, V, G>) -> Result<(), Session<L, V, G>>
@@ -118,7 +118,7 @@ pub fn start<
 
 /// Waits for the first of the started sessions, and gives what is left of it; None exactly where
 /// there is none.
-pub fn finish<R: Threads + Wait, L: Stream + Drop, V: Answerer + Drop, G: Gate + Drop>(
+pub fn finish<R: Threads + Wait, L: Stream + Dismiss + Drop, V: Answerer + Drop, G: Gate + Drop>(
     rt: &R,
     spawner: &mut Spawner<L, V, G>,
 ) -> Option<Ended<L, V>>
