@@ -7,7 +7,14 @@ use Rattle.ov_store.specs.declared.fault.BeginFault.{BeginFault}
 use Rattle.ov_store.specs.declared.fault.BeginFault.TheVariants.{Disk, Memory}
 use Rattle.ov_report.specs.Ends.{EndsIn, EndsOr}
 use Rattle.ov_report.specs.Faults.{fault_line, fault_status, memory_line}
-use Rattle.ov_host.specs.Hosting.{EndsServing, IsOpenStatus, Serves, door_line, listening_line, served_line}
+use Rattle.ov_io.specs.Tells.{SinkTells, SourceTells}
+use Rattle.ov_peer.specs.Tells.{AnswererTells}
+use Rattle.ov_turn.specs.Passes.{PassState}
+use Rattle.ov_serving.specs.Sessions.{serves_by_pass}
+use Rattle.ov_serving.specs.Spawning.{SpawnerState}
+use Rattle.ov_host.specs.Hosting.{IsOpenStatus}
+use Rattle.ov_host.specs.Serving.{EndsServing, Serves, door_line, listening_line, served_line}
+use Rattle.ov_host.specs.Sharing.{ServesValue}
 
 -- the status of a line that was put, or couldn't be
 ended_in : (last : List ℕ) (code : ℕ) (old new : Option (List ℕ)) (status : ℕ) → EndsIn last code old new status → (status ≡ code) ⊎ (status ≡ 6)
@@ -40,8 +47,9 @@ served_ends false served old new status ends = by_line (ended_or (served_line se
   by_line (inr (inl is)) = inr (inl is)
   by_line (inr (inr is)) = inr (inr (inl is))
 
-module _ {V S : Type 0} (one : OneSession V S) (v w : V) (old new : Doorway S) (wanted : ℕ) (before after : Option (List ℕ)) (status : ℕ) where
-  serves_ends : Serves one v w old new wanted before after status → Ended status
+module _ {V S G : Type 0} (one : OneSession (PassState V) S) (first last : List (PassState V)) (old new : Doorway S) (idle done : SpawnerState S V G)
+    (wanted : ℕ) (before after : Option (List ℕ)) (status : ℕ) where
+  serves_ends : Serves one first last old new idle done wanted before after status → Ended status
   unfolding Ended
   serves_ends (inl fails) = by_line (ended_in door_line 13 before after status fails.ends) where
     by_line : (status ≡ 13) ⊎ (status ≡ 6) → (status ≡ 0) ⊎ ((status ≡ 6) ⊎ ((status ≡ 7) ⊎ (status ≡ 13)))
@@ -56,10 +64,23 @@ module _ {V S : Type 0} (one : OneSession V S) (v w : V) (old new : Doorway S) (
   serves_ends (inr (address, here, inr tells)) =
       served_ends tells.serves.failed tells.serves.served tells.between after status tells.serves.ends
 
+-- memory was refused, and the line was put or couldn't be
+memory_ends : (before after : Option (List ℕ)) (status : ℕ) → EndsIn memory_line 7 before after status → Ended status
+unfolding Ended
+memory_ends before after status (inl (is, put)) = inr (inr (inl is))
+memory_ends before after status (inr (is, put)) = inr (inl is)
+
+module _ {V S G : Type 0} (answerer : AnswererTells V) (source : SourceTells S) (sink : SinkTells S) (value left : V) (workers : ℕ)
+    (old new : Doorway S) (idle done : SpawnerState S V G) (wanted : ℕ) (before after : Option (List ℕ)) (status : ℕ) where
+  value_ends : ServesValue answerer source sink value left workers old new idle done wanted before after status → Ended status
+  value_ends (inl fails) = memory_ends before after status fails.ends
+  value_ends (inr shares) =
+      serves_ends (serves_by_pass answerer source sink) shares.first shares.last old new idle done wanted before after status shares.serves
+
   -- the status isn't 4
-  pub serves_not_4 : Serves one v w old new wanted before after status → status ≡ 4 → ⊥
+  pub serves_not_4 : ServesValue answerer source sink value left workers old new idle done wanted before after status → status ≡ 4 → ⊥
   unfolding Ended
-  serves_not_4 serves four = not_4 status (serves_ends serves) four where
+  serves_not_4 serves four = not_4 status (value_ends serves) four where
     not_4 : (n : ℕ) → (n ≡ 0) ⊎ ((n ≡ 6) ⊎ ((n ≡ 7) ⊎ (n ≡ 13))) → n ≡ 4 → ⊥
     not_4 n (inl is) four = omega (arith, is, four)
     not_4 n (inr (inl is)) four = omega (arith, is, four)
@@ -67,9 +88,9 @@ module _ {V S : Type 0} (one : OneSession V S) (v w : V) (old new : Doorway S) (
     not_4 n (inr (inr (inr is))) four = omega (arith, is, four)
 
   -- the status is one of a server whose disk has its store
-  pub serves_open : Serves one v w old new wanted before after status → IsOpenStatus status
+  pub serves_open : ServesValue answerer source sink value left workers old new idle done wanted before after status → IsOpenStatus status
   unfolding Ended
-  serves_open serves = as_open (serves_ends serves) where
+  serves_open serves = as_open (value_ends serves) where
     as_open : (status ≡ 0) ⊎ ((status ≡ 6) ⊎ ((status ≡ 7) ⊎ (status ≡ 13))) → IsOpenStatus status
     as_open (inl is) = inl is
     as_open (inr (inl is)) = inr (inr (inl is))

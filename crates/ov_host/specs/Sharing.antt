@@ -1,5 +1,6 @@
 -- A value that sessions share while a door is served, and what it is left with.
 use Rattle.std.specs.Prelude.{◌≡◌, ◌⊎◌, ℕ, List, [], length, Option}
+use Rattle.std.specs.List.Sorted.{IsPermutation}
 use Rattle.std.proofs.Common.{inl, inr}
 use Rattle.ov_io.specs.Tells.{SinkTells, SourceTells}
 use Rattle.ov_peer.specs.Tells.{AnswererTells}
@@ -7,7 +8,7 @@ use Rattle.ov_session.specs.Doors.{Doorway}
 use Rattle.ov_turn.specs.declared.view.Entry.{Entry}
 use Rattle.ov_turn.specs.Logs.{own, spellings}
 use Rattle.ov_turn.specs.Passes.{AreFirst, IsLeft, PassState, SharedState}
-use Rattle.ov_serving.specs.Accepted.{accepted_by}
+use Rattle.ov_serving.specs.Accepted.{accepted_in_sessions}
 use Rattle.ov_serving.specs.Sessions.{serves_by_pass}
 use Rattle.ov_serving.specs.Spawning.{SpawnerState}
 use Rattle.ov_report.specs.Ends.{EndsIn}
@@ -16,24 +17,25 @@ use Rattle.ov_host.specs.Serving.{Serves}
 
 module _ {V S G : Type 0} (answerer : AnswererTells V) (source : SourceTells S) (sink : SinkTells S)
     where
-  -- the updates that the sessions of this pass accepted, in the order of the sessions
-  abbrev pub accepted : ℕ → (first last : List (PassState V)) (old new : Doorway S)
+  -- the updates that the sessions accepted, in the order of the sessions
+  abbrev pub accepted : (first last : List (PassState V)) (old new : Doorway S)
       (idle done : SpawnerState S V G) (wanted : ℕ) (before after : Option (List ℕ)) (status : ℕ)
       → Serves (serves_by_pass answerer source sink) first last old new idle done wanted before
       after status → List Entry
-  accepted pass first last old new idle done wanted before after status (inl fails) = []
-  accepted pass first last old new idle done wanted before after status
+  accepted first last old new idle done wanted before after status (inl fails) = []
+  accepted first last old new idle done wanted before after status
       (inr (address, here, inl fails)) = []
-  accepted pass first last old new idle done wanted before after status
+  accepted first last old new idle done wanted before after status
       (inr (address, here, inr tells)) =
-      accepted_by answerer source sink pass first tells.serves.sessions.sessions last
+      accepted_in_sessions answerer source sink first tells.serves.sessions.sessions last
       tells.serves.sessions.passes
 
 module _ {V S G : Type 0} (answerer : AnswererTells V) (source : SourceTells S) (sink : SinkTells S)
     (value left : V) (workers : ℕ) (old new : Doorway S) (idle done : SpawnerState S V G)
     (wanted : ℕ) (before after : Option (List ℕ)) (status : ℕ) where
   -- The value was shared by so many passes, by which the door was served. It is left with one list
-  -- of accepted updates, and those of each pass are the ones that its sessions accepted.
+  -- of accepted updates: each that a session accepted is there once, and those of a pass are in the
+  -- order of its sessions.
   pub record Shares : Type 0 where
     pub shared : SharedState V
     pub start : shared.start ≡ value
@@ -45,9 +47,11 @@ module _ {V S G : Type 0} (answerer : AnswererTells V) (source : SourceTells S) 
     pub serves : Serves (serves_by_pass answerer source sink) first last old new idle done wanted
         before after status
     pub is_left : IsLeft answerer shared last left
-    pub accepts : (pass : ℕ) → own pass is_left.0
-        ≡ accepted answerer source sink pass first last old new idle done wanted before after status
-        serves
+    pub accepts : IsPermutation is_left.0
+        (accepted answerer source sink first last old new idle done wanted before after status serves)
+    pub in_order : (pass : ℕ) → own pass is_left.0
+        ≡ own pass (accepted answerer source sink first last old new idle done wanted before after
+        status serves)
 
   -- Memory was refused for the passes: nothing was served, and the line says so.
   pub record FailsToShare : Type 0 where

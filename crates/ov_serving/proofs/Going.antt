@@ -1,5 +1,5 @@
 -- Serving goes on, and ends.
-use Rattle.std.proofs.Common.{◌≡◌, ◌∙◌, ◌⊎◌, inl, inr, ℕ, ◌+◌, ◌<◌, ◌≤◌, List, [], ◌∷◌, ◌++◌, Some, None, refl, sym, ap, subst, length, length-append, append-nil, map, arith, Bool, true, false}
+use Rattle.std.proofs.Common.{◌≡◌, ◌∙◌, ◌⊎◌, inl, inr, ℕ, zero, suc, ◌+◌, ◌-◌, ◌^◌, ◌<◌, ◌≤◌, List, [], ◌∷◌, ◌++◌, Some, None, refl, sym, ap, subst, length, length-append, append-nil, map, arith, Bool, true, false}
 use Rattle.std.specs.Prelude.{All, Option, Ok, max, min}
 use Rattle.std.proofs.lemmas.Bool.Decides.{nat_tests}
 use Rattle.std.proofs.lemmas.List.Elements.{All-nil}
@@ -16,9 +16,9 @@ use Rattle.ov_serving.specs.declared.session.Ended.{Ended}
 use Rattle.ov_serving.specs.declared.session.Session as made
 use Rattle.ov_serving.specs.declared.serving.Next.TheVariants as nexts
 use Rattle.ov_serving.specs.AtOnce.{PassSession, ServesAll, plain}
-use Rattle.ov_serving.specs.Places.{Begins, ComesBack, EndsFirst, FreesOne, GoesOn, HasServed, IsBusy, LeavesFree, Over, Stands, TakesNext, and_places, parts}
+use Rattle.ov_serving.specs.Places.{Begins, ComesBack, EndsOne, FreesOne, GoesOn, HasServed, IsBusy, LeavesFree, Over, Stands, TakesNext, and_places, parts}
 use Rattle.ov_serving.specs.Sessions.{IsOfSame, serves_by_pass}
-use Rattle.ov_serving.specs.Spawning.{Finishes, SpawnerState}
+use Rattle.ov_serving.specs.Spawning.{CountsRefused, Finishes, SpawnerState}
 use Rattle.ov_serving.proofs.Placing.{all_over, leads_all, length_over, told_all}
 use Rattle.ov_serving.proofs.Standing.{finished, same_door, served_one_here, stands_too, started_one}
 
@@ -40,15 +40,40 @@ least_within : (served passes most started : ℕ) → started ≤ most
 least_within served passes most started within (inl full) = grind (arith, nat_tests)
 least_within served passes most started within (inr all) = grind (arith, nat_tests)
 
+rose_by_one : (first mid last : ℕ) → mid ≡ first → last ≡ min (mid + 1) (2 ^ 64 - 1) → Rose first last
+rose_by_one first mid last same is = grind (arith, nat_tests)
+
+rose_again : (first mid last : ℕ) → Rose first mid → last ≡ min (mid + 1) (2 ^ 64 - 1) → Rose first last
+rose_again first mid last rose is = grind (arith, nat_tests)
+
+-- one more session wasn't started
+refused_one : (first mid last alone now : ℕ) → CountsRefused first mid alone → last ≡ min (mid + 1) (2 ^ 64 - 1) → now ≡ alone + 1
+    → CountsRefused first last now
+refused_one first mid last alone now so is count = record {
+  stays = λ none. absurd (omega (arith, none, count));
+  rose = λ some. by_number alone refl;
+} where
+  by_number : (n : ℕ) → alone ≡ n → Rose first last
+  by_number zero none = rose_by_one first mid last (so.stays none) is
+  by_number (suc n) some = rose_again first mid last (so.rose (omega (arith, some))) is
+
+-- what is so of one count is so of an equal one
+refused_same : (first mid last alone now : ℕ) → CountsRefused first mid alone → last ≡ mid → now ≡ alone → CountsRefused first last now
+refused_same first mid last alone now so is count = record {
+  stays = λ none. is ∙ so.stays (sym count ∙ none);
+  rose = λ some. subst (λ (n : ℕ). Rose first n) (sym is) (so.rose (subst (λ (n : ℕ). 0 < n) count some));
+}
+
 finish_leaves : {L V G : Type 0} (one : OneSession (PassState V) L)
     (spawner after : SpawnerState L V G) (e : Ended L V) → Finishes one spawner (Some e) after
     → after ≡ record spawner { started = after.started }
-finish_leaves one spawner after e (s, listed, (number, served), is) = is
+finish_leaves {L} {V} {G} one spawner after e (before, s, others, listed, (number, served), is) =
+    is ∙ ap (λ l. record spawner { started = l }) (sym (ap (λ (x : SpawnerState L V G). x.started) is))
 
 begin_leaves : {L V G : Type 0} (one : OneSession (PassState V) L) (number : ℕ) (stream : L)
     (pass : PassState V) (spawner after : SpawnerState L V G) (e : Ended L V)
     → Begins one number stream pass spawner after (Some e)
-    → after ≡ record spawner { refused = after.refused }
+    → after ≡ record spawner { refused = min (spawner.refused + 1) (2 ^ 64 - 1) }
 begin_leaves one number stream pass spawner after e (same, served, is) = is
 
 full_on : {L V G : Type 0} (alone now served : ℕ) (spawner after : SpawnerState L V G) (passes : ℕ)
@@ -56,8 +81,8 @@ full_on : {L V G : Type 0} (alone now served : ℕ) (spawner after : SpawnerStat
     → length after.started ≡ length spawner.started + 1
     → (alone ≡ 0 → (passes ≤ spawner.most) ⊎ (served ≡ length spawner.started))
     → (passes ≤ after.most) ⊎ (served + 1 ≡ length after.started)
-full_on alone now served spawner after passes zero count most many full =
-    cases (full (omega (arith, zero, count))) where
+full_on alone now served spawner after passes quiet count most many full =
+    cases (full (omega (arith, quiet, count))) where
       cases : (passes ≤ spawner.most) ⊎ (served ≡ length spawner.started)
           → (passes ≤ after.most) ⊎ (served + 1 ≡ length after.started)
       cases (inl high) =
@@ -98,20 +123,21 @@ module _ {L V G : Type 0} (one : OneSession (PassState V) L)
     };
     busy = record {
       bounded = most_first before.most (length passes);
-      full = λ zero. inr (sym (ap length idle));
+      full = λ quiet. inr (sym (ap length idle));
       counted = omega (arith, none);
+      refuses = record { stays = λ quiet. refl; rose = λ some. absurd (omega (arith, none, some)) };
     };
     calm = refl;
   }
 
   -- ---- a pass is free
 
-  freed_first : (free freed : List (PassState V)) (new newer : Doorway L)
+  freed_one : (free freed : List (PassState V)) (new newer : Doorway L)
       (spawner after : SpawnerState L V G) (served alone : ℕ) → Goes free new spawner served alone
       → free ≡ [] → (e : Ended L V) → Finishes one spawner (Some e) after
       → ComesBack e new newer free freed
       → Goes freed newer after served alone × (0 < length freed)
-  freed_first free freed new newer spawner after served alone so none e ends back =
+  freed_one free freed new newer spawner after served alone so none e ends back =
       let most : after.most ≡ spawner.most = ap (λ (x : SpawnerState L V G). x.most) (finish_leaves one spawner after e ends) in
       let empty : length free ≡ 0 = ap length none in
       let longer : length freed ≡ length free + 1 =
@@ -122,8 +148,12 @@ module _ {L V G : Type 0} (one : OneSession (PassState V) L)
           busy = record {
             bounded = subst (λ (n : ℕ). n ≤ max before.most (length passes)) (sym most)
                 so.busy.bounded;
-            full = λ zero. inl (omega (arith, most, empty, so.stands.all, so.stands.within));
+            full = λ quiet. inl (omega (arith, most, empty, so.stands.all, so.stands.within));
             counted = so.busy.counted;
+            refuses = refused_same before.refused spawner.refused after.refused alone alone
+                so.busy.refuses
+                (ap (λ (x : SpawnerState L V G). x.refused) (finish_leaves one spawner after e ends))
+                refl;
           };
           calm = ap (λ (d : Doorway L). d.faults) back.shows ∙ so.calm;
         },
@@ -142,7 +172,7 @@ module _ {L V G : Type 0} (one : OneSession (PassState V) L)
     subst (λ (l : List (PassState V)). 0 < length l) (sym list) is,
   )
   freed free left new newer spawner after served alone so (inr (true, none, (e, ends, back))) =
-      freed_first free left new newer spawner after served alone so none e ends back
+      freed_one free left new newer spawner after served alone so none e ends back
   freed free left new newer spawner after served alone so (inr (false, none, (idle, same, door, list))) =
       let empty : length free ≡ 0 = ap length none in
       let still : length spawner.started ≡ 0 = ap length idle in
@@ -170,9 +200,11 @@ module _ {L V G : Type 0} (one : OneSession (PassState V) L)
           bounded = most_within spawner.most before.most after.most (length spawner.started)
               (length passes) most so.busy.bounded
               (omega (arith, so.stands.all, shorter));
-          full = λ zero. full_on alone now served spawner after (length passes) zero count most many
+          full = λ quiet. full_on alone now served spawner after (length passes) quiet count most many
               so.busy.full;
           counted = omega (arith, so.busy.counted, count);
+          refuses = refused_same before.refused spawner.refused after.refused alone now
+              so.busy.refuses (ap (λ (x : SpawnerState L V G). x.refused) starts) count;
         };
         calm = ap (λ (d : Doorway L). d.faults) door ∙ so.calm;
       }
@@ -186,8 +218,13 @@ module _ {L V G : Type 0} (one : OneSession (PassState V) L)
         busy = record {
           bounded = subst (λ (n : ℕ). n ≤ max before.most (length passes)) (sym most)
               so.busy.bounded;
-          full = λ zero. absurd (omega (arith, zero, count));
+          full = λ quiet. absurd (omega (arith, quiet, count));
           counted = omega (arith, so.busy.counted, count);
+          refuses = refused_one before.refused spawner.refused after.refused alone now
+              so.busy.refuses
+              (ap (λ (x : SpawnerState L V G). x.refused)
+              (begin_leaves one served stream pass spawner after e begins))
+              count;
         };
         calm = ap (λ (d : Doorway L). d.faults) back.shows ∙ so.calm;
       }
@@ -201,9 +238,9 @@ module _ {L V G : Type 0} (one : OneSession (PassState V) L)
   once : (free : List (PassState V)) (new : Doorway L) (after : SpawnerState L V G)
       (served alone : ℕ) → Goes free new after served alone → alone ≡ 0
       → min served (length passes) ≤ after.most
-  once free new after served alone so zero =
+  once free new after served alone so quiet =
       least_within served (length passes) after.most (length after.started) so.stands.within
-      (so.busy.full zero)
+      (so.busy.full quiet)
 
   pub all_came : (free : List (PassState V)) (new : Doorway L) (after : SpawnerState L V G)
       (wanted served alone : ℕ) → Goes free new after served alone → served ≡ wanted
@@ -211,8 +248,9 @@ module _ {L V G : Type 0} (one : OneSession (PassState V) L)
   all_came free new after wanted served alone so all = record {
     stands = so.stands;
     bounded = so.busy.bounded;
-    at_once = λ zero. once free new after served alone so zero;
+    at_once = λ quiet. once free new after served alone so quiet;
     counted = so.busy.counted;
+    refuses = so.busy.refuses;
     most = omega (arith, all);
     fewer = λ less. absurd (omega (arith, all, less));
     says = so.calm;
@@ -227,8 +265,9 @@ module _ {L V G : Type 0} (one : OneSession (PassState V) L)
         (ap (λ (d : Doorway L). d.listens_at) is) (ap (λ (d : Doorway L). d.told) is)
         (ap (λ (d : Doorway L). d.given) is);
     bounded = so.busy.bounded;
-    at_once = λ zero. once free new after served alone so zero;
+    at_once = λ quiet. once free new after served alone so quiet;
     counted = so.busy.counted;
+    refuses = so.busy.refuses;
     most = omega (arith, less);
     fewer = λ short. inl (ap (λ (d : Doorway L). d.closed) is);
     says = ap (λ (d : Doorway L). d.faults) is ∙ so.calm;
@@ -242,8 +281,9 @@ module _ {L V G : Type 0} (one : OneSession (PassState V) L)
         (ap (λ (d : Doorway L). d.listens_at) is) (ap (λ (d : Doorway L). d.told) is)
         (ap (λ (d : Doorway L). d.given) is);
     bounded = so.busy.bounded;
-    at_once = λ zero. once free new after served alone so zero;
+    at_once = λ quiet. once free new after served alone so quiet;
     counted = so.busy.counted;
+    refuses = so.busy.refuses;
     most = omega (arith, less);
     fewer = λ short. inr refl;
     says = subst (λ (n : ℕ). Rose n newer.faults) so.calm rose;
@@ -276,7 +316,7 @@ module _ {L V G : Type 0} (one : OneSession (PassState V) L)
   pub one_finished : (free left : List (PassState V)) (new newer : Doorway L)
       (spawner after : SpawnerState L V G) (wanted served alone : ℕ) (failed : Bool)
       → Has free new spawner wanted served alone failed
-      → EndsFirst one spawner after new newer free left true
+      → EndsOne one spawner after new newer free left true
       → Has left newer after wanted served alone failed
   one_finished free left new newer spawner after wanted served alone failed so (e, ends, back) =
       let most : after.most ≡ spawner.most = ap (λ (x : SpawnerState L V G). x.most) (finish_leaves one spawner after e ends) in
@@ -284,9 +324,12 @@ module _ {L V G : Type 0} (one : OneSession (PassState V) L)
         stands = finished one shared passes old unused free new spawner served so.stands keeps e
             after newer left ends back;
         bounded = subst (λ (n : ℕ). n ≤ max before.most (length passes)) (sym most) so.bounded;
-        at_once = λ zero. subst (λ (n : ℕ). min served (length passes) ≤ n) (sym most)
-            (so.at_once zero);
+        at_once = λ quiet. subst (λ (n : ℕ). min served (length passes) ≤ n) (sym most)
+            (so.at_once quiet);
         counted = so.counted;
+        refuses = refused_same before.refused spawner.refused after.refused alone alone so.refuses
+            (ap (λ (x : SpawnerState L V G). x.refused) (finish_leaves one spawner after e ends))
+            refl;
         most = so.most;
         fewer = λ less. subst (λ (b : Bool). (b ≡ true) ⊎ (failed ≡ true))
             (sym (ap (λ (d : Doorway L). d.closed) back.shows)) (so.fewer less);
@@ -321,7 +364,7 @@ module _ {L V G : Type 0} (one : OneSession (PassState V) L)
   pub ended_all : (free left : List (PassState V)) (new newer : Doorway L)
       (spawner after : SpawnerState L V G) (wanted served alone : ℕ) (failed : Bool)
       → Has free new spawner wanted served alone failed
-      → EndsFirst one spawner after new newer free left false
+      → EndsOne one spawner after new newer free left false
       → ServesAll one passes left old newer wanted served failed
   ended_all free left new newer spawner after wanted served alone failed so (idle, same, door, list) =
       subst (λ (d : Doorway L). ServesAll one passes left old d wanted served failed) (sym door)

@@ -1,4 +1,4 @@
--- Streams by number: the first session that goes on is over, and one more stream comes.
+-- Streams by number: one of the sessions that go on is over, and one more stream comes.
 use Rattle.std.proofs.Common.{◌≡◌, ◌∙◌, ℕ, zero, suc, ◌+◌, ◌<◌, List, [], ◌∷◌, ◌++◌, Some, None, refl, sym, ap, subst, length, append_assoc, map, arith}
 use Rattle.std.specs.Prelude.{Option, slice_get}
 use Rattle.std.specs.List.Sorted.{IsPermutation}
@@ -18,34 +18,36 @@ behind pool others q p perm =
     (IsPermutation-middle (q ∷ []) p others)
 
 module _ {P S : Type 0} where
-  -- the places, of which the first session that went on is over
-  abbrev pub over_first : List (Place P S) → PassSession P S → List (Place P S)
-  over_first [] t = []
-  over_first (Runs stream pass ∷ more) t = Over t ∷ more
-  over_first (Over s ∷ more) t = Over s ∷ over_first more t
+  -- the places, where one of the sessions that went on is over, behind so many others that go on
+  abbrev pub over_at : List (Place P S) → ℕ → PassSession P S → List (Place P S)
+  over_at [] k t = []
+  over_at (Runs stream pass ∷ more) zero t = Over t ∷ more
+  over_at (Runs stream pass ∷ more) (suc k) t = Runs stream pass ∷ over_at more k t
+  over_at (Over s ∷ more) k t = Over s ∷ over_at more k t
 
   -- what is taken back of a session's stream
   abbrev pub back_of : PassSession P S → Back S
   back_of t = record { stream = t.session.left; ending = t.session.ending }
 
-  -- the first session that goes on has this number and this stream
-  pub record RunsFirst (places : List (Place P S)) (start number : ℕ) (stream : S)
-      (t : PassSession P S) (rest : List (ℕ × S × P)) : Type 0 where
+  -- the session behind so many others that go on has this number and this stream
+  pub record RunsAt (places : List (Place P S)) (start k number : ℕ) (stream : S)
+      (t : PassSession P S) (front rest : List (ℕ × S × P)) : Type 0 where
     pub place : ℕ
     pub number_is : number ≡ start + place
     pub inside : place < length places
     pub out : slice_get (map told_of places) place ≡ Some (record { stream = stream; back = None })
-    pub back : map told_of (over_first places t)
+    pub back : map told_of (over_at places k t)
         ≡ back_at (map told_of places) place (back_of t)
-    pub after : going start (over_first places t) ≡ rest
-    pub long : length (over_first places t) ≡ length places
+    pub after : going start (over_at places k t) ≡ front ++ rest
+    pub long : length (over_at places k t) ≡ length places
 
-  pub runs_first : (places : List (Place P S)) (start number : ℕ) (stream : S) (pass : P)
-      (t : PassSession P S) (rest : List (ℕ × S × P)) → t.session.given ≡ stream
-      → going start places ≡ (number, stream, pass) ∷ rest
-      → RunsFirst places start number stream t rest
-  runs_first [] start number stream pass t rest same e = absurd (cc e)
-  runs_first (Runs st ps ∷ more) start number stream pass t rest same e =
+  pub runs_at : (places : List (Place P S)) (start number : ℕ) (stream : S) (pass : P)
+      (t : PassSession P S) (front rest : List (ℕ × S × P)) → t.session.given ≡ stream
+      → going start places ≡ front ++ (number, stream, pass) ∷ rest
+      → RunsAt places start (length front) number stream t front rest
+  runs_at [] start number stream pass t [] rest same e = absurd (cc e)
+  runs_at [] start number stream pass t (f ∷ front) rest same e = absurd (cc e)
+  runs_at (Runs st ps ∷ more) start number stream pass t [] rest same e =
       let head : (start, st, ps) ≡ (number, stream, pass) = cc in
       let tail : going (start + 1) more ≡ rest = cc in
       let is : start ≡ number = ap (λ (x : ℕ × S × P). x.0) head in
@@ -60,8 +62,22 @@ module _ {P S : Type 0} where
         after = tail;
         long = refl;
       }
-  runs_first (Over s ∷ more) start number stream pass t rest same e =
-      let r = runs_first more (start + 1) number stream pass t rest same e in
+  runs_at (Runs st ps ∷ more) start number stream pass t (f ∷ front) rest same e =
+      let head : (start, st, ps) ≡ f = cc in
+      let tail : going (start + 1) more ≡ front ++ (number, stream, pass) ∷ rest = cc in
+      let r = runs_at more (start + 1) number stream pass t front rest same tail in
+      record {
+        place = suc r.place;
+        number_is = omega (arith, r.number_is);
+        inside = omega (arith, r.inside);
+        out = r.out;
+        back = ap (λ (l : List (Given S)). told_of (Runs st ps) ∷ l) r.back;
+        after = ap (λ (x : ℕ × S × P). x ∷ going (start + 1) (over_at more (length front) t)) head
+            ∙ ap (λ (l : List (ℕ × S × P)). f ∷ l) r.after;
+        long = ap suc r.long;
+      }
+  runs_at (Over s ∷ more) start number stream pass t front rest same e =
+      let r = runs_at more (start + 1) number stream pass t front rest same e in
       record {
         place = suc r.place;
         number_is = omega (arith, r.number_is);
@@ -190,12 +206,13 @@ module _ {P S : Type 0} where
         (others, perm, is, leaves_free more (s.after ∷ others) free other moved leaves)
 
     over_leaves : (places : List (Place P S)) (pool free : List P) (start number : ℕ) (stream : S)
-        (t : PassSession P S) (rest : List (ℕ × S × P)) → IsServed one t
-        → going start places ≡ (number, stream, t.before) ∷ rest
+        (t : PassSession P S) (front rest : List (ℕ × S × P)) → IsServed one t
+        → going start places ≡ front ++ (number, stream, t.before) ∷ rest
         → LeavesFree one pool places free
-        → LeavesFree one pool (over_first places t) (t.after ∷ free)
-    over_leaves [] pool free start number stream t rest served e leaves = absurd (cc e)
-    over_leaves (Runs st ps ∷ more) pool free start number stream t rest served e (others, perm, leaves) =
+        → LeavesFree one pool (over_at places (length front) t) (t.after ∷ free)
+    over_leaves [] pool free start number stream t [] rest served e leaves = absurd (cc e)
+    over_leaves [] pool free start number stream t (f ∷ front) rest served e leaves = absurd (cc e)
+    over_leaves (Runs st ps ∷ more) pool free start number stream t [] rest served e (others, perm, leaves) =
         let head : (start, st, ps) ≡ (number, stream, t.before) = cc in (
           others,
           subst (λ (p : P). IsPermutation pool (p ∷ others))
@@ -203,24 +220,30 @@ module _ {P S : Type 0} where
           served,
           leaves_more more others free t.after leaves,
         )
-    over_leaves (Over s ∷ more) pool free start number stream t rest served e (others, perm, is, leaves) = (
+    over_leaves (Runs st ps ∷ more) pool free start number stream t (f ∷ front) rest served e (others, perm, leaves) =
+        let tail : going (start + 1) more ≡ front ++ (number, stream, t.before) ∷ rest = cc in (
+          others,
+          perm,
+          over_leaves more others free (start + 1) number stream t front rest served tail leaves,
+        )
+    over_leaves (Over s ∷ more) pool free start number stream t front rest served e (others, perm, is, leaves) = (
       others,
       perm,
       is,
-      over_leaves more (s.after ∷ others) free (start + 1) number stream t rest served e leaves,
+      over_leaves more (s.after ∷ others) free (start + 1) number stream t front rest served e leaves,
     )
 
-    -- the first session that went on is over, and its pass stands behind the free ones
+    -- one of the sessions that went on is over, and its pass stands behind the free ones
     pub leaves_over : (places : List (Place P S)) (pool free : List P) (number : ℕ) (stream : S)
-        (t : PassSession P S) (rest : List (ℕ × S × P)) → IsServed one t
-        → going 0 places ≡ (number, stream, t.before) ∷ rest
+        (t : PassSession P S) (front rest : List (ℕ × S × P)) → IsServed one t
+        → going 0 places ≡ front ++ (number, stream, t.before) ∷ rest
         → LeavesFree one pool places free
-        → LeavesFree one pool (over_first places t) (free ++ t.after ∷ [])
-    leaves_over places pool free number stream t rest served e leaves =
-        leaves_free (over_first places t) pool (t.after ∷ free) (free ++ t.after ∷ [])
+        → LeavesFree one pool (over_at places (length front) t) (free ++ t.after ∷ [])
+    leaves_over places pool free number stream t front rest served e leaves =
+        leaves_free (over_at places (length front) t) pool (t.after ∷ free) (free ++ t.after ∷ [])
         (IsPermutation-sym (free ++ t.after ∷ []) (t.after ∷ free)
         (IsPermutation-to_front free t.after))
-        (over_leaves places pool free 0 number stream t rest served e leaves)
+        (over_leaves places pool free 0 number stream t front rest served e leaves)
 
     -- the last of the free passes serves one more stream
     pub leaves_one : (places : List (Place P S)) (pool others : List P) (stream : S) (pass : P)

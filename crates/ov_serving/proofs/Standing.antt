@@ -1,9 +1,9 @@
 -- What stands between two steps of serving goes on to stand.
-use Rattle.std.proofs.Common.{◌≡◌, ◌∙◌, ◌⊎◌, inl, inr, ℕ, suc, ◌+◌, ◌<◌, ◌≤◌, List, [], ◌∷◌, ◌++◌, Some, None, refl, sym, ap, subst, length, length-append, map, arith, Bool, true, false}
+use Rattle.std.proofs.Common.{◌≡◌, ◌∙◌, ◌⊎◌, inl, inr, ℕ, suc, ◌+◌, ◌<◌, ◌≤◌, List, [], ◌∷◌, ◌++◌, Some, None, refl, sym, ap, subst, append_assoc, length, length-append, map, arith, Bool, true, false}
 use Rattle.std.specs.Prelude.{All, Option, Ok, max}
 use Rattle.std.proofs.lemmas.Bool.Decides.{nat_tests}
 use Rattle.std.proofs.lemmas.List.{map-append}
-use Rattle.std.proofs.lemmas.List.Elements.{All-cons, All-head, All-nil, All-push, All-tail}
+use Rattle.std.proofs.lemmas.List.Elements.{All-append, All-cons, All-head, All-nil, All-push, All-tail}
 use Rattle.ov_session.specs.declared.end.SessionEnd.{SessionEnd}
 use Rattle.ov_session.specs.declared.end.SessionEnd.TheVariants as ends
 use Rattle.ov_session.specs.Doors.{Doorway, Given, IsOut, IsOutAmong, IsUnused, and_one, taken_back, told_back}
@@ -14,10 +14,10 @@ use Rattle.ov_turn.specs.Passes.{IsPassOf, PassState, SharedState}
 use Rattle.ov_serving.specs.declared.session.Ended.{Ended}
 use Rattle.ov_serving.specs.declared.session.Session as made
 use Rattle.ov_serving.specs.AtOnce.{IsServed, PassSession}
-use Rattle.ov_serving.specs.Places.{Begins, ComesBack, EndsFirst, FirstIsOut, FreesOne, LeavesFree, Place, Runs, Over, Settles, Stands, and_places, gave, going, parts, told_of}
+use Rattle.ov_serving.specs.Places.{AreOut, Begins, ComesBack, FreesOne, LeavesFree, Place, Runs, Over, Settles, Stands, and_places, gave, going, parts, told_of}
 use Rattle.ov_serving.specs.Sessions.{IsOfSame}
 use Rattle.ov_serving.specs.Spawning.{Finishes, SpawnerState, Starts}
-use Rattle.ov_serving.proofs.Placing.{all_over, back_of, going_one, going_same, leaves_one, leaves_over, leaves_served, out_among, over_first, runs_first, tells_many, told_more, told_one, told_over}
+use Rattle.ov_serving.proofs.Placing.{all_over, back_of, going_one, going_same, leaves_one, leaves_over, leaves_served, out_among, over_at, runs_at, tells_many, told_more, told_one, told_over}
 
 -- a door by what it shows
 pub same_door : {S : Type 0} (d : Doorway S) (listens : Option (List ℕ)) (told : Option (List (Given S)))
@@ -42,6 +42,13 @@ All-front P [] ys all = All-nil P
 All-front P (x ∷ xs) ys all =
     All-cons P x xs (All-head P x (xs ++ ys) all) (All-front P xs ys (All-tail P x (xs ++ ys) all))
 
+All-behind : {X : Type 0} (P : X → Type 0) (xs ys : List X) → All P (xs ++ ys) → All P ys
+All-behind P [] ys all = all
+All-behind P (x ∷ xs) ys all = All-behind P xs ys (All-tail P x (xs ++ ys) all)
+
+length-more : (a b : ℕ) → a + suc b ≡ suc (a + b)
+length-more a b = omega arith
+
 All-last : {X : Type 0} (P : X → Type 0) (xs : List X) (x : X) → All P (xs ++ x ∷ []) → P x
 All-last P [] x all = All-head P x [] all
 All-last P (y ∷ xs) x all = All-last P xs x (All-tail P y (xs ++ x ∷ []) all)
@@ -54,6 +61,28 @@ over stream pass e = record {
   after = e.pass;
 }
 
+module _ {L V G : Type 0} (one : OneSession (PassState V) L) where
+  out_among_all : (d : Doorway L) (before : List (made.Session L V G)) (s : made.Session L V G)
+      (others : List (made.Session L V G)) → AreOut d (before ++ s ∷ others) → IsOut d s.number
+  out_among_all d [] s others all = all.0
+  out_among_all d (first ∷ before) s others all = out_among_all d before s others all.1
+
+  -- the session that was finished is out of the door
+  pub ended_out : (d : Doorway L) (spawner after : SpawnerState L V G) (e : Ended L V)
+      → Finishes one spawner (Some e) after → AreOut d spawner.started → IsOut d e.number
+  ended_out d spawner after e (before, s, others, listed, (number, served), is) all =
+      subst (λ (n : ℕ). IsOut d n) (sym number)
+      (out_among_all d before s others (subst (λ l. AreOut d l) listed all))
+
+  -- and there is room for its pass
+  pub ended_room : (spawner after : SpawnerState L V G) (e : Ended L V)
+      → Finishes one spawner (Some e) after → (free room : ℕ)
+      → length spawner.started + free ≤ room → free < room
+  ended_room spawner after e (before, s, others, listed, ends, is) free room fits =
+      let many : length spawner.started ≡ length before + suc (length others) =
+      ap length listed ∙ length-append before (s ∷ others) in
+      omega (arith, many, fits)
+
 module _ {L V G : Type 0} where
   module _ (one : OneSession (PassState V) L) (shared : SharedState V) (passes : List (PassState V))
       (old : Doorway L) (unused : IsUnused old) where
@@ -62,6 +91,10 @@ module _ {L V G : Type 0} where
 
     module _ (free : List (PassState V)) (new : Doorway L) (spawner : SpawnerState L V G)
         (served : ℕ) (so : StandsAt free new spawner served) where
+      -- a started session has a pass of the shared value
+      abbrev IsOwn : made.Session L V G → Type 0
+      IsOwn x = IsPassOf shared x.pass
+
       told_is : new.told ≡ and_places old.told so.places
       told_is = ap (λ (d : Doorway L). d.told) so.shows
 
@@ -71,26 +104,29 @@ module _ {L V G : Type 0} where
       listens_is : new.listens_at ≡ old.listens_at
       listens_is = ap (λ (d : Doorway L). d.listens_at) so.shows
 
-      first_out_of : (started : List (made.Session L V G)) → map parts started ≡ going 0 so.places
-          → FirstIsOut new started
-      first_out_of [] same = tt
-      first_out_of (s ∷ more) same =
+      all_out_of : (front : List (ℕ × L × PassState V)) (started : List (made.Session L V G))
+          → front ++ map parts started ≡ going 0 so.places → AreOut new started
+      all_out_of front [] same = tt
+      all_out_of front (s ∷ more) same =
           let t : PassSession (PassState V) L = record {
             session = record { given = s.stream; left = s.stream; ending = ends.End };
             before = s.pass;
             after = s.pass;
           } in
-          let r = runs_first so.places 0 s.number s.stream s.pass t (map parts more) refl (sym same) in
-          let number : s.number ≡ r.place = omega (arith, r.number_is) in
-          record {
-            given = omega (arith, given_is, so.number, number, r.inside);
-            out = subst (λ (told : Option (List (Given L))). IsOutAmong told s.number) (sym told_is)
-                (out_among old.told so.places s.number r.place s.stream unused.told number r.out);
-          }
+          let r = runs_at so.places 0 s.number s.stream s.pass t front (map parts more) refl (sym same) in
+          let number : s.number ≡ r.place = omega (arith, r.number_is) in (
+            record {
+              given = omega (arith, given_is, so.number, number, r.inside);
+              out = subst (λ (told : Option (List (Given L))). IsOutAmong told s.number) (sym told_is)
+                  (out_among old.told so.places s.number r.place s.stream unused.told number r.out);
+            },
+            all_out_of (front ++ parts s ∷ []) more
+                (append_assoc front (parts s ∷ []) (map parts more) ∙ same),
+          )
 
-      -- the first of the started sessions is out of the door
-      pub first_out : FirstIsOut new spawner.started
-      first_out = first_out_of spawner.started so.running
+      -- the started sessions are out of the door
+      pub all_out : AreOut new spawner.started
+      all_out = all_out_of [] spawner.started so.running
 
       -- the door has given as many streams
       pub is_at : IsAt new served
@@ -100,45 +136,52 @@ module _ {L V G : Type 0} where
             (tells_many old.told so.places served unused.told so.number);
       }
 
-      -- the first of the started sessions was finished
+      -- one of the started sessions was finished
       pub finished : ((p q : PassState V) (given left : L) (ending : SessionEnd)
           → one p q given left ending → IsOfSame p q)
           → (e : Ended L V) (after : SpawnerState L V G) (newer : Doorway L)
           (freed : List (PassState V)) → Finishes one spawner (Some e) after
           → ComesBack e new newer free freed → StandsAt freed newer after served
-      finished keeps e after newer freed (s, listed, (number_is, served_so), is) back =
+      finished keeps e after newer freed (before, s, others, listed, (number_is, served_so), is) back =
           let t = over s.stream s.pass e in
-          let starts : going 0 so.places ≡ (s.number, s.stream, s.pass) ∷ map parts after.started =
-          sym so.running ∙ ap (map parts) listed in
-          let r = runs_first so.places 0 s.number s.stream s.pass t (map parts after.started) refl starts in
+          let front = map parts before in
+          let rest = map parts others in
+          let left : after.started ≡ before ++ others = ap (λ (x : SpawnerState L V G). x.started) is in
+          let starts : going 0 so.places ≡ front ++ (s.number, s.stream, s.pass) ∷ rest =
+          sym so.running ∙ ap (map parts) listed ∙ map-append parts before (s ∷ others) in
+          let placed = over_at so.places (length front) t in
+          let r = runs_at so.places 0 s.number s.stream s.pass t front rest refl starts in
           let number : e.number ≡ r.place = omega (arith, number_is, r.number_is) in
           let same = keeps s.pass e.pass s.stream e.stream e.ending served_so in
-          let running : All (λ (x : made.Session L V G). IsPassOf shared x.pass) (s ∷ after.started) =
-          subst (λ l. All (λ (x : made.Session L V G). IsPassOf shared x.pass) l) listed so.own_running in
-          let own = All-head (λ (x : made.Session L V G). IsPassOf shared x.pass) s after.started running in
-          let many : length spawner.started ≡ suc (length after.started) = ap length listed in
+          let running : All IsOwn (before ++ s ∷ others) = subst (λ l. All IsOwn l) listed so.own_running in
+          let own = All-head IsOwn s others (All-behind IsOwn before (s ∷ others) running) in
+          let many : length spawner.started ≡ suc (length after.started) =
+          ap length listed ∙ length-append before (s ∷ others)
+          ∙ length-more (length before) (length others)
+          ∙ ap suc (sym (ap length left ∙ length-append before others)) in
           let longer : length freed ≡ length free + 1 =
           ap length back.frees ∙ length-append free (e.pass ∷ []) in
           let most : after.most ≡ spawner.most = ap (λ (x : SpawnerState L V G). x.most) is in
           record {
-            places = over_first so.places t;
+            places = placed;
             number = so.number ∙ sym r.long;
-            shows = same_door newer old.listens_at (and_places old.told (over_first so.places t)) served
+            shows = same_door newer old.listens_at (and_places old.told placed) served
                 (ap (λ (d : Doorway L). d.listens_at) back.shows ∙ listens_is)
                 (ap (λ (d : Doorway L). d.told) back.shows
                 ∙ ap (λ (told : Option (List (Given L))). told_back told e.number (back_of t)) told_is
-                ∙ told_over old.told so.places (over_first so.places t) e.number r.place (back_of t)
+                ∙ told_over old.told so.places placed e.number r.place (back_of t)
                 unused.told number r.back)
                 (ap (λ (d : Doorway L). d.given) back.shows ∙ given_is);
-            running = sym r.after;
-            leaves = subst (λ (l : List (PassState V)).
-                LeavesFree one passes (over_first so.places t) l) (sym back.frees)
-                (leaves_over one so.places passes free s.number s.stream t (map parts after.started)
+            running = ap (map parts) left ∙ map-append parts before others ∙ sym r.after;
+            leaves = subst (λ (l : List (PassState V)). LeavesFree one passes placed l) (sym back.frees)
+                (leaves_over one so.places passes free s.number s.stream t front rest
                 served_so starts so.leaves);
             own_free = subst (λ (l : List (PassState V)). All (IsPassOf shared) l) (sym back.frees)
                 (All-push (IsPassOf shared) free e.pass so.own_free
                 (same.0 ∙ own.0, same.1 ∙ own.1));
-            own_running = All-tail (λ (x : made.Session L V G). IsPassOf shared x.pass) s after.started running;
+            own_running = subst (λ l. All IsOwn l) (sym left)
+                (All-append IsOwn before others (All-front IsOwn before (s ∷ others) running)
+                (All-tail IsOwn s others (All-behind IsOwn before (s ∷ others) running)));
             all = omega (arith, so.all, many, longer);
             within = omega (arith, so.within, many, most);
           }

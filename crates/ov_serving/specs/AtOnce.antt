@@ -4,7 +4,7 @@ use Rattle.std.specs.Prelude.{Bool, true}
 use Rattle.std.specs.List.Sorted.{IsPermutation}
 use Rattle.ov_session.specs.Doors.{Doorway}
 use Rattle.ov_session.specs.Serving.{OneSession, SaysRose, Session, and_all}
-use Rattle.ov_serving.specs.Spawning.{SpawnerState}
+use Rattle.ov_serving.specs.Spawning.{CountsRefused, SpawnerState}
 
 -- a session, and its pass before it and after it
 pub record PassSession (P S : Type 0) : Type 0 where
@@ -45,10 +45,12 @@ pub record ServesAll {P S : Type 0} (one : OneSession P S) (before after : List 
   pub says : SaysRose old.faults new.faults failed
 
 -- All sessions that were started are finished. There were never more of them at once than passes,
--- and where the caller ran none itself there were once as many as passes, or as were served.
+-- and where the caller ran none itself there were once as many as passes, or as were served. The
+-- spawner counted those that the caller ran.
 pub record WentAtOnce {L V G : Type 0} (old new : SpawnerState L V G) (passes served alone : ℕ)
     : Type 0 where
   pub finished : new.started ≡ []
   pub bounded : new.most ≤ max old.most passes
   pub at_once : alone ≡ 0 → min served passes ≤ new.most
   pub counted : alone ≤ served
+  pub refuses : CountsRefused old.refused new.refused alone

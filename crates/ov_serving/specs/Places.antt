@@ -1,5 +1,5 @@
 -- Inner: no public contract needs this. How far the sessions of a door are.
-use Rattle.std.specs.Prelude.{◌≡◌, ◌<◌, ◌≤◌, ◌+◌, ◌⊎◌, ℕ, List, [], ◌∷◌, ◌++◌, All, length, map, max, min}
+use Rattle.std.specs.Prelude.{◌≡◌, ◌<◌, ◌≤◌, ◌+◌, ◌-◌, ◌^◌, ◌⊎◌, ℕ, List, [], ◌∷◌, ◌++◌, All, length, map, max, min}
 use Rattle.std.specs.Prelude.{Bool, true, false, Option, Some, None, Ok}
 use Rattle.std.specs.List.Sorted.{IsPermutation}
 use Rattle.ov_session.specs.Doors.{Doorway, FailsOnce, Given, IsOut, and_one, taken_back}
@@ -10,7 +10,7 @@ use Rattle.ov_serving.specs.declared.session.Ended.{Ended}
 use Rattle.ov_serving.specs.declared.serving.Next.{Next}
 use Rattle.ov_serving.specs.declared.serving.Next.TheVariants as nexts
 use Rattle.ov_serving.specs.AtOnce.{IsServed, PassSession}
-use Rattle.ov_serving.specs.Spawning.{Finishes, SpawnerState, Starts}
+use Rattle.ov_serving.specs.Spawning.{CountsRefused, Finishes, SpawnerState, Starts}
 
 -- ---- streams by number
 
@@ -82,6 +82,7 @@ module _ {L V G : Type 0} where
     pub bounded : new.most ≤ max old.most passes
     pub full : alone ≡ 0 → (passes ≤ new.most) ⊎ (served ≡ length new.started)
     pub counted : alone ≤ served
+    pub refuses : CountsRefused old.refused new.refused alone
 
 -- ---- steps
 
@@ -96,25 +97,25 @@ pub record ComesBack {L V : Type 0} (ended : Ended L V) (old new : Doorway L)
   pub frees : freed ≡ free ++ ended.pass ∷ []
 
 module _ {L V G : Type 0} where
-  -- the first started session is out of the door
-  abbrev pub FirstIsOut : Doorway L → List (Session L V G) → Type 0
-  FirstIsOut d [] = Unit {0}
-  FirstIsOut d (s ∷ more) = IsOut d s.number
+  -- the started sessions are out of the door
+  abbrev pub AreOut : Doorway L → List (Session L V G) → Type 0
+  AreOut d [] = Unit {0}
+  AreOut d (s ∷ more) = IsOut d s.number × AreOut d more
 
-  -- the first started session was finished, or there was none
-  abbrev pub EndsFirst : OneSession (PassState V) L → (before after : SpawnerState L V G)
+  -- one of the started sessions was finished, or there was none
+  abbrev pub EndsOne : OneSession (PassState V) L → (before after : SpawnerState L V G)
       → (old new : Doorway L) → (free freed : List (PassState V)) → Bool → Type 0
-  EndsFirst one before after old new free freed true =
+  EndsOne one before after old new free freed true =
       (e : Ended L V) × Finishes one before (Some e) after × ComesBack e old new free freed
-  EndsFirst one before after old new free freed false =
+  EndsOne one before after old new free freed false =
       (before.started ≡ []) × (after ≡ before) × (new ≡ old) × (freed ≡ free)
 
-  -- a pass was free, or the first started session was finished
+  -- a pass was free, or one of the started sessions was finished
   abbrev pub FreesOne : OneSession (PassState V) L → (before after : SpawnerState L V G)
       → (old new : Doorway L) → (free freed : List (PassState V)) → Type 0
   FreesOne one before after old new free freed =
       ((0 < length free) × (after ≡ before) × (new ≡ old) × (freed ≡ free))
-      ⊎ ((ended : Bool) × (free ≡ []) × EndsFirst one before after old new free freed ended)
+      ⊎ ((ended : Bool) × (free ≡ []) × EndsOne one before after old new free freed ended)
 
   -- the session of a stream was started, or it was served here
   abbrev pub Begins : OneSession (PassState V) L → ℕ → L → PassState V
@@ -123,7 +124,7 @@ module _ {L V G : Type 0} where
       (s : Session L V G) × (parts s ≡ (number, stream, pass)) × Starts before s (Ok tt) after
   Begins one number stream pass before after (Some e) =
       (e.number ≡ number) × one pass e.pass stream e.stream e.ending
-      × (after ≡ record before { refused = after.refused })
+      × (after ≡ record before { refused = min (before.refused + 1) (2 ^ 64 - 1) })
 
   -- the session was started, or it was served here and what is left of it came back
   abbrev pub Settles : OneSession (PassState V) L → ℕ → L → PassState V
@@ -165,6 +166,7 @@ module _ {L V G : Type 0} where
     pub bounded : after.most ≤ max before.most (length passes)
     pub at_once : alone ≡ 0 → min served (length passes) ≤ after.most
     pub counted : alone ≤ served
+    pub refuses : CountsRefused before.refused after.refused alone
     pub most : served ≤ wanted
     pub fewer : served < wanted → (new.closed ≡ true) ⊎ (failed ≡ true)
     pub says : SaysRose old.faults new.faults failed

@@ -18,7 +18,7 @@ module _ {L V G : Type 0} where
 
   -- the session of a slot
   abbrev pub session_in : Slot L V G → Session L V G
-  session_in (slots.Running handle) = handle.promise.0.value
+  session_in (slots.Running handle line) = handle.promise.0.value
   session_in (slots.Done done) = done.0
 
   -- the sessions of slots, in order

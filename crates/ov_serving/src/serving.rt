@@ -5,7 +5,7 @@ ghost use Rattle.ov_session.specs.Doors.{IsOut, IsUnused, taken_back};
 ghost use Rattle.ov_session.specs.Turns.{IsAt};
 ghost use Rattle.ov_turn.specs.Passes.{IsPassOf};
 ghost use Rattle.ov_serving.specs.AtOnce.{ServesAll, WentAtOnce};
-ghost use Rattle.ov_serving.specs.Places.{Begins, ComesBack, EndsFirst, FirstIsOut, FreesOne};
+ghost use Rattle.ov_serving.specs.Places.{AreOut, Begins, ComesBack, EndsOne, FreesOne};
 ghost use Rattle.ov_serving.specs.Places.{HasServed, Settles, TakesNext, parts};
 ghost use Rattle.ov_serving.specs.Sessions.{serves_by_pass};
 
@@ -109,6 +109,7 @@ fn begin<
             Err(session) => Some(run(rt, common.alloc, session)),
         },
         Err((mut stream, mut pass)) => {
+            spawner.refuse();
             let (shared, gate) = (&**common.shared, &**common.gate);
             let ending = serve_by_pass(
                 rt,
@@ -151,16 +152,16 @@ fn take_back<D: Door, V: Answerer>(
     free.push_reserved(pass);
 }
 
-/// Finishes the first of the started sessions. Whether there was one.
-fn finish_first<R: Threads + Wait, D: Door, V: Answerer + Drop, G: Gate + Drop>(
+/// Finishes one of the started sessions, the first that is over. Whether there was one.
+fn finish_one<R: Threads + Wait, D: Door, V: Answerer + Drop, G: Gate + Drop>(
     rt: &R,
     door: &mut D,
     spawner: &mut Spawner<D::Stream, V, G>,
     free: &mut Vec<Pass<V>>,
 ) -> bool
-    requires out { FirstIsOut (D.shows door.old) spawner.old.started }
+    requires out { AreOut (D.shows door.old) spawner.old.started }
     requires room { length spawner.old.started + length free.old.items ≤ vec_capacity free.old }
-    ensures ends { EndsFirst (serves_by_pass V.tells D.Stream.Source.tells D.Stream.Sink.tells)
+    ensures ends { EndsOne (serves_by_pass V.tells D.Stream.Source.tells D.Stream.Sink.tells)
         spawner.old spawner.new (D.shows door.old) (D.shows door.new) free.old.items
         free.new.items result }
     ensures room { vec_capacity free.new ≡ vec_capacity free.old }
@@ -174,14 +175,14 @@ fn finish_first<R: Threads + Wait, D: Door, V: Answerer + Drop, G: Gate + Drop>(
     }
 }
 
-/// Finishes the first of the started sessions where no pass is free.
+/// Finishes one of the started sessions where no pass is free.
 fn free_one<R: Threads + Wait, D: Door, V: Answerer + Drop, G: Gate + Drop>(
     rt: &R,
     door: &mut D,
     spawner: &mut Spawner<D::Stream, V, G>,
     free: &mut Vec<Pass<V>>,
 )
-    requires out { FirstIsOut (D.shows door.old) spawner.old.started }
+    requires out { AreOut (D.shows door.old) spawner.old.started }
     requires room { length spawner.old.started + length free.old.items ≤ vec_capacity free.old }
     ensures frees { FreesOne (serves_by_pass V.tells D.Stream.Source.tells D.Stream.Sink.tells)
         spawner.old spawner.new (D.shows door.old) (D.shows door.new) free.old.items
@@ -189,7 +190,7 @@ fn free_one<R: Threads + Wait, D: Door, V: Answerer + Drop, G: Gate + Drop>(
     ensures room { vec_capacity free.new ≡ vec_capacity free.old }
 {
     if free.is_empty() {
-        finish_first(rt, door, spawner, free);
+        finish_one(rt, door, spawner, free);
     }
 }
 
@@ -344,7 +345,7 @@ where
         alone: 0,
     };
     let (served, door_failed) = serve_streams(rt, &common, door, spawner, &mut caller, sessions);
-    'ending: while finish_first(rt, door, spawner, &mut caller.free) {}
+    'ending: while finish_one(rt, door, spawner, &mut caller.free) {}
     ServeEnd {
         passes: caller.free,
         served,

@@ -11,7 +11,18 @@ use std::marker::Model;
 use std::snapshot::Snapshot;
 use std::sync::atomic::{AtomicBool, Ordering};
 use std::sync::{Arc, Wait};
-use std::thread::{Promise, PromisedHandle};
+use std::thread::{Parker, Promise, PromisedHandle};
+
+/// What a spawner and the thread of one session tell each other.
+#[derive(Drop)]
+pub struct Line {
+    /// The session is to be given back, since no thread could be made.
+    pub(crate) back: AtomicBool,
+    /// The session is over.
+    pub(crate) over: AtomicBool,
+    /// Where the spawner sleeps until a session is over.
+    pub(crate) bell: Arc<Parker, Global>,
+}
 
 /// What a thread may give for its session.
 #[derive(Drop)]
@@ -55,9 +66,19 @@ impl<L: Stream, V: Answerer, G> Model for Done<L, V, G> {
 #[derive(Drop)]
 pub enum Slot<L: Stream, V: Answerer, G> {
     /// A thread serves it.
-    Running(PromisedHandle<Outcome<L, V, G>, Of<L, V, G>>),
+    Running(PromisedHandle<Outcome<L, V, G>, Of<L, V, G>>, Arc<Line, Global>),
     /// It ended at once.
     Done(Done<L, V, G>),
+}
+
+impl<L: Stream, V: Answerer, G> Slot<L, V, G> {
+    /// Whether the session is over.
+    pub(crate) fn is_over(&self) -> bool {
+        match self {
+            Slot::Running(_, line) => line.over.load(Ordering::SeqCst),
+            Slot::Done(_) => true,
+        }
+    }
 }
 
 /// Serves the session, or gives it back where it is to.
@@ -65,14 +86,16 @@ pub(crate) fn go<R: Wait + Drop, L: Stream + Dismiss + Drop, V: Answerer + Drop,
     rt: R,
     alloc: Global,
     session: Session<L, V, G>,
-    back: Arc<AtomicBool, Global>,
+    line: Arc<Line, Global>,
 ) -> Outcome<L, V, G>
     requires { HasOwnPass session }
     ensures { IsOutcomeOf (serves_by_pass V.tells L.Source.tells L.Sink.tells) session result }
 {
-    if back.load(Ordering::SeqCst) {
-        Outcome::Back(session)
-    } else {
-        Outcome::Over(run(&rt, alloc, session))
+    if line.back.load(Ordering::SeqCst) {
+        return Outcome::Back(session);
     }
+    let ended = run(&rt, alloc, session);
+    line.over.store(true, Ordering::SeqCst);
+    line.bell.unpark();
+    Outcome::Over(ended)
 }

@@ -1,19 +1,21 @@
 //! What starts sessions and finishes them.
-ghost use Rattle.std.specs.Prelude.{◌≡◌, [], false, true};
+ghost use Rattle.std.specs.Prelude.{◌≡◌, ◌+◌, ◌-◌, ◌^◌, [], false, min, true};
 
 use crate::slot::Slot;
 use ov_io::Stream;
 use ov_peer::Answerer;
 use std::alloc::Global;
-use std::collections::VecDeque;
 use std::marker::Model;
+use std::sync::Arc;
+use std::thread::Parker;
 
-/// Starts sessions in threads of their own, and finishes them in the order in which they were
-/// started.
+/// Starts sessions in threads of their own, and finishes each once it is over.
 #[derive(Drop)]
 pub struct Spawner<L: Stream, V: Answerer, G> {
     pub(crate) alloc: Global,
-    pub(crate) started: VecDeque<Slot<L, V, G>>,
+    pub(crate) started: Vec<Slot<L, V, G>>,
+    // Where it sleeps until a session is over; there from the first thread on.
+    pub(crate) bell: Option<Arc<Parker, Global>>,
     pub(crate) most: usize,
     pub(crate) refused: u64,
     pub(crate) refuses: bool,
@@ -40,7 +42,8 @@ impl<L: Stream, V: Answerer, G> Spawner<L, V, G> {
     {
         Spawner {
             alloc,
-            started: VecDeque::new(alloc),
+            started: Vec::new(alloc),
+            bell: None,
             most: 0,
             refused: 0,
             refuses: false,
@@ -53,11 +56,21 @@ impl<L: Stream, V: Answerer, G> Spawner<L, V, G> {
     {
         Spawner {
             alloc,
-            started: VecDeque::new(alloc),
+            started: Vec::new(alloc),
+            bell: None,
             most: 0,
             refused: 0,
             refuses: true,
         }
+    }
+
+    /// Counts a session that isn't started.
+    pub(crate) fn refuse(&mut self)
+        ensures { self.new ≡ record self.old {
+          refused = min (self.old.refused + 1) (2 ^ 64 - 1);
+        } }
+    {
+        self.refused = self.refused.saturating_add(1);
     }
 
     /// The most sessions that were ever started and not finished at once.
@@ -67,7 +80,7 @@ impl<L: Stream, V: Answerer, G> Spawner<L, V, G> {
         self.most
     }
 
-    /// How many starts were refused.
+    /// How many sessions weren't started.
     pub fn refused(&self) -> u64
         ensures { result ≡ self.now.refused }
     {

@@ -2,14 +2,15 @@
 //!
 //! These are functions and no methods of a trait: the kit proves a function that starts a thread
 //! where its caller knows the types that the thread works with.
-ghost use Rattle.std.specs.Prelude.{◌≡◌, true, IsErr, MatchResult};
+ghost use Rattle.std.specs.Prelude.{◌≡◌, ◌<◌, length, true, IfErr, IsErr, MatchResult, Ok, OnOk};
 ghost use Rattle.ov_serving.specs.Sessions.{EndsAs, HasOwnPass, serves_by_pass};
 ghost use Rattle.ov_serving.specs.Slots.{IsOutcomeOf, session_in};
 ghost use Rattle.ov_serving.specs.Spawning.{Finishes, Starts};
 
 use crate::session::{Ended, Session, run};
-use crate::slot::{Done, Of, Outcome, Slot, go};
+use crate::slot::{Done, Line, Of, Outcome, Slot, go};
 use crate::spawner::Spawner;
+use ov_base::Memory;
 use ov_io::Stream;
 use ov_peer::Answerer;
 use ov_session::{Dismiss, Gate};
@@ -18,7 +19,7 @@ use std::snapshot::Snapshot;
 use std::sync::atomic::{AtomicBool, Ordering};
 use std::sync::{Arc, Wait};
 use std::thread;
-use std::thread::Threads;
+use std::thread::{Parker, Threads};
 
 /// The slot of a session that ended as it was started.
 fn done<L: Stream, V: Answerer, G>(
@@ -31,20 +32,45 @@ fn done<L: Stream, V: Answerer, G>(
     Slot::Done(Done { of, ended })
 }
 
+/// The line of a session, by this bell or the first one.
+fn line_by(
+    alloc: Global,
+    bell: &mut Option<Arc<Parker, Global>>,
+) -> Result<Arc<Line, Global>, Memory> {
+    let rung = match bell {
+        Some(bell) => Arc::try_clone(bell)?,
+        None => {
+            let first = Arc::new(alloc, Parker::new())?;
+            *bell = Some(Arc::try_clone(&first)?);
+            first
+        }
+    };
+    Ok(Arc::new(
+        alloc,
+        Line {
+            back: AtomicBool::new(false),
+            over: AtomicBool::new(false),
+            bell: rung,
+        },
+    )?)
+}
+
 /// Starts a thread for the session. Where none can be made the session comes back.
 fn begin<
     R: Threads + Wait + Copy + Send + 'static,
     L: Stream + Dismiss + Drop + Send + 'static,
     V: Answerer + Drop + Send + 'static,
     G: Gate + Drop + Send + Sync + 'static,
->(rt: &R, alloc: Global, session: Session<L, V, G>) -> Result<Slot<L, V, G>, Session<L, V, G>>
+>(
+    rt: &R,
+    alloc: Global,
+    line: Arc<Line, Global>,
+    session: Session<L, V, G>,
+) -> Result<Slot<L, V, G>, Session<L, V, G>>
     requires { HasOwnPass session }
     ensures { MatchResult result (λ slot. session_in slot ≡ session) (λ back. back ≡ session) }
 {
-    let Ok(back) = Arc::new(alloc, AtomicBool::new(false)) else {
-        return Err(session);
-    };
-    let Ok(told) = Arc::try_clone(&back) else {
+    let Ok(told) = Arc::try_clone(&line) else {
         return Err(session);
     };
     let there = *rt;
@@ -58,10 +84,10 @@ fn begin<
             ensures { IsOutcomeOf (serves_by_pass V.tells L.Source.tells L.Sink.tells) session result }
         { go(there, alloc, session, told) },
     ) {
-        Ok(handle) => Ok(Slot::Running(handle)),
+        Ok(handle) => Ok(Slot::Running(handle, line)),
         Err(refused) => {
             // No thread runs the closure, so it is told to give the session back, and called here.
-            back.store(true, Ordering::SeqCst);
+            line.back.store(true, Ordering::SeqCst);
             match (refused.value)() {
                 Outcome::Back(session) => Err(session),
                 Outcome::Over(ended) => Ok(done(of, ended)),
@@ -79,12 +105,40 @@ fn end_of<R: Threads + Wait, L: Stream + Dismiss + Drop, V: Answerer + Drop, G: 
     ensures { EndsAs (serves_by_pass V.tells L.Source.tells L.Sink.tells) (session_in slot) result }
 {
     match slot {
-        Slot::Running(handle) => match handle.join(rt) {
+        Slot::Running(handle, _) => match handle.join(rt) {
             Outcome::Over(ended) => ended,
             Outcome::Back(session) => run(rt, alloc, session),
         },
         Slot::Done(done) => done.ended,
     }
+}
+
+/// Starts a session in a thread of its own, unless the spawner refuses that, memory is refused, or
+/// no thread can be made.
+fn try_start<
+    R: Threads + Wait + Copy + Send + 'static,
+    L: Stream + Dismiss + Drop + Send + 'static,
+    V: Answerer + Drop + Send + 'static,
+    G: Gate + Drop + Send + Sync + 'static,
+>(rt: &R, spawner: &mut Spawner<L, V, G>, session: Session<L, V, G>) -> Result<(), Session<L, V, G>>
+    requires own { HasOwnPass session }
+    ensures starts { OnOk result (Starts spawner.old session (Ok tt) spawner.new) }
+    ensures back { IfErr result (λ back. (back ≡ session) × (spawner.new ≡ spawner.old)) }
+    ensures refuses { spawner.old.refuses ≡ true → IsErr result }
+{
+    if spawner.refuses {
+        return Err(session);
+    }
+    let Ok(line) = line_by(spawner.alloc, &mut spawner.bell) else {
+        return Err(session);
+    };
+    if spawner.started.reserve(1).is_err() {
+        return Err(session);
+    }
+    let slot = begin(rt, spawner.alloc, line, session)?;
+    spawner.started.push_reserved(slot);
+    spawner.most = spawner.most.max(spawner.started.len());
+    Ok(())
 }
 
 /// Starts a session in a thread of its own, behind those that were started before. Where memory is
@@ -99,24 +153,32 @@ pub fn start<
     ensures starts { Starts spawner.old session result spawner.new }
     ensures refuses { spawner.old.refuses ≡ true → IsErr result }
 {
-    if spawner.refuses || spawner.started.reserve(1).is_err() {
-        spawner.refused = spawner.refused.saturating_add(1);
-        return Err(session);
-    }
-    match begin(rt, spawner.alloc, session) {
-        Ok(slot) => {
-            spawner.started.push_back_reserved(slot);
-            spawner.most = spawner.most.max(spawner.started.len());
-            Ok(())
-        }
+    match try_start(rt, spawner, session) {
+        Ok(()) => Ok(()),
         Err(session) => {
-            spawner.refused = spawner.refused.saturating_add(1);
+            spawner.refuse();
             Err(session)
         }
     }
 }
 
-/// Waits for the first of the started sessions, and gives what is left of it; None exactly where
+/// Waits until one of the started sessions is over: its place among them.
+fn wait_for_one<R: Wait, L: Stream, V: Answerer, G>(rt: &R, spawner: &Spawner<L, V, G>) -> usize
+    requires { 0 < length spawner.now.started }
+    ensures { result < length spawner.now.started }
+{
+    for _ in rt.forever() {
+        if let Some(place) = spawner.started.as_slice().iter().position(Slot::is_over) {
+            return place;
+        }
+        if let Some(bell) = &spawner.bell {
+            bell.park(rt);
+        }
+    }
+    unreachable!()
+}
+
+/// Waits until one of the started sessions is over, and gives what is left of it; None exactly where
 /// there is none.
 pub fn finish<R: Threads + Wait, L: Stream + Dismiss + Drop, V: Answerer + Drop, G: Gate + Drop>(
     rt: &R,
@@ -125,6 +187,10 @@ pub fn finish<R: Threads + Wait, L: Stream + Dismiss + Drop, V: Answerer + Drop,
     ensures { Finishes (serves_by_pass V.tells L.Source.tells L.Sink.tells) spawner.old result
         spawner.new }
 {
-    let slot = spawner.started.pop_front()?;
+    if spawner.started.is_empty() {
+        return None;
+    }
+    let place = wait_for_one(rt, spawner);
+    let slot = spawner.started.remove(place);
     Some(end_of(rt, spawner.alloc, slot))
 }

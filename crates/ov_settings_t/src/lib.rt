@@ -8,4 +8,6 @@
 
 mod rows;
 
-pub use rows::{no_memory_is_answered_as_such, the_longest_settings_file_is_one};
+pub use rows::{
+    no_memory_is_answered_as_such, the_longest_settings_file_is_one, workers_are_four_or_given,
+};

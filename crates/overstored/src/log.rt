@@ -1,5 +1,6 @@
 //! What a server says on standard error of the updates that it accepts and of the sessions that it
-//! ends, where it is asked to.
+//! ends, where it is asked to. A line is one print, and comes behind the reply that it tells of: so
+//! lines of sessions that run at once don't mix, and may stand in another order than their epochs.
 
 use crate::heads::{Head, Heads};
 use crate::texts::on_end;

@@ -1,8 +1,11 @@
 //! The program `overstored`: a server of an over-encryption store over TCP.
 //!
-//! `overstored [--log] SETTINGS` reads its settings by [`read_settings`], and serves by [`host`], whose
-//! contracts say what it answers and with which status it ends; `main` makes the real files, the
-//! real door and the sink, and says on standard error what is wrong and what to do.
+//! `overstored [--log] SETTINGS` reads its settings by [`read_settings`], and serves by [`host`], as
+//! many sessions at once as the settings have workers, each in a thread of its own. Their contracts
+//! say what it answers and with which status it ends; `main` makes the real files, the real door, the
+//! sink and what starts the threads, and says on standard error what is wrong and what to do. A line
+//! there is one print, and one write where it has at most 1,024 bytes, so that lines of sessions which
+//! run at once don't mix.
 //!
 //! | module | what it does |
 //! |---|---|
@@ -12,7 +15,7 @@
 //! | `texts` | all texts |
 #![tactic(auto)]
 
-ghost use Rattle.std.specs.Prelude.{◌≤◌};
+ghost use Rattle.std.specs.Prelude.{◌≤◌, IfOk};
 
 mod disk;
 mod door;
@@ -28,7 +31,7 @@ use ov_base::Memory;
 use ov_disk::FileDisk;
 use ov_files::{FileFault, begins, fault_of, held_places, words_of};
 use ov_host::host;
-use ov_io::{FileSource, StdSink};
+use ov_io::{FileSource, Source, StdSink};
 use ov_serving::Spawner;
 use ov_session::{OpenGate, TcpDoor};
 use ov_settings::{Settings, read_settings};
@@ -182,6 +185,18 @@ where
     }
 }
 
+// The settings that the source has left, by words that are one word. Their workers are as many as a
+// server may have.
+fn settings_from<K: Source>(
+    rt: &HostRuntime,
+    words: &[String],
+    source: &mut K,
+) -> Result<Settings, u8>
+    ensures { IfOk result (λ s. (1 ≤ s.workers) × (s.workers ≤ 65536)) }
+{
+    read_settings(rt.alloc(), words, source)
+}
+
 // Reads the settings in this file, which the words name where they are one word, and serves by
 // them.
 fn serve_by<N: Net + Threads + Wait + AllocGlobal + Copy + Send + Drop + 'static>(
@@ -197,7 +212,7 @@ where
     let Ok(mut source) = FileSource::new(*rt, path) else {
         return out_of_memory(rt);
     };
-    match read_settings(rt.alloc(), words, &mut source) {
+    match settings_from(rt, words, &mut source) {
         Ok(settings) => {
             told::open_settings(rt, path);
             told::other_keys(rt, path);

@@ -2,7 +2,7 @@ use Rattle.std.proofs.Common.{rules, ◌≡◌, ◌∙◌, ◌<◌, refl}
 use Rattle.std.specs.Arc.{arc_value}
 use Rattle.ov_serving.specs.Sessions.{serves_by_pass}
 use Rattle.ov_serving.proofs.Going.{begun, closed_next, failed_next, freed, keeps_same, taken}
-use Rattle.ov_serving.proofs.Standing.{first_out, is_at}
+use Rattle.ov_serving.proofs.Standing.{all_out, is_at}
 use Rattle.ov_serving.proofs.serving.serve_streams.Goals as goal
 
 pub streams-init : goal.streams-init
@@ -23,7 +23,7 @@ free_one-requires-clause-out g c =
     let answerer = g.V.Answerer.tells in
     let source = g.D.Stream.Source.tells in
     let sink = g.D.Stream.Sink.tells in
-    first_out (serves_by_pass answerer source sink)
+    all_out (serves_by_pass answerer source sink)
     (arc_value c.args.common.now.shared.now) c.args.caller.now.free.items
     (g.D.Door.shows c.args.door.now) c.requires.unused c.streams.caller.free.items
     (g.D.Door.shows c.streams.door) c.streams.spawner c.streams.number
