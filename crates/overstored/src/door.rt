@@ -90,24 +90,22 @@ impl<N: Net + AllocGlobal + Drop, R> SpokenDoor<N, R> {
     }
 }
 
-impl<N: Net + AllocGlobal + Drop, R: Eprint + Clock> SpokenDoor<N, R> {
-    // The next stream of the door in this one. Where none can be had it is asked again after a pause.
-    fn next(&mut self) -> Result<Option<Connection<N::Stream>>, Fault>
-        ensures given { self.new.given ≡ self.old.given }
-        ensures closed { self.new.closed ≡ self.old.closed }
-        ensures faults { self.new.faults ≡ self.old.faults }
-        ensures listens { option_map (λ l. socket_text l.bound) self.new.door.listening
-            ≡ option_map (λ l. socket_text l.bound) self.old.door.listening }
-    {
-        for _ in 1..MOST_TRIES {
-            if let Ok(next) = self.door.accept() {
-                return Ok(next);
-            }
-            told::no_connection(&self.rt, self.door.reason());
-            thread::sleep(&self.rt, Duration::from_secs(PAUSE_SECONDS));
+// The next stream of a door. Where none can be had the door is asked again after a pause.
+fn next_of<N: Net + AllocGlobal + Drop, R: Eprint + Clock>(
+    rt: &R,
+    door: &mut TcpDoor<N>,
+) -> Result<Option<Connection<N::Stream>>, Fault>
+    ensures { option_map (λ l. socket_text l.bound) door.new.listening
+        ≡ option_map (λ l. socket_text l.bound) door.old.listening }
+{
+    for _ in 1..MOST_TRIES {
+        if let Ok(next) = door.accept() {
+            return Ok(next);
         }
-        self.door.accept()
+        told::no_connection(rt, door.reason());
+        thread::sleep(rt, Duration::from_secs(PAUSE_SECONDS));
     }
+    door.accept()
 }
 
 impl<N: Net + AllocGlobal + Drop, R: Eprint + Clock + AllocGlobal + Copy + Drop> Door
@@ -141,7 +139,7 @@ impl<N: Net + AllocGlobal + Drop, R: Eprint + Clock + AllocGlobal + Copy + Drop>
         if self.given == u64::MAX {
             return Err(self.fail());
         }
-        match self.next() {
+        match next_of(&self.rt, &mut self.door) {
             Ok(Some(stream)) => {
                 self.given += 1;
                 let client = self.door.client();
