@@ -177,6 +177,18 @@ def right_sessions():
     assert server.end(2) == []
 
 
+def sessions_at_once():
+    """While a client says nothing others are answered, more of them than there are workers, and then it is too."""
+    server = Server(new_folder(), 8)
+    with server.connect() as silent:
+        for number in range(7):
+            with server.connect() as stream:
+                assert ask(stream, HELLO) == welcome(number)
+                assert ask(stream, enrolment(number, b"u%d" % number)) == b"\x84" + struct.pack(">I", number + 1)
+        assert ask(silent, HELLO) == welcome(7)
+    assert server.end(8) == []
+
+
 def half_a_frame(server):
     with server.connect() as stream:
         assert ask(stream, HELLO) == welcome(0)
@@ -236,7 +248,8 @@ def without_port(line):
 
 def broken_sessions():
     """Behind each session that breaks a right one is answered, and the server says which broke, and how."""
-    server = Server(new_folder(), 2 * len(BROKEN))
+    # One worker: each session ends, and is told of, before the next begins.
+    server = Server(new_folder(), 2 * len(BROKEN), workers=1)
     told = []
     for number, case in enumerate(BROKEN):
         why = case(server)
@@ -250,7 +263,8 @@ def broken_sessions():
 def logged():
     """With `--log` it says which updates were accepted and how sessions ended, and nothing of what was refused."""
     folder = new_folder()
-    server = Server(folder, 3, "--log")
+    # One session ends before the next begins, so the lines have one order.
+    server = Server(folder, 3, "--log", workers=1)
     with server.connect() as stream:
         frames = [HELLO, enrolment(0, b"alice"), enrolment(0, b"bob"), enrolment(1, b"alice"), enrolment(1, b"bob")]
         # All of them are on their way before the first reply is taken.
@@ -425,23 +439,20 @@ def memory_that_is_refused():
 
 def no_descriptor_is_free():
     """A connection for which the server has no descriptor waits, and is answered once there is one."""
-    server = Server(new_folder(), 3)
+    server = Server(new_folder(), 2, workers=1)
     pid = server.process.pid
-    with server.connect() as stream:
-        assert ask(stream, HELLO) == welcome(0)
-    time.sleep(0.5)
-    # The server waits for a connection, for which the system keeps one descriptor already.
-    most = 1 + max(int(entry) for entry in os.listdir(f"/proc/{pid}/fd"))
     _, hard = resource.prlimit(pid, resource.RLIMIT_NOFILE)
-    resource.prlimit(pid, resource.RLIMIT_NOFILE, (most, hard))
     with server.connect() as first:
+        # The server waits for the end of this session, and has no descriptor for the next one then.
         assert ask(first, HELLO) == welcome(0)
-        with server.connect() as stream:
-            stream.sendall(framed(HELLO))
-            time.sleep(1.5)
-            resource.prlimit(pid, resource.RLIMIT_NOFILE, (hard, hard))
-            assert reply(stream) == welcome(0)
-    told = server.end(3)
+        most = max(int(entry) for entry in os.listdir(f"/proc/{pid}/fd"))
+        resource.prlimit(pid, resource.RLIMIT_NOFILE, (most, hard))
+    with server.connect() as stream:
+        stream.sendall(framed(HELLO))
+        time.sleep(1.5)
+        resource.prlimit(pid, resource.RLIMIT_NOFILE, (hard, hard))
+        assert reply(stream) == welcome(0)
+    told = server.end(2)
     assert told and all(line.startswith("overstored: warning: can't accept, trying again") for line in told), told
 
 
@@ -555,6 +566,7 @@ def a_base_master_that_is_shown():
 
 CASES = [
     right_sessions,
+    sessions_at_once,
     broken_sessions,
     logged,
     statuses,

@@ -25,6 +25,8 @@
 //! * [`serve`] gives each stream of a door to one session, which one of the passes serves, and hands
 //!   it back to the door as it was left, under its number. The sessions in the order of their
 //!   numbers lead from the passes that it was given to those that it gives back (`LeadsPasses`).
+//! * Each stream is told that its session is over as that ends, by the thread that served it
+//!   (`Dismiss`): `serve` gives it back to the door only when it needs its pass, or at the end.
 //! * A session that can't be started is run by the caller of `serve`, and counted in `alone` and by
 //!   the spawner. Where `alone` is 0 there were once as many sessions at once as passes, or as were
 //!   served; there are never more of them than passes.

@@ -14,7 +14,7 @@ use crate::spawner::Spawner;
 use crate::starting::{finish, start};
 use ov_io::{Fault, Stream};
 use ov_peer::Answerer;
-use ov_session::{Door, Gate};
+use ov_session::{Dismiss, Door, Gate};
 use ov_turn::{Pass, Shared};
 use std::alloc::Global;
 use std::sync::{Arc, Wait};
@@ -88,7 +88,7 @@ fn make<L, V: Answerer + Drop, G: Drop>(
 /// it is given.
 fn begin<
     R: Threads + Wait + Copy + Send + 'static,
-    L: Stream + Drop + Send + 'static,
+    L: Stream + Dismiss + Drop + Send + 'static,
     V: Answerer + Drop + Send + 'static,
     G: Gate + Drop + Send + Sync + 'static,
 >(

@@ -6,7 +6,7 @@ ghost use Rattle.ov_serving.specs.Sessions.{EndsAs, HasOwnPass, serves_by_pass};
 use crate::SessionPass;
 use ov_io::Stream;
 use ov_peer::Answerer;
-use ov_session::{Gate, SessionEnd, serve_one};
+use ov_session::{Dismiss, Gate, SessionEnd, serve_one};
 use ov_turn::{Pass, Shared};
 use std::alloc::Global;
 use std::sync::{Arc, Wait};
@@ -32,7 +32,7 @@ pub struct Ended<L, V: Answerer> {
 }
 
 /// Serves a stream by a pass.
-pub(crate) fn serve_by_pass<R: Wait, L: Stream, V: Answerer, G: Gate>(
+pub(crate) fn serve_by_pass<R: Wait, L: Stream + Dismiss, V: Answerer, G: Gate>(
     rt: &R,
     alloc: Global,
     number: u32,
@@ -46,11 +46,13 @@ pub(crate) fn serve_by_pass<R: Wait, L: Stream, V: Answerer, G: Gate>(
         stream.old stream.new result }
 {
     let mut asker = SessionPass { shared, pass };
-    serve_one(rt, alloc, number, stream, &mut asker, gate)
+    let end = serve_one(rt, alloc, number, stream, &mut asker, gate);
+    stream.dismiss(number, end);
+    end
 }
 
 /// Serves a session here.
-pub(crate) fn run<R: Wait, L: Stream + Drop, V: Answerer + Drop, G: Gate + Drop>(
+pub(crate) fn run<R: Wait, L: Stream + Dismiss + Drop, V: Answerer + Drop, G: Gate + Drop>(
     rt: &R,
     alloc: Global,
     session: Session<L, V, G>,

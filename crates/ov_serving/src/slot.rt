@@ -5,7 +5,7 @@ ghost use Rattle.ov_serving.specs.Slots.{IsOutcomeOf};
 use crate::session::{Ended, Session, run};
 use ov_io::Stream;
 use ov_peer::Answerer;
-use ov_session::Gate;
+use ov_session::{Dismiss, Gate};
 use std::alloc::Global;
 use std::marker::Model;
 use std::snapshot::Snapshot;
@@ -82,7 +82,7 @@ impl<L: Stream, V: Answerer, G> Slot<L, V, G> {
 }
 
 /// Serves the session, or gives it back where it is to.
-pub(crate) fn go<R: Wait + Drop, L: Stream + Drop, V: Answerer + Drop, G: Gate + Drop>(
+pub(crate) fn go<R: Wait + Drop, L: Stream + Dismiss + Drop, V: Answerer + Drop, G: Gate + Drop>(
     rt: R,
     alloc: Global,
     session: Session<L, V, G>,

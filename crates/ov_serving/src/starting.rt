@@ -13,7 +13,7 @@ use crate::spawner::Spawner;
 use ov_base::Memory;
 use ov_io::Stream;
 use ov_peer::Answerer;
-use ov_session::Gate;
+use ov_session::{Dismiss, Gate};
 use std::alloc::Global;
 use std::snapshot::Snapshot;
 use std::sync::atomic::{AtomicBool, Ordering};
@@ -58,7 +58,7 @@ fn line_by(
 /// Starts a thread for the session. Where none can be made the session comes back.
 fn begin<
     R: Threads + Wait + Copy + Send + 'static,
-    L: Stream + Drop + Send + 'static,
+    L: Stream + Dismiss + Drop + Send + 'static,
     V: Answerer + Drop + Send + 'static,
     G: Gate + Drop + Send + Sync + 'static,
 >(
@@ -97,7 +97,7 @@ fn begin<
 }
 
 /// Waits for the end of a slot's session.
-fn end_of<R: Threads + Wait, L: Stream + Drop, V: Answerer + Drop, G: Gate + Drop>(
+fn end_of<R: Threads + Wait, L: Stream + Dismiss + Drop, V: Answerer + Drop, G: Gate + Drop>(
     rt: &R,
     alloc: Global,
     slot: Slot<L, V, G>,
@@ -117,7 +117,7 @@ fn end_of<R: Threads + Wait, L: Stream + Drop, V: Answerer + Drop, G: Gate + Dro
 /// no thread can be made.
 fn try_start<
     R: Threads + Wait + Copy + Send + 'static,
-    L: Stream + Drop + Send + 'static,
+    L: Stream + Dismiss + Drop + Send + 'static,
     V: Answerer + Drop + Send + 'static,
     G: Gate + Drop + Send + Sync + 'static,
 >(rt: &R, spawner: &mut Spawner<L, V, G>, session: Session<L, V, G>) -> Result<(), Session<L, V, G>>
@@ -145,7 +145,7 @@ fn try_start<
 /// refused or no thread can be made it comes back, and the spawner counts that.
 pub fn start<
     R: Threads + Wait + Copy + Send + 'static,
-    L: Stream + Drop + Send + 'static,
+    L: Stream + Dismiss + Drop + Send + 'static,
     V: Answerer + Drop + Send + 'static,
     G: Gate + Drop + Send + Sync + 'static,
 >(rt: &R, spawner: &mut Spawner<L, V, G>, session: Session<L, V, G>) -> Result<(), Session<L, V, G>>
@@ -180,7 +180,7 @@ fn wait_for_one<R: Wait, L: Stream, V: Answerer, G>(rt: &R, spawner: &Spawner<L,
 
 /// Waits until one of the started sessions is over, and gives what is left of it; None exactly where
 /// there is none.
-pub fn finish<R: Threads + Wait, L: Stream + Drop, V: Answerer + Drop, G: Gate + Drop>(
+pub fn finish<R: Threads + Wait, L: Stream + Dismiss + Drop, V: Answerer + Drop, G: Gate + Drop>(
     rt: &R,
     spawner: &mut Spawner<L, V, G>,
 ) -> Option<Ended<L, V>>

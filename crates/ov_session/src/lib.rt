@@ -18,7 +18,9 @@
 //! * [`MemDoor`] is a door in memory: it gives the streams that it was made with, keeps what
 //!   comes back, and fails at the calls that it is told to.
 //! * [`TcpDoor`] and [`TcpLink`] are over the system's sockets, tell no bytes, and are trusted. The
-//!   door tells where it listens, as the system does.
+//!   door tells where it listens, as the system does, and gives a [`Connection`] for each client.
+//! * The streams of a door are told when their sessions are over ([`Dismiss`]), where these ran: a
+//!   connection is shut then, since its door may take it back much later.
 //! * A [`Gate`] is told of each request before it is asked, so that a test can hold a session
 //!   there.
 //!
@@ -37,6 +39,7 @@
 
 mod alone;
 mod asker;
+mod connection;
 mod door;
 mod each;
 mod end;
@@ -52,7 +55,8 @@ mod tcp_stream;
 
 pub use alone::Alone;
 pub use asker::Asker;
-pub use door::Door;
+pub use connection::Connection;
+pub use door::{Dismiss, Door};
 pub use each::serve_each;
 pub use end::SessionEnd;
 pub use gate::{Gate, OpenGate};

@@ -4,17 +4,17 @@ ghost use Rattle.std.specs.Option.{option_map};
 ghost use Rattle.std.specs.Net.Text.{socket_text};
 ghost use Rattle.std.specs.declared.net.socket_addr.SocketAddr.{SocketAddr};
 
-use crate::{Door, SessionEnd};
+use crate::{Connection, Door, SessionEnd};
 use ov_base::Memory;
-use ov_io::{Fault, StdStream};
+use ov_io::Fault;
 use std::io;
 use std::io::ErrorKind;
 use std::net::{Net, OpenListener, OpenStream, SocketAddr, TcpListener};
 use std::time::Duration;
 
 /// After how many seconds a stream fails whose client sends nothing that is waited for, or takes
-/// nothing that is sent. A session holds the server, so a client that stays silent would hold up all
-/// others. Five minutes are longer than any pause that a client makes between two requests.
+/// nothing that is sent. As many silent clients as sessions may run at once would hold up all others.
+/// Five minutes are longer than any pause that a client makes between two requests.
 pub const SILENCE_SECONDS: u64 = 300;
 
 /// How many connections that broke before they were accepted are passed over in one call.
@@ -140,7 +140,7 @@ impl<R: Net + AllocGlobal + Drop> TcpDoor<R> {
 }
 
 impl<R: Net + AllocGlobal + Drop> Door for TcpDoor<R> {
-    type Stream = StdStream<R::Stream>;
+    type Stream = Connection<R::Stream>;
 
     ghost shows = { λ d. record {
       listens_at = option_map (λ l. socket_text l.bound) d.listening;
@@ -157,7 +157,7 @@ impl<R: Net + AllocGlobal + Drop> Door for TcpDoor<R> {
         }
     }
 
-    fn accept(&mut self) -> Result<Option<StdStream<R::Stream>>, Fault> {
+    fn accept(&mut self) -> Result<Option<Connection<R::Stream>>, Fault> {
         // A number of streams past the last one of 64 bits can't be told.
         if self.given == u64::MAX {
             return Err(self.fail(ErrorKind::Other));
@@ -166,13 +166,13 @@ impl<R: Net + AllocGlobal + Drop> Door for TcpDoor<R> {
             Ok((stream, client)) => {
                 self.given += 1;
                 self.client = Some(client);
-                Ok(Some(StdStream::new(stream)))
+                Ok(Some(Connection::new(stream)))
             }
             Err(error) => Err(self.fail(error.kind())),
         }
     }
 
-    fn ended(&mut self, number: u32, stream: StdStream<R::Stream>, end: SessionEnd) {
+    fn ended(&mut self, number: u32, stream: Connection<R::Stream>, end: SessionEnd) {
         let _ = (number, stream, end);
     }
 }

@@ -1,4 +1,4 @@
-//! A door that says on standard error how sessions end, and with whom.
+//! A door that gives streams which say how their sessions end, and asks again where none can be had.
 ghost use Rattle.std.specs.Prelude.{◌≡◌, ◌+◌, ◌-◌, ◌^◌, None, false, min};
 ghost use Rattle.std.specs.Option.{option_map};
 ghost use Rattle.std.specs.Net.Text.{socket_text};
@@ -6,18 +6,16 @@ ghost use Rattle.ov_base.specs.Causes.{Rose};
 
 use crate::log::Log;
 use crate::stream::LoggedStream;
-use crate::texts::on_end;
 use crate::told;
 use ov_base::Mode;
-use ov_io::{Fault, StdStream};
-use ov_session::{Door, SessionEnd, TcpDoor};
+use ov_io::Fault;
+use ov_session::{Connection, Door, SessionEnd, TcpDoor};
 use std::alloc::Global;
-use std::fmt::{Display, Formatter, Write};
-use std::net::{Net, SocketAddr};
+use std::net::Net;
 use std::sync::Arc;
 use std::sync::atomic::{AtomicBool, Ordering};
+use std::thread;
 use std::time::{Clock, Duration};
-use std::{fmt, thread};
 
 // How often in a row a connection is asked for where none can be had, as where no descriptor is free.
 const MOST_TRIES: u32 = 60;
@@ -25,11 +23,10 @@ const MOST_TRIES: u32 = 60;
 // The pause between two of these tries, in seconds.
 const PAUSE_SECONDS: u64 = 1;
 
-/// A door over another, which gives the streams of that one, and takes them back itself. It says
-/// how each session ended that didn't end between two frames, and lets its stream go. Where that door
-/// fails to give one it says so, and asks again after a pause. Where it keeps a log, that has each
-/// update that was accepted and the end of each session. It counts for itself, tells where the door in
-/// it listens, and nothing of the streams.
+/// A door over another, which gives the streams of that one, and lets them go itself when they come
+/// back. Each says how its session ended, and has a log where one is kept. Where that door fails to
+/// give one it says so, and asks again after a pause. It counts for itself, tells where the door in it
+/// listens, and nothing of the streams.
 #[derive(Drop)]
 pub struct SpokenDoor<N: Net + AllocGlobal + Drop, R> {
     pub door: TcpDoor<N>,
@@ -97,7 +94,7 @@ impl<N: Net + AllocGlobal + Drop, R> SpokenDoor<N, R> {
 fn next_of<N: Net + AllocGlobal + Drop, R: Eprint + Clock>(
     rt: &R,
     door: &mut TcpDoor<N>,
-) -> Result<Option<StdStream<N::Stream>>, Fault>
+) -> Result<Option<Connection<N::Stream>>, Fault>
     ensures { option_map (λ l. socket_text l.bound) door.new.listening
         ≡ option_map (λ l. socket_text l.bound) door.old.listening }
 {
@@ -111,39 +108,9 @@ fn next_of<N: Net + AllocGlobal + Drop, R: Eprint + Clock>(
     door.accept()
 }
 
-// A session, by its number, and the address of its client, where that is known.
-#[derive(Drop)]
-struct Session {
-    number: u32,
-    client: Option<SocketAddr>,
-}
-
-impl Display for Session {
-    fn fmt<W: Write>(&self, f: &mut Formatter<W>) -> fmt::Result {
-        let number = self.number;
-        match self.client {
-            Some(client) => write!(f, "session {number} with {client}"),
-            None => write!(f, "session {number}"),
-        }
-    }
-}
-
-// Says how a session ended, where it didn't end between two frames.
-fn say_end<R: Eprint>(rt: &R, session: Session, end: SessionEnd) {
-    match on_end(end) {
-        Some((why, Some(at))) => {
-            let _ = eprintln!(rt; "overstored: warning: {session}: {why}, at byte {at}");
-        }
-        Some((why, None)) => {
-            let _ = eprintln!(rt; "overstored: warning: {session}: {why}");
-        }
-        None => {}
-    }
-}
-
 impl<N: Net + AllocGlobal + Drop, R: Eprint + Clock + AllocGlobal + Copy + Drop> Door
     for SpokenDoor<N, R> {
-    type Stream = LoggedStream<StdStream<N::Stream>, R>;
+    type Stream = LoggedStream<Connection<N::Stream>, R>;
 
     ghost shows = { λ d. record {
       listens_at = option_map (λ l. socket_text l.bound) d.door.listening;
@@ -167,7 +134,7 @@ impl<N: Net + AllocGlobal + Drop, R: Eprint + Clock + AllocGlobal + Copy + Drop>
         }
     }
 
-    fn accept(&mut self) -> Result<Option<LoggedStream<StdStream<N::Stream>, R>>, Fault> {
+    fn accept(&mut self) -> Result<Option<LoggedStream<Connection<N::Stream>, R>>, Fault> {
         // A number of streams past the last one of 64 bits can't be told.
         if self.given == u64::MAX {
             return Err(self.fail());
@@ -179,6 +146,7 @@ impl<N: Net + AllocGlobal + Drop, R: Eprint + Clock + AllocGlobal + Copy + Drop>
                 let log = self.logs.then(|| Log::new(self.rt, client));
                 Ok(Some(LoggedStream {
                     stream,
+                    rt: self.rt,
                     client,
                     log,
                 }))
@@ -194,14 +162,9 @@ impl<N: Net + AllocGlobal + Drop, R: Eprint + Clock + AllocGlobal + Copy + Drop>
     fn ended(
         &mut self,
         number: u32,
-        stream: LoggedStream<StdStream<N::Stream>, R>,
+        stream: LoggedStream<Connection<N::Stream>, R>,
         end: SessionEnd,
     ) {
-        match &stream.log {
-            Some(log) => log.ended(number, end),
-            None => {}
-        }
-        let client = stream.client;
-        say_end(&self.rt, Session { number, client }, end);
+        let _ = (number, stream, end);
     }
 }

@@ -1,17 +1,22 @@
-//! A stream whose frames are logged.
+//! A stream whose frames are logged, and that says how its session ended.
 ghost use Rattle.std.specs.Prelude.{◌≡◌};
 
 use crate::log::Log;
+use crate::texts::on_end;
 use ov_io::{Fault, Sink, Source, Stream};
+use ov_session::{Dismiss, SessionEnd};
+use std::fmt;
+use std::fmt::{Display, Formatter, Write};
 use std::net::SocketAddr;
 use std::time::Clock;
 
 /// The stream in it, the address of its client, where that is known, and the log of its session,
-/// where one is kept. It tells what the stream tells. It may go to the thread of its session, whose
-/// lines it puts by one print each.
+/// where one is kept. It tells what the stream tells. In the thread of its session it says, by one
+/// print a line, what is logged and how the session ended, where it didn't end between two frames.
 #[derive(Drop)]
 pub struct LoggedStream<S, R> {
     pub stream: S,
+    pub rt: R,
     pub client: Option<SocketAddr>,
     pub log: Option<Log<R>>,
 }
@@ -58,4 +63,46 @@ impl<S: Stream, R: Eprint + Clock + AllocGlobal> Stream for LoggedStream<S, R> {
     ghost put_leaves = { λ old new put.
         let left = S.put_leaves old.stream new.stream put in
         record { bytes = left.bytes; faults = left.faults; borrow = left.borrow } };
+}
+
+// A session, by its number, and the address of its client, where that is known.
+#[derive(Drop)]
+struct Session {
+    number: u32,
+    client: Option<SocketAddr>,
+}
+
+impl Display for Session {
+    fn fmt<W: Write>(&self, f: &mut Formatter<W>) -> fmt::Result {
+        let number = self.number;
+        match self.client {
+            Some(client) => write!(f, "session {number} with {client}"),
+            None => write!(f, "session {number}"),
+        }
+    }
+}
+
+// Says how a session ended, where it didn't end between two frames.
+fn say_end<R: Eprint>(rt: &R, session: Session, end: SessionEnd) {
+    match on_end(end) {
+        Some((why, Some(at))) => {
+            let _ = eprintln!(rt; "overstored: warning: {session}: {why}, at byte {at}");
+        }
+        Some((why, None)) => {
+            let _ = eprintln!(rt; "overstored: warning: {session}: {why}");
+        }
+        None => {}
+    }
+}
+
+impl<S: Dismiss, R: Eprint + Clock + AllocGlobal> Dismiss for LoggedStream<S, R> {
+    fn dismiss(&self, number: u32, end: SessionEnd) {
+        match &self.log {
+            Some(log) => log.ended(number, end),
+            None => {}
+        }
+        let client = self.client;
+        say_end(&self.rt, Session { number, client }, end);
+        self.stream.dismiss(number, end);
+    }
 }
