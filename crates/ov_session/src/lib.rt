@@ -64,5 +64,5 @@ pub use laws::inputs_end_one_way;
 pub use memory::{MemDoor, Returned};
 pub use one::serve_one;
 pub use peer::NetPeer;
-pub use tcp_door::TcpDoor;
+pub use tcp_door::{SILENCE_SECONDS, TcpDoor};
 pub use tcp_stream::TcpLink;

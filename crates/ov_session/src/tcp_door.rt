@@ -12,9 +12,9 @@ use std::io::ErrorKind;
 use std::net::{Net, OpenListener, OpenStream, SocketAddr, TcpListener};
 use std::time::Duration;
 
-/// After how many seconds a stream fails whose client sends nothing that is waited for, or takes
-/// nothing that is sent. As many silent clients as sessions may run at once would hold up all others.
-/// Five minutes are longer than any pause that a client makes between two requests.
+/// After how many seconds a server ends a session whose client is silent. As many silent clients as
+/// sessions may run at once would hold up all others. Five minutes are longer than any pause that a
+/// client makes between two requests.
 pub const SILENCE_SECONDS: u64 = 300;
 
 /// How many connections that broke before they were accepted are passed over in one call.
@@ -33,6 +33,7 @@ struct Listening<L> {
 pub struct TcpDoor<R: Net + AllocGlobal + Drop> {
     rt: R,
     address: String,
+    silence: Duration,
     listening: Option<Listening<R::Listener>>,
     client: Option<SocketAddr>,
     given: u64,
@@ -49,17 +50,19 @@ fn is_broken(kind: ErrorKind) -> bool {
 }
 
 // Each small frame is sent at once, and a client that stays silent is a fault of the stream.
-fn set_up<S: OpenStream>(stream: &S) -> io::Result<()> {
-    let silence = Some(Duration::from_secs(SILENCE_SECONDS));
+fn set_up<S: OpenStream>(stream: &S, silence: Duration) -> io::Result<()> {
     stream.set_nodelay(true)?;
-    stream.set_read_timeout(silence)?;
-    stream.set_write_timeout(silence)
+    stream.set_read_timeout(Some(silence))?;
+    stream.set_write_timeout(Some(silence))
 }
 
 // The listener's next connection, and whose it is; none where it broke.
-fn accepted<R: Net>(listener: &R::Listener) -> io::Result<Option<(R::Stream, SocketAddr)>> {
+fn accepted<R: Net>(
+    listener: &R::Listener,
+    silence: Duration,
+) -> io::Result<Option<(R::Stream, SocketAddr)>> {
     match listener.accept() {
-        Ok((stream, client)) => match set_up(&stream) {
+        Ok((stream, client)) => match set_up(&stream, silence) {
             Ok(()) => Ok(Some((stream, client))),
             Err(_) => Ok(None),
         },
@@ -74,12 +77,14 @@ fn accepted<R: Net>(listener: &R::Listener) -> io::Result<Option<(R::Stream, Soc
 
 impl<R: Net + AllocGlobal + Drop> TcpDoor<R> {
     /// A door at this address, a host and a port, which doesn't listen yet. At port 0 the system
-    /// chooses one.
-    pub fn new(rt: R, address: &str) -> Result<TcpDoor<R>, Memory> {
+    /// chooses one. A stream that it gives fails once its client has sent nothing that is waited for,
+    /// or taken nothing that is sent, for so many seconds, at least one.
+    pub fn new(rt: R, address: &str, silence: u64) -> Result<TcpDoor<R>, Memory> {
         let address = String::from_str(rt.alloc(), address)?;
         Ok(TcpDoor {
             rt,
             address,
+            silence: Duration::from_secs(silence),
             listening: None,
             client: None,
             given: 0,
@@ -121,7 +126,7 @@ impl<R: Net + AllocGlobal + Drop> TcpDoor<R> {
             return Err(io::Error::from(ErrorKind::NotConnected));
         };
         for _ in 0..MOST_BROKEN {
-            if let Some(next) = accepted::<R>(listener)? {
+            if let Some(next) = accepted::<R>(listener, self.silence)? {
                 return Ok(next);
             }
         }

@@ -2,11 +2,11 @@
 ghost use Rattle.std.specs.Prelude.{◌≡◌, ◌<◌, ◌∷◌, [], false, length};
 
 use ov_base::{Memory, Octets};
-use ov_io::{MemSink, MemSource, MemStream, Sink, Source};
+use ov_io::{Fault, MemSink, MemSource, MemStream, Sink, Source};
 use ov_peer::{Answerer, Peer, PeerFault};
 use ov_session::{
-    Alone, Door, Gate, MemDoor, NetPeer, OpenGate, SessionEnd, TcpDoor, TcpLink, serve_each,
-    serve_one,
+    Alone, Door, Gate, MemDoor, NetPeer, OpenGate, SILENCE_SECONDS, SessionEnd, TcpDoor, TcpLink,
+    serve_each, serve_one,
 };
 use std::alloc::Global;
 use std::cell::Cell;
@@ -412,7 +412,7 @@ fn a_long_reply_comes_whole(rt: HostRuntime) -> Result<(), Fail> {
 #[test]
 fn over_a_port(rt: HostRuntime) -> Result<(), Fail> {
     let alloc = rt.alloc();
-    let mut door = TcpDoor::new(rt, "127.0.0.1:0")?;
+    let mut door = TcpDoor::new(rt, "127.0.0.1:0", SILENCE_SECONDS)?;
     let mut address = Vec::new(alloc);
     assert!(rt; door.listen(&mut address).is_ok());
     let mut link = TcpLink::new(rt, str::from_utf8(address.as_slice())?)?;
@@ -426,9 +426,26 @@ fn over_a_port(rt: HostRuntime) -> Result<(), Fail> {
     assert_eq!(rt; link.take(&mut buf), Ok(2));
     door.ended(0, stream, SessionEnd::End);
     assert_eq!(rt; link.take(&mut buf), Ok(0));
-    let mut twice = TcpDoor::new(rt, str::from_utf8(address.as_slice())?)?;
+    let mut twice = TcpDoor::new(rt, str::from_utf8(address.as_slice())?, 1)?;
     assert!(rt; twice.listen(&mut address).is_err());
     assert_eq!(rt; twice.reason(), Some(ErrorKind::AddrInUse));
+    Ok(())
+}
+
+#[test]
+fn a_silent_client_is_a_fault(rt: HostRuntime) -> Result<(), Fail> {
+    let alloc = rt.alloc();
+    let mut door = TcpDoor::new(rt, "127.0.0.1:0", 1)?;
+    let mut address = Vec::new(alloc);
+    assert!(rt; door.listen(&mut address).is_ok());
+    let mut link = TcpLink::new(rt, str::from_utf8(address.as_slice())?)?;
+    assert!(rt; link.put(b"hello").is_ok());
+    let mut buf = [0u8; 8];
+    let Ok(Some(mut stream)) = door.accept() else {
+        return Err(Fail::from("no stream"));
+    };
+    assert_eq!(rt; stream.take(&mut buf), Ok(5));
+    assert_eq!(rt; stream.take(&mut buf), Err(Fault));
     Ok(())
 }
 

@@ -111,7 +111,7 @@ where
     N::Stream: Send + 'static,
 {
     let mut door = PortDoor {
-        door: TcpDoor::new(*net, ADDRESS).expect(net, "memory"),
+        door: TcpDoor::new(*net, ADDRESS, 10).expect(net, "memory"),
         given: 0,
         faults: 0,
     };

@@ -33,7 +33,7 @@ use ov_files::{FileFault, begins, fault_of, held_places, words_of};
 use ov_host::host;
 use ov_io::{FileSource, Source, StdSink};
 use ov_serving::Spawner;
-use ov_session::{OpenGate, TcpDoor};
+use ov_session::{OpenGate, SILENCE_SECONDS, TcpDoor};
 use ov_settings::{Settings, read_settings};
 use std::alloc::Global;
 use std::io::ErrorKind;
@@ -147,7 +147,7 @@ where
     let address = text_of(settings.address.as_slice());
     let (listens, known) = flags(rt.alloc())?;
     let disk = disk_over(rt, book, blobs, known)?;
-    let door = TcpDoor::new(*net, address)?;
+    let door = TcpDoor::new(*net, address, SILENCE_SECONDS)?;
     let begun = begun_by(rt, settings, book, blobs)?;
     let mut door = SpokenDoor::new(door, *rt, listens, logs, begun);
     let mut spawner = Spawner::new(rt.alloc());
