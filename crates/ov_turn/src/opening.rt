@@ -4,6 +4,7 @@ ghost use Rattle.ov_turn.specs.Passes.{AreFirst, first_pass};
 ghost use Rattle.ov_turn.specs.Steps.{IsUnasked};
 ghost use Rattle.ov_turn.specs.Views.{first_part, opened, other_parts};
 
+use crate::bells::Bells;
 use crate::pass::Pass;
 use crate::plays::Cut;
 use crate::shared::{About, Place, Shared};
@@ -23,6 +24,7 @@ fn lay<A: Answerer>(
     alloc: Global,
     answerer: A,
     passes: u32,
+    bells: Bells,
 ) -> Result<(Shared<A>, Place<A>), NewRefused<A>>
     requires { (0 < passes) × (passes ≤ 65536) }
     ensures made { IfOk result (λ r. (r.0.start ≡ answerer) × (r.0.passes ≡ passes)) }
@@ -42,7 +44,7 @@ fn lay<A: Answerer>(
     }
     slots.push_reserved(answerer);
     match Table::new(alloc, &[0, 0, epoch], slots, &about) {
-        Ok((table, seat)) => Ok((Shared { table }, seat)),
+        Ok((table, seat)) => Ok((Shared { table, bells }, seat)),
         Err(Refused { mut slots }) => {
             let Some(answerer) = slots.pop() else {
                 unreachable!()
@@ -110,7 +112,10 @@ impl<A: Answerer> Shared<A> {
         if list.reserve(passes as usize).is_err() {
             return Err(NewRefused { answerer });
         }
-        let (shared, seat) = lay(alloc, answerer, passes)?;
+        let Ok(bells) = Bells::new(alloc, passes) else {
+            return Err(NewRefused { answerer });
+        };
+        let (shared, seat) = lay(alloc, answerer, passes, bells)?;
         shared.deal(seat, passes, &mut list);
         Ok((shared, list))
     }

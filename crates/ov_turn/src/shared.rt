@@ -1,4 +1,5 @@
 //! A value that threads share, and the table that it lies in.
+use crate::bells::Bells;
 use crate::view::View;
 use atomic_table::{Seat, Table, TableRule};
 use ov_peer::Answerer;
@@ -35,6 +36,7 @@ pub(crate) type Desk<A> = Table<A, View<A>, About<A>, Turns, Global>;
 #[derive(Drop)]
 pub struct Shared<A: Answerer> {
     pub(crate) table: Desk<A>,
+    pub(crate) bells: Bells,
 }
 
 impl<A: Answerer> Model for Shared<A> {

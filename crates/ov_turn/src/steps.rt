@@ -1,6 +1,7 @@
 //! The steps of a call: a ticket lock round the value, and the epoch beside it.
 //!
-//! A thread waits for its ticket asleep, and whoever passes the turn on wakes those that wait.
+//! A thread waits for its ticket asleep, and whoever passes the turn on wakes the thread whose ticket
+//! comes next, if it sleeps.
 ghost use Rattle.std.specs.Prelude.{◌≡◌, ℕ, ◌+◌, ◌*◌, ◌<◌, ◌≤◌, [], ◌∷◌, List, OnOk};
 ghost use Rattle.ov_wire.specs.Frames.{IsFrame};
 ghost use Rattle.ov_peer.specs.Spellings.{spelling_of};
@@ -47,9 +48,7 @@ impl<A: Answerer> Shared<A> {
             if served == ticket {
                 return;
             }
-            self.table
-                .shared
-                .park(rt, SERVED, (served % (1 << 32)) as u32);
+            self.bells.sleep(rt, ticket);
         }
         unreachable!()
     }
@@ -100,7 +99,7 @@ impl<A: Answerer> Shared<A> {
         ensures own { seat.new.table_id ≡ seat.old.table_id }
         ensures view { seat.new.me ≡ (rested seat.old.me.0, []) }
     {
-        self.table.shared.fetch_add::<PassOn>(seat, SERVED, 1);
-        self.table.shared.wake_all(SERVED);
+        let served = self.table.shared.fetch_add::<PassOn>(seat, SERVED, 1);
+        self.bells.ring(served.wrapping_add(1));
     }
 }
