@@ -21,12 +21,12 @@ returns g c =
       spent = λ a. a.pass.now.calls ≡ 4294967295;
       borrow = λ a. a.pass.ghost_name;
     } in
-    let now = c.serve_one.new.asker.pass.now in
-    let served : Serves (in_turns answerer) c.args.pass.now now (tells c.args.stream.now) (tells c.serve_one.new.stream) c.serve_one.result =
+    let now = c.serve_one-end.new.asker.pass.now in
+    let served : Serves (in_turns answerer) c.args.pass.now now (tells c.args.stream.now) (tells c.serve_one-end.new.stream) c.serve_one-end.result =
     serves_so by_loan (in_turns answerer)
     (λ (a : SessionPass V). a.pass.now) (λ a b request reply asked. asked) (λ a is. is)
-    _ c.serve_one.new.asker (tells c.args.stream.now) (tells c.serve_one.new.stream)
-    c.serve_one.result c.serve_one.ensures.serves in
+    _ c.serve_one-end.new.asker (tells c.args.stream.now) (tells c.serve_one-end.new.stream)
+    c.serve_one-end.result c.serve_one-end.ensures.serves in
     let same : IsOfSame c.args.pass.now now =
-    serves_same answerer c.args.pass.now now (tells c.args.stream.now) (tells c.serve_one.new.stream) c.serve_one.result served in
+    serves_same answerer c.args.pass.now now (tells c.args.stream.now) (tells c.serve_one-end.new.stream) c.serve_one-end.result served in
     search rules
