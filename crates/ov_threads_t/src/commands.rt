@@ -12,7 +12,6 @@ use std::process::Abort;
 use std::sync::Wait;
 use std::test::Fail;
 use std::thread;
-use std::thread::Threads;
 
 /// The owner's key file.
 const KEYS: &[u8] = b"\
@@ -95,9 +94,14 @@ fn expect_done<N: Abort + AllocGlobal + Net + Copy + Drop>(
     assert_eq!(net; out.written(), printed, "{line}");
 }
 
-/// An owner enrols alice, creates a file and prints her key line, by which she reads the file. Each
-/// line names a server and files that only its hints would show.
-fn ask_for_all<N: Abort + AllocGlobal + Net + Copy + Drop>(net: &N, alloc: Global, address: &str) {
+/// At the server whose lines these are an owner enrols alice, creates a file and prints her key line,
+/// by which she reads the file. Each command names a server and files that only its hints would show.
+fn ask_for_all<N: Abort + AllocGlobal + Net + Wait + Copy + Drop>(
+    net: &N,
+    alloc: Global,
+    lines: &Lines,
+) {
+    let address = lines.address(net).expect(net, "an address");
     let report = report(net, alloc);
     let owner = Client {
         address,
@@ -109,43 +113,24 @@ fn ask_for_all<N: Abort + AllocGlobal + Net + Copy + Drop>(net: &N, alloc: Globa
         keys: ALICE,
         body: &[],
     };
+    let create = "create there keys f alice path";
     expect_done(net, alloc, &owner, "enrol there keys alice", b"ok 1\n");
-    expect_done(
-        net,
-        alloc,
-        &owner,
-        "create there keys f alice path",
-        b"ok 2\n",
-    );
+    expect_done(net, alloc, &owner, create, b"ok 2\n");
     expect_done(net, alloc, &owner, "key there keys alice", ALICE);
     expect_done(net, alloc, &alice, "read there key f", &report);
 }
 
-/// The status of a server in another thread, of which this one asks what there is.
-fn host_and_ask<N: Abort + AllocGlobal + Net + Threads + Wait + Copy + Send + Drop + 'static>(
-    net: &N,
-    alloc: Global,
-    lines: &Lines,
-) -> u8
-where
-    N::Stream: Send + 'static,
-{
-    let there = *net;
-    let (status, ()) = thread::join(
-        net,
-        move || host_at_port(&there, alloc, lines),
-        || {
-            let address = lines.address(net).expect(net, "an address");
-            ask_for_all(net, alloc, address)
-        },
-    );
-    status
-}
-
 #[test]
 fn four_commands_over_a_port(rt: HostRuntime) -> Result<(), Fail> {
+    let alloc = rt.alloc();
     let lines = Lines::new();
-    assert_eq!(rt; host_and_ask(&rt, rt.alloc(), &lines), 0);
+    let lent = &lines;
+    let (status, ()) = thread::join(
+        &rt,
+        move || host_at_port(&rt, alloc, lent),
+        || ask_for_all(&rt, alloc, lent),
+    );
+    assert_eq!(rt; status, 0);
     let served = lines.second().ok_or("a second line")?;
     assert_eq!(rt; served, b"served 4\n".as_slice());
     Ok(())

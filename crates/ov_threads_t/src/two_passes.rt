@@ -108,11 +108,11 @@ fn enrol_both<R: Threads + Wait + Copy + Send, V: Answerer + Drop + Send>(
         rt,
         move || -> (Pass<V>, u32)
             requires { IsPassOf lent.now first }
-            ensures { IsPassOf lent.now result.0 }
+            ensures { IsPassOf lent.entry.now result.0 }
         { enrol_all(&there, alloc, lent, first, b'a') },
         move || -> (Pass<V>, u32)
             requires { IsPassOf lent.now second }
-            ensures { IsPassOf lent.now result.0 }
+            ensures { IsPassOf lent.entry.now result.0 }
         { enrol_all(rt, alloc, lent, second, b'b') },
     );
     let pair = Pair {
