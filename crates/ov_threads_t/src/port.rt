@@ -8,9 +8,9 @@ use crate::lines::{LineSink, Lines};
 use ov_base::{Key, Mode, Octets};
 use ov_disk::MemDisk;
 use ov_host::host;
-use ov_io::{Fault, StdStream};
+use ov_io::Fault;
 use ov_serving::Spawner;
-use ov_session::{Door, OpenGate, SessionEnd, TcpDoor};
+use ov_session::{Connection, Door, OpenGate, SessionEnd, TcpDoor};
 use ov_settings::Settings;
 use std::alloc::Global;
 use std::net::Net;
@@ -52,7 +52,7 @@ impl<N: Net + AllocGlobal + Drop> PortDoor<N> {
 }
 
 impl<N: Net + AllocGlobal + Drop> Door for PortDoor<N> {
-    type Stream = StdStream<N::Stream>;
+    type Stream = Connection<N::Stream>;
 
     ghost shows = { λ d. record {
       listens_at = option_map (λ l. socket_text l.bound) d.door.listening;
@@ -69,7 +69,7 @@ impl<N: Net + AllocGlobal + Drop> Door for PortDoor<N> {
         }
     }
 
-    fn accept(&mut self) -> Result<Option<StdStream<N::Stream>>, Fault> {
+    fn accept(&mut self) -> Result<Option<Connection<N::Stream>>, Fault> {
         if self.given == u64::MAX {
             return Err(self.fail());
         }
@@ -82,7 +82,7 @@ impl<N: Net + AllocGlobal + Drop> Door for PortDoor<N> {
         }
     }
 
-    fn ended(&mut self, number: u32, stream: StdStream<N::Stream>, end: SessionEnd) {
+    fn ended(&mut self, number: u32, stream: Connection<N::Stream>, end: SessionEnd) {
         let _ = (number, stream, end);
     }
 }
