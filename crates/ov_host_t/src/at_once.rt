@@ -47,7 +47,10 @@ impl SecondFirst {
 }
 
 impl Gate for SecondFirst {
-    fn pause(&self, session: u32, request: u32) {
+    ghost was_told = { λ _ _ _ _ _. Unit {0} };
+
+    fn pause<A>(&self, session: u32, request: u32, asker: &A) {
+        let _ = asker;
         match (session, request) {
             (0, 0) => self.wait(),
             (1, 1) => self.came.store(true, Ordering::SeqCst),

@@ -42,8 +42,10 @@
 //! `start`, `finish` and `serve` are functions and no methods of a trait: the kit proves a function
 //! that starts threads where its caller knows the types that the thread works with. Nothing is
 //! claimed of time: that two sessions really run at once is shown by a test (`ov_serving_t`), in
-//! which the first waits for the second, and so are that a gate is told a session's own number, and
-//! that a session that is over is finished while an earlier one goes on.
+//! which the first waits for the second, and so is that a session that is over is finished while an
+//! earlier one goes on. `serve_one` tells the gate the number that it was given; that this is the
+//! session's own, by which the door takes the stream back, is said by no clause here, and shown by a
+//! test.
 //! What the door took back, and with which end, is said where it tells its streams. A spawner that was
 //! used before shows its earlier most.
 //!

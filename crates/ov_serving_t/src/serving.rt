@@ -65,8 +65,11 @@ impl FirstWaits {
 }
 
 impl Gate for FirstWaits {
-    fn pause(&self, session: u32, request: u32) {
+    ghost was_told = { λ _ _ _ _ _. Unit {0} };
+
+    fn pause<A>(&self, session: u32, request: u32, asker: &A) {
         let _ = request;
+        let _ = asker;
         if session == self.other {
             self.came.store(true, Ordering::SeqCst);
         }

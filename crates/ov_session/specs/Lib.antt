@@ -3,6 +3,7 @@ pub mod Asking
 pub mod Doors
 pub mod Ends
 pub mod Exchanges
+pub mod Gates
 pub mod Laws
 pub mod Links
 pub mod Memory

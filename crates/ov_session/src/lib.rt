@@ -22,13 +22,15 @@
 //! * The streams of a door are told when their sessions are over ([`Dismiss`]), where these ran: a
 //!   connection is shut then, since its door may take it back much later.
 //! * A [`Gate`] is told of each request before it is asked, so that a test can hold a session
-//!   there.
+//!   there. It is told the session's number and the request's, which counts from 0 and stays at the
+//!   last one of 32 bits. That it is told each once and nothing else is shown by a test.
 //!
 //! | file in `specs/` | says |
 //! |---|---|
 //! | `Exchanges`, `Asking` | what an asker tells, and what is sent for a reply |
 //! | `Links` | what a stream tells |
 //! | `Ends` | what a session did, for each way in which it ends |
+//! | `Gates` | what a session tells its gate before it asks |
 //! | `Alone` | what one answer of an answerer does |
 //! | `Doors` | what a door shows, and what each call does to it |
 //! | `Serving` | sessions one after the other |

@@ -1,8 +1,9 @@
 //! One session: frames that are answered in order.
-ghost use Rattle.std.specs.Prelude.{◌≡◌, ◌≤◌, [], false, IfOk};
+ghost use Rattle.std.specs.Prelude.{◌≡◌, ◌≤◌, ℕ, [], false, IfOk};
 ghost use Rattle.std.specs.List.{AllByRecursion};
 ghost use Rattle.ov_wire.specs.Frames.{IsFrame};
 ghost use Rattle.ov_session.specs.Ends.{Serves};
+ghost use Rattle.ov_session.specs.Gates.{ServesGated, gated};
 ghost use Rattle.ov_session.specs.Links.{IsLater, IsSameLoan, Link, link};
 ghost use Rattle.ov_session.specs.Steps.{AnswersFrame, AnswersFrames, Going, SessionGoesOn, IsEndOf, IsWriting, end_of, go_on};
 
@@ -46,7 +47,8 @@ struct Reading {
 impl Reading {
     fn new(alloc: Global) -> Result<Reading, Memory>
         ensures { IfOk result (λ r.
-            (r.decoder ≡ record { start = 0; rest = []; bad = false }) × (r.taken ≡ 0)) }
+            (r.decoder ≡ record { start = 0; rest = []; bad = false }) × (r.taken ≡ 0)
+            × (r.asked ≡ 0)) }
     {
         let decoder = Decoder::new(alloc)?;
         Ok(Reading {
@@ -70,17 +72,20 @@ impl Reading {
     }
 }
 
-/// Asks one frame and puts its answer.
-fn answer_one<R: Wait, L: Stream, A: Asker>(
-    rt: &R,
+/// Tells the gate of one frame, asks it and puts its answer.
+fn answer_one<R: Wait, L: Stream, A: Asker, G: Gate>(
+    desk: &Desk<'_, R, G>,
     stream: &mut L,
     asker: &mut A,
     frame: &[u8],
     reply: &mut Vec<u8>,
+    asked: &mut u32,
 ) -> Result<(), Stop>
     requires frame { IsFrame frame.now }
     requires ready { A.tells.ready asker.old }
-    ensures answers { AnswersFrame A.tells asker.old asker.new
+    ensures answers { AnswersFrame
+        (gated A.tells (G.was_told desk.now.gate.now desk.now.session A))
+        (asker.old, asked.old) (asker.new, asked.new)
         (link L.Source.tells L.Sink.tells stream.old) (link L.Source.tells L.Sink.tells stream.new)
         frame.now result }
     ensures half { IsWriting
@@ -91,11 +96,13 @@ fn answer_one<R: Wait, L: Stream, A: Asker>(
     ensures ready { A.tells.ready asker.new }
     ensures asker { A.tells.borrow asker.new ≡ A.tells.borrow asker.old }
 {
-    let put = match asker.ask(rt, frame, reply) {
+    desk.gate.pause(desk.session, *asked, asker);
+    let put = match asker.ask(desk.rt, frame, reply) {
         Ok(()) => put_frame(stream, reply),
         Err(AskFault::Memory) => put_frame(stream, &NO_MEMORY),
         Err(AskFault::Spent) => return Err(Stop::Spent),
     };
+    *asked = asked.saturating_add(1);
     match put {
         Ok(()) => Ok(()),
         Err(Fault) => Err(Stop::Link),
@@ -113,7 +120,9 @@ fn answer_each<R: Wait, L: Stream, A: Asker, G: Gate>(
 ) -> Result<(), Stop>
     requires frames { AllByRecursion IsFrame frames.now }
     requires ready { A.tells.ready asker.old }
-    ensures answers { AnswersFrames A.tells asker.old asker.new
+    ensures answers { AnswersFrames
+        (gated A.tells (G.was_told desk.now.gate.now desk.now.session A))
+        (asker.old, asked.old) (asker.new, asked.new)
         (link L.Source.tells L.Sink.tells stream.old) (link L.Source.tells L.Sink.tells stream.new)
         frames.now result }
     ensures half { IsWriting
@@ -125,9 +134,7 @@ fn answer_each<R: Wait, L: Stream, A: Asker, G: Gate>(
     ensures asker { A.tells.borrow asker.new ≡ A.tells.borrow asker.old }
 {
     for frame in frames {
-        desk.gate.pause(desk.session, *asked);
-        *asked = asked.saturating_add(1);
-        match answer_one(desk.rt, stream, asker, frame.as_slice(), reply) {
+        match answer_one(desk, stream, asker, frame.as_slice(), reply, asked) {
             Ok(()) => {}
             Err(stop) => return Err(stop),
         }
@@ -164,11 +171,12 @@ fn read_on<R: Wait, L: Stream, A: Asker, G: Gate>(
     reading: &mut Reading,
 ) -> Result<(), SessionEnd>
     requires { A.tells.ready asker.old }
-    ensures goes { (a : A) (old : Link) → Going A.tells a asker.old old
-        (link L.Source.tells L.Sink.tells stream.old)
+    ensures goes { (a : A × ℕ) (old : Link)
+        → Going (gated A.tells (G.was_told desk.now.gate.now desk.now.session A))
+        a (asker.old, reading.old.asked) old (link L.Source.tells L.Sink.tells stream.old)
         reading.old.decoder reading.old.taken
-        → SessionGoesOn A.tells a asker.new old
-        (link L.Source.tells L.Sink.tells stream.new)
+        → SessionGoesOn (gated A.tells (G.was_told desk.now.gate.now desk.now.session A))
+        a (asker.new, reading.new.asked) old (link L.Source.tells L.Sink.tells stream.new)
         reading.new.decoder reading.new.taken result }
     ensures later { IsLater
         (link L.Source.tells L.Sink.tells stream.old)
@@ -197,6 +205,7 @@ fn read_on<R: Wait, L: Stream, A: Asker, G: Gate>(
 }
 
 /// Serves a session: answers the frames of a stream in order, one answer each, until it ends.
+/// The gate is told of each request before it is asked.
 pub fn serve_one<R: Wait, L: Stream, A: Asker, G: Gate>(
     rt: &R,
     alloc: Global,
@@ -207,6 +216,9 @@ pub fn serve_one<R: Wait, L: Stream, A: Asker, G: Gate>(
 ) -> SessionEnd
     requires { A.tells.ready asker.old }
     ensures serves { Serves A.tells asker.old asker.new
+        (link L.Source.tells L.Sink.tells stream.old)
+        (link L.Source.tells L.Sink.tells stream.new) result }
+    ensures told { ServesGated A.tells (G.was_told gate.now session A) asker.old asker.new
         (link L.Source.tells L.Sink.tells stream.old)
         (link L.Source.tells L.Sink.tells stream.new) result }
     ensures later { IsLater

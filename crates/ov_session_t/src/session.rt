@@ -158,7 +158,10 @@ struct Counter {
 }
 
 impl Gate for Counter {
-    fn pause(&self, session: u32, request: u32) {
+    ghost was_told = { λ _ _ _ _ _. Unit {0} };
+
+    fn pause<A>(&self, session: u32, request: u32, asker: &A) {
+        let _ = asker;
         self.requests.set(self.requests.get().saturating_add(1));
         self.last.set((session, request));
     }

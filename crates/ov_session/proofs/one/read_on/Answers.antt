@@ -2,6 +2,7 @@ use Rattle.std.proofs.Common.{◌≡◌, ◌<◌, ◌≤◌, [], List, ℕ, leng
 use Rattle.std.proofs.lemmas.Grind.{common_steps}
 use Rattle.ov_wire.specs.Frames.{Feeds}
 use Rattle.ov_session.specs.Ends.{Serves}
+use Rattle.ov_session.specs.Gates.{gated}
 use Rattle.ov_session.specs.Links.{link}
 use Rattle.ov_session.specs.Steps.{SessionGoesOn}
 use Rattle.ov_session.specs.Reading.{Reads}
@@ -11,9 +12,12 @@ use Rattle.ov_session.proofs.one.read_on.Goals as goal
 
 pub returns-in-Err-clause-goes : goal.returns-in-Err-clause-goes
 returns-in-Err-clause-goes g c a old so_far =
+    let desk = c.args.desk.now in
+    let asks = gated g.A.Asker.tells (g.G.Gate.was_told desk.gate.now desk.session g.row.A.Denot) in
+    let here : g.row.A.Denot × ℕ = (c.args.asker.now, c.args.reading.now.asked) in
     let tells = link g.L.Source.tells g.L.Sink.tells in
     let leaves = g.met.L.Stream.take_leaves c.args.stream.now c.take.new.self c.in-Err.ensures.step in
-    ends_reading g.A.Asker.tells a c.args.asker.now old (tells c.args.stream.now)
+    ends_reading asks a here old (tells c.args.stream.now)
     c.args.reading.now.decoder c.args.reading.now.taken so_far (tells c.take.new.self)
     (reads_none (tells c.args.stream.now) (tells c.take.new.self) c.in-Err.ensures.bytes leaves.bytes
     leaves.faults c.in-Err.ensures.cause.later)
@@ -21,10 +25,13 @@ returns-in-Err-clause-goes g c a old so_far =
 
 pub returns-then-count-eq0-clause-goes : goal.returns-then-count-eq0-clause-goes
 returns-then-count-eq0-clause-goes g c a old so_far =
+    let desk = c.args.desk.now in
+    let asks = gated g.A.Asker.tells (g.G.Gate.was_told desk.gate.now desk.session g.row.A.Denot) in
+    let here : g.row.A.Denot × ℕ = (c.args.asker.now, c.args.reading.now.asked) in
     let tells = link g.L.Source.tells g.L.Sink.tells in
     let leaves = g.met.L.Stream.take_leaves c.args.stream.now c.take.new.self c.in-Ok.ensures.step in
     let some : 0 < length c.take.new.buf = grind (arith, common_steps) in
-    ends_at_end g.A.Asker.tells a c.args.asker.now old (tells c.args.stream.now)
+    ends_at_end asks a here old (tells c.args.stream.now)
     c.args.reading.now.decoder c.args.reading.now.taken so_far (tells c.take.new.self)
     (took_none (tells c.args.stream.now) (tells c.take.new.self) c.take.new.buf c.in-Ok.count
     c.if-count-eq0.true (record {
@@ -37,8 +44,12 @@ returns-then-count-eq0-clause-goes g c a old so_far =
 
 pub returns-in-Ok-answer_each-clause-goes : goal.returns-in-Ok-answer_each-clause-goes
 returns-in-Ok-answer_each-clause-goes g c a old so_far =
+    let desk = c.args.desk.now in
+    let asks = gated g.A.Asker.tells (g.G.Gate.was_told desk.gate.now desk.session g.row.A.Denot) in
+    let here : g.row.A.Denot × ℕ = (c.args.asker.now, c.args.reading.now.asked) in
     let tells = link g.L.Source.tells g.L.Sink.tells in
     let leaves = g.met.L.Stream.take_leaves c.args.stream.now c.take.new.self c.in-Ok.ensures.step in
+    let after : g.row.A.Denot × ℕ = (c.answer_each.new.asker, c.answer_each.new.asked) in
     let piece : List ℕ = c.split_at.result.0.now in
     let d = c.args.reading.now.decoder in
     let d' = c.feed-fed.new.self in
@@ -57,18 +68,22 @@ returns-in-Ok-answer_each-clause-goes g c a old so_far =
     subst (λ (l : List (List ℕ)). Feeds d d' piece [] l c.feed-fed.result) (sym c.deref.ensures.value) none in
     let counts : c.saturating_add-reading.result ≡ min (c.args.reading.now.taken + length piece) 18446744073709551615 =
     omega (arith, c.saturating_add-reading.ensures, c.split_at.ensures.front_len) in
-    subst (SessionGoesOn g.A.Asker.tells a c.answer_each.new.asker old
+    subst (SessionGoesOn asks a after old
     (tells c.answer_each.new.stream) d' c.saturating_add-reading.result) (sym c.go_on.ensures)
-    (goes_on g.A.Asker.tells a c.args.asker.now old (tells c.args.stream.now) d
+    (goes_on asks a here old (tells c.args.stream.now) d
     c.args.reading.now.taken so_far (tells c.take.new.self) (tells c.answer_each.new.stream)
-    c.answer_each.new.asker piece d' c.deref.result.now reads most c.in-Ok-answer_each.ensures.half
+    after piece d' c.deref.result.now reads most c.in-Ok-answer_each.ensures.half
     c.in-Ok-answer_each.ensures.later c.in-Ok-answer_each.ensures.answers
     c.saturating_add-reading.result counts c.feed-fed.result feeds)
 
 pub returns-clause-goes : goal.returns-clause-goes
 returns-clause-goes g c a old so_far =
+    let desk = c.args.desk.now in
+    let asks = gated g.A.Asker.tells (g.G.Gate.was_told desk.gate.now desk.session g.row.A.Denot) in
+    let here : g.row.A.Denot × ℕ = (c.args.asker.now, c.args.reading.now.asked) in
     let tells = link g.L.Source.tells g.L.Sink.tells in
     let leaves = g.met.L.Stream.take_leaves c.args.stream.now c.take.new.self c.in-Ok.ensures.step in
+    let after : g.row.A.Denot × ℕ = (c.answer_each.new.asker, c.answer_each.new.asked) in
     let piece : List ℕ = c.split_at.result.0.now in
     let d = c.args.reading.now.decoder in
     let d' = c.feed-fed.new.self in
@@ -85,10 +100,10 @@ returns-clause-goes g c a old so_far =
     c.new-frames.ensures.items c.feed-fed.ensures in
     let feeds : Feeds d d' piece [] c.deref.result.now c.feed-fed.result =
     subst (λ (l : List (List ℕ)). Feeds d d' piece [] l c.feed-fed.result) (sym c.deref.ensures.value) none in
-    subst (Serves g.A.Asker.tells a c.answer_each.new.asker old
+    subst (Serves asks a after old
     (tells c.answer_each.new.stream)) (sym c.end_of.ensures)
-    (stops_so g.A.Asker.tells a c.args.asker.now old (tells c.args.stream.now) d
+    (stops_so asks a here old (tells c.args.stream.now) d
     c.args.reading.now.taken so_far (tells c.take.new.self) (tells c.answer_each.new.stream)
-    c.answer_each.new.asker piece d' c.deref.result.now reads most c.in-Err-answer_each.ensures.half
+    after piece d' c.deref.result.now reads most c.in-Err-answer_each.ensures.half
     c.in-Err-answer_each.ensures.later c.feed-fed.result feeds c.in-Err-answer_each.stop
     c.in-Err-answer_each.ensures.answers)
