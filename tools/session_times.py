@@ -8,8 +8,9 @@ Run, after `rt run` has built the programs, at the top of the repository:
     python3 tools/session_times.py crates/overstored/out/overstored [--seconds 1] [--sessions 1,4,16,64]
         [--before PROGRAM] [--disk FOLDER]
 
-It takes three minutes and more. `--before` names a server of one session at a time, for what a turn costs, and `--disk` a folder on a disk whose
-syncs are timed. Other stores are in `/dev/shm`, where a sync costs nothing, if it is there.
+It takes three minutes and more. `--before` names a server of one session at a time, for what a turn costs, and
+`--disk` a folder on a disk whose syncs are timed. Other stores are in `/dev/shm`, where a sync costs nothing, if
+it is there.
 """
 import argparse
 import contextlib
