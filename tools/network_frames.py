@@ -1,5 +1,5 @@
-"""The frames that network_times.py has sent: requests, and updates with the owner's tag, whose epochs are known
-before since nobody else asks. Nobody reads the files, so tags, tokens and bytes are zeros.
+"""The frames that network_times.py and session_times.py have sent: requests, and updates with the owner's tag, whose
+epochs are known before since nobody else updates. Nobody reads the files, so tags, tokens and bytes are zeros.
 """
 import struct
 

@@ -8,8 +8,9 @@ Run, after `rt run` has built the programs, at the top of the repository:
     python3 tools/session_times.py crates/overstored/out/overstored [--seconds 1] [--sessions 1,4,16,64]
         [--before PROGRAM] [--disk FOLDER]
 
-`--before` names a server of one session at a time, for what a turn costs, and `--disk` a folder on a disk whose
-syncs are timed. Other stores are in `/dev/shm`, where a sync costs nothing, if it is there.
+It takes three minutes and more. `--before` names a server of one session at a time, for what a turn costs, and
+`--disk` a folder on a disk whose syncs are timed. Other stores are in `/dev/shm`, where a sync costs nothing, if
+it is there.
 """
 import argparse
 import contextlib
@@ -28,7 +29,7 @@ from network_frames import ALICE, F1, Owner, begun, creations, turns
 FREE = "/dev/shm" if os.path.isdir("/dev/shm") else None
 PREFIX = "session_times_"
 WORKERS = 64
-RUNS, PAIRS, HELLOS, FILES = 3, 15, 10_000, 32
+RUNS, PAIRS, HELLOS, FILES = 3, 25, 10_000, 32
 # More updates than a server accepts in a second.
 UPDATES = 60_000
 LIMIT = 600
@@ -191,27 +192,36 @@ def updates():
             row(title, sessions, *cells)
 
 
-def turn():
-    """One session that says Hello, with nobody beside it: of this server, and of one without turns."""
-    table("one session", "a second", "time for each", "processor time for each")
-    programs = {"with turns, of %d workers" % WORKERS: SERVER}
-    if ARGUMENTS.before:
-        programs["before"] = real(ARGUMENTS.before)
-    figures = {title: [] for title in programs}
+def hellos(servers):
+    """Microseconds of a Hello, and those of the server's processor time, in sessions with each of these servers in
+    turns: a pair for each session, in a list for each server."""
+    figures = [[] for _ in servers]
     with contextlib.ExitStack() as stack:
-        servers = [(title, *stack.enter_context(running(FREE, words))) for title, words in programs.items()]
+        open_now = [(*stack.enter_context(running(FREE, words)), taken) for words, taken in zip(servers, figures)]
         for pair in range(PAIRS):
-            for title, process, address in servers if pair % 2 else servers[::-1]:
+            for process, address, taken in open_now if pair % 2 else open_now[::-1]:
                 before = processor(process)
                 seconds, _ = one(address, OUT / "hellos")
-                figures[title].append((seconds / HELLOS * 1e6, (processor(process) - before) / HELLOS * 1e6))
-    for title, taken in figures.items():
-        passed, used = middle(taken)
-        row(title, many_a_second(1e6 / passed), "%.2f µs" % passed, "%.2f µs" % used)
-    if ARGUMENTS.before:
-        pairs = zip(*figures.values())
-        passed, used = middle((now[0] - then[0], now[1] - then[1]) for now, then in pairs)
-        row("a turn: the median difference", "", "%+.2f µs" % passed, "%+.2f µs" % used)
+                taken.append((seconds / HELLOS * 1e6, (processor(process) - before) / HELLOS * 1e6))
+    return figures
+
+
+def turn():
+    """One session that says Hello, with nobody beside it: of this server, and of one without turns. On one processor
+    the times don't hang on which of them the system gives to whom."""
+    table("one session", "on", "a second", "time for each", "processor time for each")
+    servers = [SERVER] + [real(ARGUMENTS.before)] * bool(ARGUMENTS.before)
+    all_of_them = os.sched_getaffinity(0)
+    for title, processors in ("all processors", all_of_them), ("one processor", {max(all_of_them)}):
+        os.sched_setaffinity(0, processors)
+        figures = hellos(servers)
+        os.sched_setaffinity(0, all_of_them)
+        for name, taken in zip(("with turns, %d workers" % WORKERS, "before"), figures):
+            passed, used = middle(taken)
+            row(name, title, many_a_second(1e6 / passed), "%.2f µs" % passed, "%.2f µs" % used)
+        if ARGUMENTS.before:
+            passed, used = middle((now[0] - then[0], now[1] - then[1]) for now, then in zip(*figures))
+            row("a turn: the median difference", title, "", "%+.2f µs" % passed, "%+.2f µs" % used)
 
 
 # ---- waiting
@@ -263,6 +273,7 @@ if __name__ == "__main__":
     os.umask(0o077)
     ARGUMENTS = arguments()
     SESSIONS = [int(word) for word in ARGUMENTS.sessions.split(",")]
+    assert max(SESSIONS) <= WORKERS, "further sessions wait until one ends"
     SERVER = real(ARGUMENTS.server, workers=WORKERS)
     BOTH = SERVER, plain
     OUT = new_folder(FREE, PREFIX)
