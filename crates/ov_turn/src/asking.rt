@@ -34,6 +34,7 @@ impl<A: Answerer> Shared<A> {
         ensures turn { TakesTurn A.tells self.now.start seat.old.me.0 request.now result
             reply.new.items seat.new.me.0 }
     {
+        let entry = self.entry.lock(rt);
         let ticket = self.draw(seat);
         self.wait_turn(rt, seat, ticket);
         let done = self.answer_here(seat, request, reply);
@@ -41,6 +42,7 @@ impl<A: Answerer> Shared<A> {
             self.raise::<Brand>(seat, ticket, request);
         }
         self.pass_on(seat);
+        drop(entry);
         done
     }
 

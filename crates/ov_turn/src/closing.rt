@@ -43,7 +43,7 @@ impl<A: Answerer> Shared<A> {
         requires whole { seat.me.0.parts ≡ self.passes }
         ensures { GivesUp A.tells self.start self.passes seat.me.0 result }
     {
-        let Shared { table, bells: _ } = self;
+        let Shared { table, entry: _ } = self;
         let mut closed = table.close_with(seat);
         let value = closed.take(0);
         closed.free();

@@ -14,8 +14,7 @@
 //!
 //! It is a ticket lock over one table of the kit (`atomic_table`): three words, which are the next
 //! ticket, the ticket that is served and the epoch, and one slot, in which the value is answered.
-//! A thread that waits for its turn sleeps, and the end of a turn wakes the thread that comes next and no
-//! other.
+//! Threads wait for their turns at a plain lock before they draw a ticket, where they sleep.
 //!
 //! **What a contract sees** of a pass is its number, the count of its calls, the accepted updates
 //! that it has *seen*, in order, and the epoch that it was last *told* (`PassState` and
@@ -51,7 +50,6 @@
 #![tactic(auto)]
 
 mod asking;
-mod bells;
 mod closing;
 mod opening;
 mod pass;

@@ -4,7 +4,6 @@ ghost use Rattle.ov_turn.specs.Passes.{AreFirst, first_pass};
 ghost use Rattle.ov_turn.specs.Steps.{IsUnasked};
 ghost use Rattle.ov_turn.specs.Views.{first_part, opened, other_parts};
 
-use crate::bells::Bells;
 use crate::pass::Pass;
 use crate::plays::Cut;
 use crate::shared::{About, Place, Shared};
@@ -12,6 +11,7 @@ use atomic_table::{Refused, Table};
 use ov_peer::Answerer;
 use std::alloc::Global;
 use std::snapshot::Snapshot;
+use std::sync::Mutex;
 
 /// Memory was refused. The answerer comes back as it was.
 #[derive(Drop)]
@@ -24,7 +24,6 @@ fn lay<A: Answerer>(
     alloc: Global,
     answerer: A,
     passes: u32,
-    bells: Bells,
 ) -> Result<(Shared<A>, Place<A>), NewRefused<A>>
     requires { (0 < passes) × (passes ≤ 65536) }
     ensures made { IfOk result (λ r. (r.0.start ≡ answerer) × (r.0.passes ≡ passes)) }
@@ -44,7 +43,10 @@ fn lay<A: Answerer>(
     }
     slots.push_reserved(answerer);
     match Table::new(alloc, &[0, 0, epoch], slots, &about) {
-        Ok((table, seat)) => Ok((Shared { table, bells }, seat)),
+        Ok((table, seat)) => {
+            let entry = Mutex::new(());
+            Ok((Shared { table, entry }, seat))
+        }
         Err(Refused { mut slots }) => {
             let Some(answerer) = slots.pop() else {
                 unreachable!()
@@ -112,10 +114,7 @@ impl<A: Answerer> Shared<A> {
         if list.reserve(passes as usize).is_err() {
             return Err(NewRefused { answerer });
         }
-        let Ok(bells) = Bells::new(alloc, passes) else {
-            return Err(NewRefused { answerer });
-        };
-        let (shared, seat) = lay(alloc, answerer, passes, bells)?;
+        let (shared, seat) = lay(alloc, answerer, passes)?;
         shared.deal(seat, passes, &mut list);
         Ok((shared, list))
     }

@@ -1,11 +1,11 @@
 //! A value that threads share, and the table that it lies in.
-use crate::bells::Bells;
 use crate::view::View;
 use atomic_table::{Seat, Table, TableRule};
 use ov_peer::Answerer;
 use std::alloc::Global;
 use std::marker::Model;
 use std::snapshot::Snapshot;
+use std::sync::Mutex;
 
 /// What the table is told once: the value as it is then, and how many passes there will be.
 #[derive(Drop)]
@@ -36,7 +36,8 @@ pub(crate) type Desk<A> = Table<A, View<A>, About<A>, Turns, Global>;
 #[derive(Drop)]
 pub struct Shared<A: Answerer> {
     pub(crate) table: Desk<A>,
-    pub(crate) bells: Bells,
+    // Threads wait here before they draw a ticket. Nothing is said of it.
+    pub(crate) entry: Mutex<()>,
 }
 
 impl<A: Answerer> Model for Shared<A> {

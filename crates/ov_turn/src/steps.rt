@@ -1,7 +1,7 @@
 //! The steps of a call: a ticket lock round the value, and the epoch beside it.
 //!
-//! A thread waits for its ticket asleep, and whoever passes the turn on wakes the thread whose ticket
-//! comes next, if it sleeps.
+//! Threads come to these steps one at a time, by a lock of which nothing is known here. So a ticket is
+//! served at once, but it is the ticket by which a thread knows that it has the value alone.
 ghost use Rattle.std.specs.Prelude.{◌≡◌, ℕ, ◌+◌, ◌*◌, ◌<◌, ◌≤◌, [], ◌∷◌, List, OnOk};
 ghost use Rattle.ov_wire.specs.Frames.{IsFrame};
 ghost use Rattle.ov_peer.specs.Spellings.{spelling_of};
@@ -16,6 +16,7 @@ use crate::shared::{Place, Shared};
 use ov_base::Memory;
 use ov_peer::Answerer;
 use std::sync::Wait;
+use std::thread;
 
 /// The word of the next ticket to draw.
 pub(crate) const NEXT: usize = 0;
@@ -48,7 +49,7 @@ impl<A: Answerer> Shared<A> {
             if served == ticket {
                 return;
             }
-            self.bells.sleep(rt, ticket);
+            thread::yield_now();
         }
         unreachable!()
     }
@@ -99,7 +100,6 @@ impl<A: Answerer> Shared<A> {
         ensures own { seat.new.table_id ≡ seat.old.table_id }
         ensures view { seat.new.me ≡ (rested seat.old.me.0, []) }
     {
-        let served = self.table.shared.fetch_add::<PassOn>(seat, SERVED, 1);
-        self.bells.ring(served.wrapping_add(1));
+        self.table.shared.fetch_add::<PassOn>(seat, SERVED, 1);
     }
 }

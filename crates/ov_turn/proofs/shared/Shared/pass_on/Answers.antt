@@ -2,8 +2,8 @@ use Rattle.std.proofs.Common.{rules}
 use Rattle.ov_turn.proofs.Passing.{passes_on}
 use Rattle.ov_turn.proofs.shared.Shared.pass_on.Goals as goal
 
-pub fetch_add-served-requires : goal.fetch_add-served-requires
-fetch_add-served-requires g c =
+pub fetch_add-requires : goal.fetch_add-requires
+fetch_add-requires g c =
     let v = c.requires.value in (
       search rules,
       search rules,
