@@ -9,8 +9,8 @@ use Rattle.ov_serving.specs.declared.session.Ended.{Ended}
 use Rattle.ov_serving.specs.Sessions.{EndsAs}
 
 -- The sessions that were started and aren't finished, in the order in which they were started; the
--- most that there ever were of these; how many starts were refused, a number that stays at 18,446,744,073,709,551,615; and
--- whether every start is refused.
+-- most that there ever were of these; how many sessions weren't started, a number that stays at
+-- 18,446,744,073,709,551,615; and whether every start is refused.
 pub record SpawnerState (L V G : Type 0) : Type 0 where
   pub started : List (Session L V G)
   pub most : ℕ

@@ -25,8 +25,6 @@
 //! * [`serve`] gives each stream of a door to one session, which one of the passes serves, and hands
 //!   it back to the door as it was left, under its number. The sessions in the order of their
 //!   numbers lead from the passes that it was given to those that it gives back (`LeadsPasses`).
-//! * Each stream is told that its session is over as that ends, by the thread that served it
-//!   (`Dismiss`): `serve` gives it back to the door only when it needs its pass, or at the end.
 //! * A session that can't be started is run by the caller of `serve`, and counted in `alone` and by
 //!   the spawner. Where `alone` is 0 there were once as many sessions at once as passes, or as were
 //!   served; there are never more of them than passes.
@@ -46,6 +44,8 @@
 //! earlier one goes on. `serve_one` tells the gate the number that it was given; that this is the
 //! session's own, by which the door takes the stream back, is said by no clause here, and shown by a
 //! test.
+//! A stream is told that its session is over as that ends, by the thread that served it (`Dismiss`),
+//! which no clause says: `serve` gives it back to the door only when it needs its pass, or at the end.
 //! What the door took back, and with which end, is said where it tells its streams. A spawner that was
 //! used before shows its earlier most.
 //!

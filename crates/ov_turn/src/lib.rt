@@ -44,9 +44,10 @@
 //! | `Steps` | inner: what each step tells its seat |
 //!
 //! Nothing is claimed of the order of turns, nor that a turn ever comes: a call that waits keeps its
-//! contract if it returns. No clause says that [`Shared::epoch`] reads the shared word: its clauses
-//! bound the number from below, and those of later calls from above. `ov_serving` asks by it for many
-//! sessions; no program does yet.
+//! contract if it returns; nor that a pass sees what another was answered before its call. No clause
+//! says that [`Shared::epoch`] reads the shared word: its clauses bound the number from below, and
+//! those of later calls from above; a test shows it (`ov_threads_t`). Sessions ask by passes
+//! (`ov_serving`), and none of them asks for the epoch so.
 #![tactic(auto)]
 
 mod asking;
