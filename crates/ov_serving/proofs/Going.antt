@@ -40,28 +40,30 @@ least_within : (served passes most started : ℕ) → started ≤ most
 least_within served passes most started within (inl full) = grind (arith, nat_tests)
 least_within served passes most started within (inr all) = grind (arith, nat_tests)
 
-rose_by_one : (first mid last : ℕ) → mid ≡ first → last ≡ min (mid + 1) (2 ^ 64 - 1) → Rose first last
-rose_by_one first mid last same is = grind (arith, nat_tests)
-
-rose_again : (first mid last : ℕ) → Rose first mid → last ≡ min (mid + 1) (2 ^ 64 - 1) → Rose first last
-rose_again first mid last rose is = grind (arith, nat_tests)
+one_more : (first mid last alone : ℕ) → mid ≡ min (first + alone) (2 ^ 64 - 1) → last ≡ min (mid + 1) (2 ^ 64 - 1)
+    → last ≡ min (first + (alone + 1)) (2 ^ 64 - 1)
+one_more first mid last alone so is = grind (arith, nat_tests)
 
 -- one more session wasn't started
 refused_one : (first mid last alone now : ℕ) → CountsRefused first mid alone → last ≡ min (mid + 1) (2 ^ 64 - 1) → now ≡ alone + 1
     → CountsRefused first last now
 refused_one first mid last alone now so is count = record {
-  stays = λ none. absurd (omega (arith, none, count));
-  rose = λ some. by_number alone refl;
+  none = λ quiet. absurd (omega (arith, quiet, count));
+  some = λ several. subst (λ (n : ℕ). last ≡ min (first + n) (2 ^ 64 - 1)) (sym count) (by_number alone refl);
 } where
-  by_number : (n : ℕ) → alone ≡ n → Rose first last
-  by_number zero none = rose_by_one first mid last (so.stays none) is
-  by_number (suc n) some = rose_again first mid last (so.rose (omega (arith, some))) is
+  by_number : (n : ℕ) → alone ≡ n → last ≡ min (first + (alone + 1)) (2 ^ 64 - 1)
+  by_number zero quiet =
+      let same : mid ≡ first = so.none quiet in
+      is ∙ ap (λ (n : ℕ). min n (2 ^ 64 - 1)) (omega (arith, same, quiet))
+  by_number (suc n) several = one_more first mid last alone (so.some (omega (arith, several))) is
 
 -- what is so of one count is so of an equal one
 refused_same : (first mid last alone now : ℕ) → CountsRefused first mid alone → last ≡ mid → now ≡ alone → CountsRefused first last now
 refused_same first mid last alone now so is count = record {
-  stays = λ none. is ∙ so.stays (sym count ∙ none);
-  rose = λ some. subst (λ (n : ℕ). Rose first n) (sym is) (so.rose (subst (λ (n : ℕ). 0 < n) count some));
+  none = λ quiet. is ∙ so.none (sym count ∙ quiet);
+  some = λ several.
+      is ∙ so.some (subst (λ (n : ℕ). 0 < n) count several)
+      ∙ ap (λ (n : ℕ). min (first + n) (2 ^ 64 - 1)) (sym count);
 }
 
 finish_leaves : {L V G : Type 0} (one : OneSession (PassState V) L)
@@ -125,7 +127,7 @@ module _ {L V G : Type 0} (one : OneSession (PassState V) L)
       bounded = most_first before.most (length passes);
       full = λ quiet. inr (sym (ap length idle));
       counted = omega (arith, none);
-      refuses = record { stays = λ quiet. refl; rose = λ some. absurd (omega (arith, none, some)) };
+      refuses = record { none = λ quiet. refl; some = λ several. absurd (omega (arith, none, several)) };
     };
     calm = refl;
   }

@@ -1,7 +1,6 @@
 -- What a spawner shows, and what each call does to it.
 use Rattle.std.specs.Prelude.{◌≡◌, ◌<◌, ℕ, ◌+◌, ◌-◌, ◌^◌, List, [], ◌∷◌, ◌++◌, length, max, min}
 use Rattle.std.specs.Prelude.{Bool, Option, Some, None, Result, Ok, Err}
-use Rattle.ov_base.specs.Causes.{Rose}
 use Rattle.ov_session.specs.Serving.{OneSession}
 use Rattle.ov_turn.specs.Passes.{PassState}
 use Rattle.ov_serving.specs.declared.session.Session.{Session}
@@ -17,10 +16,10 @@ pub record SpawnerState (L V G : Type 0) : Type 0 where
   pub refused : ℕ
   pub refuses : Bool
 
--- so many sessions weren't started: the count rose where there is one, and else stayed
+-- so many sessions weren't started, and were counted
 pub record CountsRefused (before now alone : ℕ) : Type 0 where
-  pub stays : alone ≡ 0 → now ≡ before
-  pub rose : 0 < alone → Rose before now
+  pub none : alone ≡ 0 → now ≡ before
+  pub some : 0 < alone → now ≡ min (before + alone) (2 ^ 64 - 1)
 
 module _ {L V G : Type 0} where
   -- the session was started behind the others, or it came back and that was counted
