@@ -33,9 +33,9 @@ pub fn tags() -> SurfaceMaster {
 
 /// A server over an empty store in memory.
 pub fn server(alloc: Global) -> Result<DiskServer<MemDisk>, Fail> {
-    let disk = MemDisk::new(alloc);
-    match Store::begin(alloc, disk, surface(), [17; 32], Mode::Full) {
-        Ok(store) => Ok(DiskServer::new(Server::new(store, surface()))),
+    let (disk, surface) = (MemDisk::new(alloc), surface());
+    match Store::begin(alloc, disk, surface, [17; 32], Mode::Full) {
+        Ok(store) => Ok(DiskServer::new(Server::new(store, surface))),
         Err(_) => Err(Fail::from("no store")),
     }
 }

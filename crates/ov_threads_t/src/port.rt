@@ -88,7 +88,9 @@ impl<N: Net + AllocGlobal + Drop> Door for PortDoor<N> {
 }
 
 /// What a server of four sessions is told, of which two may run at the same time.
-fn settings(alloc: Global) -> Settings {
+fn settings(alloc: Global) -> Settings
+    ensures { result.workers ≡ 2 }
+{
     Settings {
         address: Octets::new(alloc),
         mode: Mode::Full,
