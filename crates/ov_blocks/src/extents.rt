@@ -6,6 +6,7 @@ ghost use Rattle.ov_blocks.specs.Places.{TellsNone};
 ghost use Rattle.ov_blocks.specs.declared.extents.Extent.{Extent};
 
 use crate::free::{count_before, is_free, lowest_run};
+use crate::packed::Packed;
 use ov_base::Memory;
 use std::alloc::Global;
 use std::marker::Model;
@@ -46,18 +47,20 @@ pub struct Extent {
 #[derive(Drop)]
 pub struct Extents {
     held: Vec<Extent>,
+    packed: Packed,
 }
 
 impl Model for Extents {
     ghost use Rattle.std.specs.Prelude.{List};
     ghost use Rattle.ov_blocks.specs.declared.extents.Extent.{Extent};
     ghost use Rattle.ov_blocks.specs.Extents.{AreApart};
+    ghost use Rattle.ov_blocks.specs.Gaps.{IsPacked};
 
     ghost Value = { List Extent };
 
     ghost view = { λ e. e.held.items };
 
-    ghost invariant = { λ e. AreApart 0 e.held.items };
+    ghost invariant = { λ e. AreApart 0 e.held.items × IsPacked e.packed e.held.items };
 }
 
 // Whether the block is none of these, which rise.
@@ -75,6 +78,7 @@ impl Extents {
     {
         Extents {
             held: Vec::new(alloc),
+            packed: Packed::unknown(),
         }
     }
 
@@ -119,7 +123,7 @@ impl Extents {
         ensures near { result ≤ end_from 0 self.now }
         ensures bound { result ≤ blocks_held self.now + length self.now * (blocks - 1) }
     {
-        lowest_run(&self.held, blocks, from)
+        lowest_run(&self.held, self.packed, blocks, from)
     }
 
     /// Holds a range, unless one of its blocks is in use.
@@ -134,7 +138,10 @@ impl Extents {
         if !is_free(&self.held, place, first, length) {
             return Ok(false);
         }
-        self.held.insert(place, Extent { first, length })?;
+        let extent = Extent { first, length };
+        let packed = self.packed.with(&self.held, place, extent);
+        self.held.insert(place, extent)?;
+        self.packed = packed.further(&self.held);
         Ok(true)
     }
 
@@ -154,6 +161,7 @@ impl Extents {
         ensures only { AreGivenUp (first ∷ []) self.old self.new }
     {
         let place = count_before(&self.held, first);
+        self.packed = self.packed.without(&self.held, place);
         let _extent = self.held.remove(place);
     }
 
@@ -188,6 +196,7 @@ impl Extents {
         requires held { All (BeginsOne self.old) gone.now }
         ensures { AreGivenUp gone.now self.old self.new }
     {
+        self.packed = Packed::unknown();
         self.held.retain(|extent| is_none_of(extent.first, gone));
     }
 }

@@ -72,6 +72,7 @@ mod bytes;
 mod extents;
 mod free;
 mod laws;
+mod packed;
 
 pub use extents::{
     BLOCK_BYTES, Extent, Extents, MAX_BLOCKS, MAX_EXTENT_BLOCKS, MAX_HELD, blocks_of,
