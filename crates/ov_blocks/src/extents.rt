@@ -43,7 +43,8 @@ pub struct Extent {
     pub length: u32,
 }
 
-/// The extents that are held, in the order of their places.
+/// The extents that are held, in the order of their places, and what is known of the gaps between
+/// them.
 #[derive(Drop)]
 pub struct Extents {
     held: Vec<Extent>,
@@ -98,7 +99,8 @@ impl Extents {
     }
 
     /// The first block of the lowest run of so many free blocks. It takes no memory, and walks over
-    /// the held extents at most once.
+    /// the held extents at most once; those that follow one another from block 0 on, with one gap at
+    /// most, it passes in one step.
     pub fn place(&self, blocks: u32) -> u32
         requires { HasPlace blocks self.now }
         ensures free { IsFree result blocks self.now }
@@ -190,7 +192,7 @@ impl Extents {
         }
     }
 
-    // Gives them up in one walk over all that is held.
+    // Gives them up in one walk over all that is held. Many gaps may arise, so none is known then.
     fn keep_others(&mut self, gone: &[u32])
         requires rise { IsStrictlyIncreasing gone.now }
         requires held { All (BeginsOne self.old) gone.now }

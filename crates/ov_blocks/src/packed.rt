@@ -1,4 +1,4 @@
-//! How far the held extents follow one another without a gap, except for one.
+//! How far the held extents follow one another from block 0 on, with one gap at most.
 ghost use Rattle.std.specs.Prelude.{◌≡◌, ◌≤◌, ◌<◌, List, length};
 ghost use Rattle.std.specs.List.{insert, remove};
 ghost use Rattle.ov_blocks.specs.Extents.{AreApart};
@@ -9,8 +9,8 @@ ghost use Rattle.ov_blocks.specs.declared.extents.Extent.{Extent};
 use crate::extents::Extent;
 use crate::free::end_before;
 
-/// What is known of the gaps between extents: the first `until` of them have no gap in front of
-/// them, except the one at `gap`. So a search passes them all in one step.
+/// What is known of the gaps between held extents: the first `until` of them have no gap in front of
+/// them, but for the one at `gap`, which may have one. So a search passes all of them by one look.
 #[derive(Clone, Copy)]
 pub(crate) struct Packed {
     gap: usize,
@@ -34,7 +34,8 @@ impl Packed {
         Packed { gap: 0, until: 0 }
     }
 
-    // Whether the gaps from this place on are all too short for so many blocks.
+    // Whether the gaps from this place on, as far as they are known, are all too short for so many
+    // blocks.
     fn are_short(self, held: &[Extent], start: usize, blocks: u32) -> bool
         requires apart { AreApart 0 held.now }
         requires packed { IsPacked self held.now }
@@ -78,6 +79,8 @@ impl Packed {
         if place >= self.until {
             return self;
         }
+        // It stands in the one gap. Where it leaves blocks free in front of it, it may leave some
+        // behind it, too, and no more than the front is known then.
         if end_before(held, place) < extent.first {
             return Packed {
                 gap: place,
@@ -100,12 +103,14 @@ impl Packed {
         if place >= self.until {
             return self;
         }
+        // A gap right before it or behind it becomes one with its blocks.
         if self.gap == place || self.gap == place + 1 || self.are_short(held, 0, 1) {
             return Packed {
                 gap: place,
                 until: self.until - 1,
             };
         }
+        // There are two gaps now: what stands behind the second isn't known any more.
         if self.gap < place {
             return Packed {
                 gap: self.gap,
@@ -118,7 +123,7 @@ impl Packed {
         }
     }
 
-    /// The same, and of as many extents behind as may be told by one gap.
+    /// The same, and what a walk over the extents behind tells, up to the second gap.
     pub(crate) fn further(self, held: &[Extent]) -> Packed
         requires apart { AreApart 0 held.now }
         requires packed { IsPacked self held.now }
