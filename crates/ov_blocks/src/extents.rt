@@ -43,11 +43,11 @@ pub struct Extent {
     pub length: u32,
 }
 
-/// The extents that are held, in the order of their places, and what is known of the gaps between
-/// them.
+/// The extents that are held, in the order of their places.
 #[derive(Drop)]
 pub struct Extents {
     held: Vec<Extent>,
+    // What is known of the gaps between them.
     packed: Packed,
 }
 
