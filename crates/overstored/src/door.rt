@@ -12,11 +12,10 @@ use ov_base::Mode;
 use ov_io::{Fault, StdStream};
 use ov_session::{Door, SessionEnd, TcpDoor};
 use std::cell::Cell;
-use std::fmt;
 use std::fmt::{Display, Formatter, Write};
 use std::net::{Net, SocketAddr};
-use std::thread;
 use std::time::{Clock, Duration};
+use std::{fmt, thread};
 
 // How often in a row a connection is asked for where none can be had, as where no descriptor is free.
 const MOST_TRIES: u32 = 60;
