@@ -420,19 +420,27 @@ def memory_that_is_refused():
     assert (process.returncode, out) == (0, b"served 2\n"), (process.returncode, out)
 
 
+def descriptors(pid):
+    return {int(entry) for entry in os.listdir(f"/proc/{pid}/fd")}
+
+
 def no_descriptor_is_free():
     """A connection for which the server has no descriptor waits, and is answered once there is one."""
-    server = Server(new_folder(), 1)
+    server = Server(new_folder(), 2)
     pid = server.process.pid
-    most = 1 + max(int(entry) for entry in os.listdir(f"/proc/{pid}/fd"))
     _, hard = resource.prlimit(pid, resource.RLIMIT_NOFILE)
-    resource.prlimit(pid, resource.RLIMIT_NOFILE, (most, hard))
+    before = descriptors(pid)
+    with server.connect() as stream:
+        assert ask(stream, HELLO) == welcome(0)
+        # The lowest descriptor that was free is this session's, and the next one may not have it.
+        (lowest,) = descriptors(pid) - before
+        resource.prlimit(pid, resource.RLIMIT_NOFILE, (lowest, hard))
     with server.connect() as stream:
         stream.sendall(framed(HELLO))
         time.sleep(1.5)
         resource.prlimit(pid, resource.RLIMIT_NOFILE, (hard, hard))
         assert reply(stream) == welcome(0)
-    told = server.end(1)
+    told = server.end(2)
     assert told and all(line.startswith("overstored: warning: can't accept, trying again") for line in told), told
 
 
