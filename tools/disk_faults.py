@@ -42,7 +42,7 @@ from plain_machine import Machine, spelled
 MODES = ("full", "delta")
 COMMANDS, BEFORE = 60, 30
 LIBRARY = pathlib.Path(__file__).resolve().with_suffix(".c")
-COMPILERS = ("cc", "gcc", "clang", "/opt/rattle/toolchain/bin/clang")
+COMPILERS = ("cc", "gcc", "clang")
 SECONDS = 60
 KINDS = {"r": "reads", "w": "writes", "s": "syncs", "t": "cuts", "l": "looks"}
 # By name: the error, 0 for a call that is short, and whether all calls behind it fail too.

@@ -4,6 +4,12 @@
 #![tactic(auto)]
 
 #[cfg(test)]
+mod memory;
+#[cfg(test)]
+mod peer;
+#[cfg(test)]
+mod port;
+#[cfg(test)]
 mod session;
 #[cfg(test)]
 mod settings;

@@ -1,17 +1,13 @@
-//! Sessions in memory, against bytes that were written by hand, and over a port of this machine.
-ghost use Rattle.std.specs.Prelude.{◌≡◌, ◌<◌, ◌∷◌, [], false, length};
+//! Sessions in memory, against bytes that were written by hand.
+ghost use Rattle.std.specs.Prelude.{◌≡◌, ◌∷◌, [], false, length};
 
+use crate::memory::stream;
 use ov_base::{Memory, Octets};
-use ov_io::{Fault, MemSink, MemSource, MemStream, Sink, Source};
-use ov_peer::{Answerer, Peer, PeerFault};
-use ov_session::{
-    Alone, Door, Gate, MemDoor, NetPeer, OpenGate, SILENCE_SECONDS, SessionEnd, TcpDoor, TcpLink,
-    serve_each, serve_one,
-};
+use ov_io::MemStream;
+use ov_peer::Answerer;
+use ov_session::{Alone, Door, Gate, MemDoor, OpenGate, SessionEnd, serve_each, serve_one};
 use std::alloc::Global;
 use std::cell::Cell;
-use std::io::ErrorKind;
-use std::str;
 use std::sync::Wait;
 use std::test::Fail;
 
@@ -56,23 +52,6 @@ fn serve_memory<R: Wait>(
     ensures { length door.new.gave ≡ result.0 }
 {
     serve_each(rt, alloc, door, parrot, sessions)
-}
-
-/// A stream with these bytes to read, which gives pieces, and fails the calls with these numbers.
-fn stream(
-    alloc: Global,
-    bytes: &[u8],
-    piece: usize,
-    read: &[u8],
-    write: &[u8],
-) -> Result<MemStream, Fail>
-    requires { 0 < piece }
-{
-    let bytes = Octets::copy(alloc, bytes)?;
-    Ok(MemStream {
-        source: MemSource::new(bytes, piece, Octets::copy(alloc, read)?),
-        sink: MemSink::new(alloc, Octets::copy(alloc, write)?),
-    })
 }
 
 /// Serves a stream alone.
@@ -280,183 +259,5 @@ fn a_door_in_memory(rt: HostRuntime) -> Result<(), Fail> {
         serve_memory(&rt, alloc, &mut door, &mut parrot, 9),
         (0, true)
     );
-    Ok(())
-}
-
-#[test]
-fn replies_come_in_pieces(rt: HostRuntime) -> Result<(), Fail> {
-    let alloc = rt.alloc();
-    let bytes: [u8; 15] = [0, 0, 0, 2, 7, 8, 0, 0, 0, 1, 9, 0, 0, 0, 0];
-    let mut peer = NetPeer::new(stream(alloc, &bytes, 3, &[], &[])?)?;
-    let mut reply = Vec::new(alloc);
-    assert_eq!(rt; peer.ask(&[1, 2, 3], &mut reply), Ok(()));
-    assert_eq!(rt; reply.as_slice(), [7, 8].as_slice());
-    assert_eq!(rt; peer.ask(&[4], &mut reply), Ok(()));
-    assert_eq!(rt; reply.as_slice(), [9].as_slice());
-    assert_eq!(rt; peer.ask(&[5], &mut reply), Err(PeerFault::Link));
-    let asked: [u8; 17] = [0, 0, 0, 3, 1, 2, 3, 0, 0, 0, 1, 4, 0, 0, 0, 1, 5];
-    assert_eq!(rt; peer.link().sink.written(), asked.as_slice());
-    let mut peer = NetPeer::new(stream(alloc, &[0, 0, 0, 2, 7], 3, &[], &[])?)?;
-    assert_eq!(rt; peer.ask(&[1], &mut reply), Err(PeerFault::Link));
-    Ok(())
-}
-
-/// An input whose reply comes late, and the calls that fail.
-struct Late {
-    input: &'static [u8],
-    read: &'static [u8],
-    write: &'static [u8],
-    written: &'static [u8],
-}
-
-const LATE: [Late; 5] = [
-    // The first read fails, of a length field.
-    Late {
-        input: &[0, 0, 0, 1, 7, 0, 0, 0, 1, 8],
-        read: &[0],
-        write: &[],
-        written: &[0, 0, 0, 1, 1],
-    },
-    // The read behind a length field fails.
-    Late {
-        input: &[0, 0, 0, 4, 0, 0, 0, 1, 8],
-        read: &[1],
-        write: &[],
-        written: &[0, 0, 0, 1, 1],
-    },
-    // The request isn't written.
-    Late {
-        input: &[0, 0, 0, 1, 7],
-        read: &[],
-        write: &[0],
-        written: &[],
-    },
-    // A length field that no frame has stands before a frame.
-    Late {
-        input: &[0, 0, 0, 0, 0, 0, 0, 1, 8],
-        read: &[],
-        write: &[],
-        written: &[0, 0, 0, 1, 1],
-    },
-    // The input ends inside a frame.
-    Late {
-        input: &[0, 0, 0, 2, 7],
-        read: &[],
-        write: &[],
-        written: &[0, 0, 0, 1, 1],
-    },
-];
-
-#[test]
-fn a_late_reply_is_not_taken(rt: HostRuntime) -> Result<(), Fail> {
-    let alloc = rt.alloc();
-    for late in &LATE {
-        let mut peer = NetPeer::new(stream(alloc, late.input, 4, late.read, late.write)?)?;
-        let mut reply = Vec::from_array(alloc, [9, 9])?;
-        assert_eq!(rt; peer.ask(&[1], &mut reply), Err(PeerFault::Link));
-        for request in 2..5u8 {
-            assert_eq!(rt; peer.ask(&[request], &mut reply), Err(PeerFault::Link));
-            assert!(rt; reply.is_empty());
-            assert_eq!(rt; peer.link().sink.written(), late.written);
-        }
-    }
-    Ok(())
-}
-
-#[test]
-fn what_a_lost_peer_leaves_is_unread(rt: HostRuntime) -> Result<(), Fail> {
-    let alloc = rt.alloc();
-    let mut peer = NetPeer::new(stream(alloc, &[0, 0, 0, 1, 7], 64, &[0], &[])?)?;
-    let mut reply = Vec::new(alloc);
-    assert_eq!(rt; peer.ask(&[1], &mut reply), Err(PeerFault::Link));
-    assert_eq!(rt; peer.ask(&[2], &mut reply), Err(PeerFault::Link));
-    let mut stream = peer.into_link();
-    let mut late = [0; 8];
-    assert_eq!(rt; stream.take(&mut late), Ok(5));
-    assert_eq!(rt; late, [0, 0, 0, 1, 7, 0, 0, 0]);
-    Ok(())
-}
-
-#[test]
-fn an_announced_length_takes_no_memory(rt: HostRuntime) -> Result<(), Fail> {
-    let alloc = rt.alloc();
-    let mut input = [7; 10_004];
-    input[..4].copy_from_slice(&[0, 0x10, 0, 0]);
-    // How many bytes come behind the length field, and how many of them are kept, by whole pieces.
-    for (come, kept) in [
-        (0usize, 0usize),
-        (1, 0),
-        (8_191, 0),
-        (8_192, 8_192),
-        (10_000, 8_192),
-    ] {
-        let mut peer = NetPeer::new(stream(alloc, &input[..4 + come], 4_000, &[], &[])?)?;
-        let mut reply = Vec::new(alloc);
-        assert_eq!(rt; peer.ask(&[1], &mut reply), Err(PeerFault::Link));
-        assert_eq!(rt; reply.len(), kept);
-        assert!(rt; reply.capacity() <= 16_384);
-    }
-    Ok(())
-}
-
-#[test]
-fn a_long_reply_comes_whole(rt: HostRuntime) -> Result<(), Fail> {
-    let alloc = rt.alloc();
-    let mut input = [7; 20_004];
-    input[..4].copy_from_slice(&[0, 0, 0x4e, 0x20]);
-    input[10_003] = 8;
-    let mut peer = NetPeer::new(stream(alloc, &input, 3_000, &[], &[])?)?;
-    let mut reply = Vec::new(alloc);
-    assert_eq!(rt; peer.ask(&[1], &mut reply), Ok(()));
-    assert_eq!(rt; reply.as_slice(), &input[4..]);
-    Ok(())
-}
-
-#[test]
-fn over_a_port(rt: HostRuntime) -> Result<(), Fail> {
-    let alloc = rt.alloc();
-    let mut door = TcpDoor::new(rt, "127.0.0.1:0", SILENCE_SECONDS)?;
-    let mut address = Vec::new(alloc);
-    assert!(rt; door.listen(&mut address).is_ok());
-    let mut link = TcpLink::new(rt, str::from_utf8(address.as_slice())?)?;
-    assert!(rt; link.put(b"hello").is_ok());
-    let mut buf = [0u8; 8];
-    let Ok(Some(mut stream)) = door.accept() else {
-        return Err(Fail::from("no stream"));
-    };
-    assert_eq!(rt; stream.take(&mut buf), Ok(5));
-    assert!(rt; stream.put(b"hi").is_ok());
-    assert_eq!(rt; link.take(&mut buf), Ok(2));
-    door.ended(0, stream, SessionEnd::End);
-    assert_eq!(rt; link.take(&mut buf), Ok(0));
-    let mut twice = TcpDoor::new(rt, str::from_utf8(address.as_slice())?, 1)?;
-    assert!(rt; twice.listen(&mut address).is_err());
-    assert_eq!(rt; twice.reason(), Some(ErrorKind::AddrInUse));
-    Ok(())
-}
-
-#[test]
-fn a_silent_client_is_a_fault(rt: HostRuntime) -> Result<(), Fail> {
-    let alloc = rt.alloc();
-    let mut door = TcpDoor::new(rt, "127.0.0.1:0", 1)?;
-    let mut address = Vec::new(alloc);
-    assert!(rt; door.listen(&mut address).is_ok());
-    let mut link = TcpLink::new(rt, str::from_utf8(address.as_slice())?)?;
-    assert!(rt; link.put(b"hello").is_ok());
-    let mut buf = [0u8; 8];
-    let Ok(Some(mut stream)) = door.accept() else {
-        return Err(Fail::from("no stream"));
-    };
-    assert_eq!(rt; stream.take(&mut buf), Ok(5));
-    assert_eq!(rt; stream.take(&mut buf), Err(Fault));
-    Ok(())
-}
-
-#[test]
-fn nobody_listens(rt: HostRuntime) -> Result<(), Fail> {
-    let mut peer = NetPeer::new(TcpLink::new(rt, "127.0.0.1:1")?)?;
-    let mut reply = Vec::new(rt.alloc());
-    assert_eq!(rt; peer.ask(&[1], &mut reply), Err(PeerFault::Link));
-    assert_eq!(rt; peer.link().reason(), Some(ErrorKind::ConnectionRefused));
     Ok(())
 }
