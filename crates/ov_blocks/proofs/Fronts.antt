@@ -3,6 +3,7 @@ use Rattle.std.proofs.Common.{◌≡◌, inl, inr, ℕ, zero, suc, ◌+◌, ◌-
 use Rattle.std.proofs.lemmas.Bool.{cases_lt}
 use Rattle.ov_blocks.specs.declared.extents.Extent.{Extent}
 use Rattle.ov_blocks.specs.Extents.{AreApart, IsFree, end_from}
+use Rattle.ov_blocks.specs.Gaps.{HasNoneBefore}
 use Rattle.ov_blocks.specs.Places.{IsCountBefore}
 use Rattle.ov_blocks.proofs.Lowest.{lowest_in, free, lowest}
 use Rattle.ov_blocks.proofs.Places.{beside_at}
@@ -16,7 +17,7 @@ end_at from (e ∷ held) zero d lt = refl
 end_at from (e ∷ held) (suc k) d lt = end_at (e.first + e.length) held k d (omega (arith, lt))
 
 -- none of them ends before all begin
-end_behind : (from : ℕ) (held : List Extent) (i : ℕ) → AreApart from held → from ≤ end_from from (take i held)
+pub end_behind : (from : ℕ) (held : List Extent) (i : ℕ) → AreApart from held → from ≤ end_from from (take i held)
 end_behind from held zero apart = omega arith
 end_behind from [] (suc i) apart = omega arith
 end_behind from (e ∷ held) (suc i) apart = omega (arith, apart.0, end_behind (e.first + e.length) held i apart.2)
@@ -76,20 +77,20 @@ in_last held from (suc k) first count apart places ge lt is =
     ]
 
 -- where none begins before `from`, none begins before those end that do
-none_before : (held : List Extent) (from i first count : ℕ) → AreApart 0 held → IsCountBefore from i held → ((lower : ℕ) → lower < from → IsFree lower count held → ⊥)
-    → first < end_from 0 (take i held) → IsFree first count held → ⊥
-none_before held from i first count apart places none lt is = elim (cases_lt first from) [
+pub none_before : (held : List Extent) (from i count : ℕ) → AreApart 0 held → IsCountBefore from i held → ((lower : ℕ) → lower < from → IsFree lower count held → ⊥)
+    → HasNoneBefore i count held
+none_before held from i count apart places none first lt is = elim (cases_lt first from) [
   | inl low ↦ none first low is
   | inr high ↦ in_last held from i first count apart places high lt is
 ]
 
--- so the lowest run that is free of the others, from there on, is the lowest of all
-pub found_behind : (held : List Extent) (from i count a : ℕ) → AreApart 0 held → IsCountBefore from i held → ((lower : ℕ) → lower < from → IsFree lower count held → ⊥)
+-- so the lowest run that is free of the others is the lowest of all
+pub found_behind : (held : List Extent) (i count a : ℕ) → AreApart 0 held → HasNoneBefore i count held
     → end_from 0 (take i held) ≤ a → IsFree a count (drop i held)
     → ((first : ℕ) → end_from 0 (take i held) ≤ first → first < a → IsFree first count (drop i held) → ⊥) → a ≡ lowest_in 0 count held
-found_behind held from i count a apart places none ge is low =
+found_behind held i count a apart none ge is low =
     same_lowest held count a apart (free_of_all 0 held i a count apart ge is)
     (λ first lt free_there. elim (cases_lt first (end_from 0 (take i held))) [
-      | inl before ↦ none_before held from i first count apart places none before free_there
+      | inl before ↦ none first before free_there
       | inr behind ↦ low first behind lt (free_of_rest held i first count free_there)
     ])

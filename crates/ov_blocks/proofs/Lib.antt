@@ -1,5 +1,6 @@
 pub mod Changes
 pub mod Fronts
+pub mod Gaps
 pub mod GivenUp
 pub mod Lowest
 pub mod OneLess

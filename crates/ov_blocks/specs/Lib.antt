@@ -1,4 +1,5 @@
 pub mod Extents
+pub mod Gaps
 pub mod Laws
 pub mod Places
 pub mod Writes

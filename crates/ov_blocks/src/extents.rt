@@ -6,6 +6,7 @@ ghost use Rattle.ov_blocks.specs.Places.{TellsNone};
 ghost use Rattle.ov_blocks.specs.declared.extents.Extent.{Extent};
 
 use crate::free::{count_before, is_free, lowest_run};
+use crate::packed::Packed;
 use ov_base::Memory;
 use std::alloc::Global;
 use std::marker::Model;
@@ -46,18 +47,21 @@ pub struct Extent {
 #[derive(Drop)]
 pub struct Extents {
     held: Vec<Extent>,
+    // What is known of the gaps between them.
+    packed: Packed,
 }
 
 impl Model for Extents {
     ghost use Rattle.std.specs.Prelude.{List};
     ghost use Rattle.ov_blocks.specs.declared.extents.Extent.{Extent};
     ghost use Rattle.ov_blocks.specs.Extents.{AreApart};
+    ghost use Rattle.ov_blocks.specs.Gaps.{IsPacked};
 
     ghost Value = { List Extent };
 
     ghost view = { λ e. e.held.items };
 
-    ghost invariant = { λ e. AreApart 0 e.held.items };
+    ghost invariant = { λ e. AreApart 0 e.held.items × IsPacked e.packed e.held.items };
 }
 
 // Whether the block is none of these, which rise.
@@ -75,6 +79,7 @@ impl Extents {
     {
         Extents {
             held: Vec::new(alloc),
+            packed: Packed::unknown(),
         }
     }
 
@@ -94,7 +99,8 @@ impl Extents {
     }
 
     /// The first block of the lowest run of so many free blocks. It takes no memory, and walks over
-    /// the held extents at most once.
+    /// the held extents at most once; those that follow one another from block 0 on, with one gap at
+    /// most, it passes in one step.
     pub fn place(&self, blocks: u32) -> u32
         requires { HasPlace blocks self.now }
         ensures free { IsFree result blocks self.now }
@@ -119,7 +125,7 @@ impl Extents {
         ensures near { result ≤ end_from 0 self.now }
         ensures bound { result ≤ blocks_held self.now + length self.now * (blocks - 1) }
     {
-        lowest_run(&self.held, blocks, from)
+        lowest_run(&self.held, self.packed, blocks, from)
     }
 
     /// Holds a range, unless one of its blocks is in use.
@@ -134,7 +140,10 @@ impl Extents {
         if !is_free(&self.held, place, first, length) {
             return Ok(false);
         }
-        self.held.insert(place, Extent { first, length })?;
+        let extent = Extent { first, length };
+        let packed = self.packed.with(&self.held, place, extent);
+        self.held.insert(place, extent)?;
+        self.packed = packed.further(&self.held);
         Ok(true)
     }
 
@@ -154,6 +163,7 @@ impl Extents {
         ensures only { AreGivenUp (first ∷ []) self.old self.new }
     {
         let place = count_before(&self.held, first);
+        self.packed = self.packed.without(&self.held, place);
         let _extent = self.held.remove(place);
     }
 
@@ -182,12 +192,13 @@ impl Extents {
         }
     }
 
-    // Gives them up in one walk over all that is held.
+    // Gives them up in one walk over all that is held. Many gaps may arise, so none is known then.
     fn keep_others(&mut self, gone: &[u32])
         requires rise { IsStrictlyIncreasing gone.now }
         requires held { All (BeginsOne self.old) gone.now }
         ensures { AreGivenUp gone.now self.old self.new }
     {
+        self.packed = Packed::unknown();
         self.held.retain(|extent| is_none_of(extent.first, gone));
     }
 }

@@ -1,16 +1,19 @@
 //! Which blocks are free, by the extents that are held.
 ghost use Rattle.std.specs.Prelude.{◌≡◌, ◌≤◌, ◌<◌, ◌+◌, ◌-◌, ◌*◌, ℕ, length, take};
 ghost use Rattle.ov_blocks.specs.Extents.{AreApart, HasPlace, IsFree, blocks_held, end_from};
+ghost use Rattle.ov_blocks.specs.Gaps.{IsPacked};
 ghost use Rattle.ov_blocks.specs.Places.{IsCountBefore, TellsFree};
 ghost use Rattle.ov_blocks.specs.declared.extents.TheConstants.{MAX_BLOCKS};
 
 use crate::extents::Extent;
+use crate::packed::Packed;
 
 // The lowest first block of a free run, where none begins before `from`. One that begins there or
-// behind it has no block of the last extent that begins before, and so begins behind that one's end:
-// there the walk begins.
-pub(crate) fn lowest_run(held: &[Extent], blocks: u32, from: u32) -> u32
+// behind it has no block of the last extent that begins before, and so begins behind that one's end.
+// The walk begins there, or behind what is known to have no gap that is long enough.
+pub(crate) fn lowest_run(held: &[Extent], packed: Packed, blocks: u32, from: u32) -> u32
     requires apart { AreApart 0 held.now }
+    requires packed { IsPacked packed held.now }
     requires short { HasPlace blocks held.now }
     requires none { (first : ℕ) → first < from → IsFree first blocks held.now → ⊥ }
     ensures free { IsFree result blocks held.now }
@@ -19,7 +22,7 @@ pub(crate) fn lowest_run(held: &[Extent], blocks: u32, from: u32) -> u32
     ensures near { result ≤ end_from 0 held.now }
     ensures bound { result ≤ blocks_held held.now + length held.now * (blocks - 1) }
 {
-    let start = count_before(held, from);
+    let start = packed.passed(held, blocks, count_before(held, from));
     lowest_behind(&held[start..], end_before(held, start), blocks)
 }
 
@@ -43,7 +46,7 @@ fn lowest_behind(held: &[Extent], from: u32, blocks: u32) -> u32
 }
 
 // Where the extent before this place ends, or block 0 where there is none.
-fn end_before(held: &[Extent], place: usize) -> u32
+pub(crate) fn end_before(held: &[Extent], place: usize) -> u32
     requires apart { AreApart 0 held.now }
     requires inside { place ≤ length held.now }
     ensures { result ≡ end_from 0 (take place held.now) }

@@ -16,7 +16,11 @@
 //!   extent all blocks are free, whatever the length of Blobs. Each gap before the run is too short
 //!   for it. So no more blocks lie before the run than all held extents have and, for each of these,
 //!   one block less than the run has, which bounds how far Blobs grows. `place` takes no memory and
-//!   walks over the held extents at most once: at 16,384 of them that is 16,384 steps.
+//!   walks over the held extents at most once: at 16,384 of them that is 16,384 steps. Those that
+//!   follow one another from block 0 on, with one gap at most, it passes in one step. So where the
+//!   extents of all files lie close together, and one is replaced at a time, a search takes no more
+//!   steps beside 10,000 files than beside ten. Where two gaps are too short for the run, it walks
+//!   over what stands behind the second.
 //! * [`Extents::place_from`] takes up where an earlier search ended: where a caller knows a block
 //!   before which no run of so many free blocks begins, it walks over the extents behind that block
 //!   alone. Until an extent is given up no such run comes to be there, nor a longer one. So to hold
@@ -24,11 +28,13 @@
 //! * [`Extents::hold`] answers `false` exactly where a block of the range is in use, and else holds
 //!   the range; [`Extents::release`] gives one up, and takes no memory. Both find the place by
 //!   halves and move what stands behind it: at 10,000 held extents that is 14 steps and at most
-//!   80,000 bytes.
+//!   80,000 bytes. `hold` also walks on from the extents that `place` passes in one step, up to the
+//!   second gap: over each once, until an extent before it is given up while another gap is there.
 //! * [`Extents::release_all`] gives up the extents that begin at these blocks, which rise, and takes
 //!   no memory. Up to eight cost as much as so many calls of `release`. More of them take one walk
 //!   over all that is held, however many they are, and each extent is looked up among the blocks by
-//!   halves: at 10,000 held extents that costs as much as ten calls of `release` or more.
+//!   halves: at 10,000 held extents that costs as much as ten calls of `release` or more. The next
+//!   `place` and the next `hold` after such a walk may take one more.
 //! * [`Extents::held`] gives the list. [`Extents::known`] does nothing; its contract is what holds
 //!   of every such list: a block is in the extent at one place of it at most, so that no two
 //!   extents share one and none stands there twice.
@@ -44,6 +50,7 @@
 //! | `Writes` | where an extent's bytes are, and what a put leaves of both areas |
 //! | `Laws` | puts one after the other, and what is read behind them |
 //! | `Places` | inside: where an extent stands among the others |
+//! | `Gaps` | inside: which extents have no gap in front of them |
 //!
 //! A law stands as a public function with an empty body, whose contract is the law.
 //!
@@ -72,6 +79,7 @@ mod bytes;
 mod extents;
 mod free;
 mod laws;
+mod packed;
 
 pub use extents::{
     BLOCK_BYTES, Extent, Extents, MAX_BLOCKS, MAX_EXTENT_BLOCKS, MAX_HELD, blocks_of,

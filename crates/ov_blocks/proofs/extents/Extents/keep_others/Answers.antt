@@ -12,11 +12,14 @@ left c = filter_same _ (λ (e : Extent). none_of c.args.gone.now e.first) _ (λ 
     c.self.inside.held.items c.retain.new.self.items c.retain.ensures.filtered
 
 pub invariant_of-self : goal.invariant_of-self
-invariant_of-self c = subst (AreApart 0) (sym (left c)) (still_apart (λ (e : Extent). none_of c.args.gone.now e.first) 0 c.self.inside.held.items c.self.invariant)
+invariant_of-self c = (
+  subst (AreApart 0) (sym (left c)) (still_apart (λ (e : Extent). none_of c.args.gone.now e.first) 0 c.self.inside.held.items c.self.invariant.0),
+  c.unknown-self-inside.ensures c.retain.new.self.items,
+)
 
 pub returns : goal.returns
 returns c =
     subst (AreGivenUp c.args.gone.now c.args.self.now) (sym (left c))
     (subst (λ (l : List Extent). AreGivenUp c.args.gone.now l (filter (λ (e : Extent). none_of c.args.gone.now e.first) c.self.inside.held.items)) c.self.view_is
-    (given_up (λ (e : Extent). none_of c.args.gone.now e.first) c.self.inside.held.items c.args.gone.now c.self.invariant c.requires.rise
+    (given_up (λ (e : Extent). none_of c.args.gone.now e.first) c.self.inside.held.items c.args.gone.now c.self.invariant.0 c.requires.rise
     (subst (λ (l : List Extent). All (BeginsOne l) c.args.gone.now) (sym c.self.view_is) c.requires.held) (λ e. tells c.args.gone.now e.first)))
