@@ -1,19 +1,20 @@
 -- A disk in memory is known by its calls: what a read gives after them, and what a crash may leave.
-use Rattle.std.specs.Prelude.{◌≡◌, ℕ, ◌+◌, ◌-◌, ◌^◌, ◌≤◌, min, List, [], ◌∷◌, ◌++◌, length, take, replicate, Option, Some, None, Bool, true, false, if◌then◌else◌, leb, ltb}
+use Rattle.std.specs.Prelude.{◌≡◌, ℕ, ◌+◌, ◌-◌, ◌^◌, ◌≤◌, ◌⊎◌, min, List, [], ◌∷◌, ◌++◌, length, take, replicate, Option, Some, None, Bool, true, false, if◌then◌else◌, leb, ltb, ◌==◌, find, option_map, IsSome, MatchOption}
 use Rattle.ov_disk.specs.declared.area.Area.{Area}
 use Rattle.ov_disk.specs.declared.change.Change.{Change}
 use Rattle.ov_disk.specs.declared.change.Change.TheVariants.{Write, Sync}
 use Rattle.ov_disk.specs.declared.change.Tear.{Tear}
 use Rattle.ov_disk.specs.declared.change.Tear.TheVariants.{Old, New, Fill}
+use Rattle.ov_disk.specs.declared.failure.Failure.{Failure}
 use Rattle.ov_disk.specs.Disk.{Image, bytes_of, written, TornIn}
 
 -- A disk in memory: what it held at first, with nothing pending; the changes since, in order; how
--- many calls there were; the numbers, from 0, of the calls that fail; and how many calls failed.
+-- many calls there were; the calls that fail, by their numbers from 0; and how many calls failed.
 pub record Tape : Type 0 where
   pub first : Image
   pub changes : List Change
   pub calls : ℕ
-  pub fails : List ℕ
+  pub fails : List Failure
   pub faults : ℕ
 
 -- a disk in memory that holds this, of which there was no call yet
@@ -23,6 +24,25 @@ fresh i = record { first = i; changes = []; calls = 0; fails = []; faults = 0 }
 -- a count after one more, or the last number of 64 bits
 abbrev pub risen : ℕ → ℕ
 risen n = min (n + 1) (2 ^ 64 - 1)
+
+-- how many bytes a write puts at this call before it fails, where the call fails; of two failures
+-- of one call the first counts
+abbrev pub keep_at : List Failure → ℕ → Option ℕ
+keep_at fails call = option_map (λ f. f.keep) (find (λ f. f.call == call) fails)
+
+-- the next call is one that fails
+abbrev pub FailsNext : Tape → Type 0
+FailsNext t = IsSome (keep_at t.fails t.calls)
+
+-- the disk with one call more that will fail, and put this many bytes where it is a write
+abbrev pub failing : ℕ → ℕ → Tape → Tape
+failing call keep t = record {
+  first = t.first;
+  changes = t.changes;
+  calls = t.calls;
+  fails = t.fails ++ record { call = call; keep = keep } ∷ [];
+  faults = t.faults;
+}
 
 -- a call that was done, and changed nothing
 abbrev pub answered : Tape → Tape
@@ -44,6 +64,16 @@ failed t = record {
   faults = risen t.faults;
 }
 
+-- a call that failed, after this change
+abbrev pub failed_with : Change → Tape → Tape
+failed_with x t = record {
+  first = t.first;
+  changes = t.changes ++ x ∷ [];
+  calls = risen t.calls;
+  fails = t.fails;
+  faults = risen t.faults;
+}
+
 -- a call that was done, with this change
 abbrev pub changed : Change → Tape → Tape
 changed x t = record {
@@ -53,6 +83,20 @@ changed x t = record {
   fails = t.fails;
   faults = t.faults;
 }
+
+-- A write of these bytes failed: it put them all, or none. Where there are none, nothing changed.
+abbrev pub PutsFront : Area → ℕ → List ℕ → Tape → Tape → Type 0
+PutsFront area at bytes old new =
+    (new ≡ failed old)
+    ⊎ ((1 ≤ length bytes) × (new ≡ failed_with (Write old.calls area at bytes) old))
+
+-- A write failed. Where the call was to fail, it put the bytes that are kept, or none as where
+-- memory is refused; where only memory was refused, it put none.
+abbrev pub CutsShort : Area → ℕ → List ℕ → Tape → Tape → Type 0
+CutsShort area at bytes old new =
+    MatchOption (keep_at old.fails old.calls)
+    (new ≡ failed old)
+    (λ keep. PutsFront area at (take keep bytes) old new)
 
 -- what a read gives after these changes, if each write began inside its area or at its end
 abbrev pub replayed : Image → List Change → Option Image

@@ -10,8 +10,10 @@
 //! length from the least to the greatest. No call answers [`DiskFault`] unless the count of faults
 //! rose.
 //!
-//! * [`MemDisk`] keeps its calls and replays them. It fails at the calls that it is told to, and
-//!   gives the image that a stop after any of its calls may leave, torn by a [`Tear`].
+//! * [`MemDisk`] keeps its calls and replays them. It fails at the calls that it is told to, a
+//!   write after as many of its bytes as it is told, and gives the image that a stop after any of
+//!   its calls may leave, torn by a [`Tear`]. A contract sees which calls fail and what each did. A
+//!   write for which memory is refused fails too, and puts nothing.
 //! * [`FileDisk`] is over two files. It tells nothing: that files keep what was synced is trusted.
 //! * `&mut D` is a disk where `D` is, with the same meanings.
 //!
@@ -24,6 +26,7 @@ mod areas;
 mod bytes;
 mod change;
 mod disk;
+mod failure;
 mod file;
 mod held;
 mod memory;

@@ -1,13 +1,15 @@
 //! A disk in memory, which keeps its calls: so it can fail, and be torn, at any of them.
-ghost use Rattle.std.specs.Prelude.{◌≡◌, ◌≤◌, ◌+◌, ◌↔◌, ◌++◌, ◌∷◌, [], Some, IsTrue, IsErr, IfOk, OnOk, OnErr, MatchResult, Contains, length, take, drop, option_map};
-ghost use Rattle.ov_base.specs.Causes.{HasCause};
-ghost use Rattle.ov_disk.specs.Disk.{Image, image, bytes_of, written, TornIn, Follows, Narrows, Told, StaysTold, Only};
+ghost use Rattle.std.specs.Prelude.{◌≡◌, ◌≤◌, ◌+◌, ◌↔◌, ◌++◌, ◌∷◌, [], Some, IsErr, IfOk, OnOk, OnErr, MatchResult, length, take, drop, option_map};
+ghost use Rattle.ov_base.specs.Causes.{HasCause, Rose};
+ghost use Rattle.ov_disk.specs.Disk.{Image, image, bytes_of, written, TornIn, Follows, Narrows, Told, StaysTold, StaysUntold, Only};
 ghost use Rattle.ov_disk.specs.declared.change.Change.TheVariants.{Write, Sync};
-ghost use Rattle.ov_disk.specs.Tape.{fresh, answered, failed, changed, risen, before, torn, reads_of, may_leave_of, left_since_of, Leaves};
+ghost use Rattle.ov_disk.specs.Moments.{Elapses};
+ghost use Rattle.ov_disk.specs.Tape.{fresh, FailsNext, failing, answered, failed, changed, PutsFront, CutsShort, risen, before, torn, reads_of, may_leave_of, left_since_of, Leaves};
 ghost use Rattle.ov_disk.specs.TapeLaws.{tape_tells};
 
 use crate::areas::Areas;
 use crate::change::Change;
+use crate::failure::{Failure, front, keep_at};
 use crate::stop::torn_areas;
 use crate::{Area, Disk, DiskFault, Tear};
 use ov_base::{Memory, Octets};
@@ -22,7 +24,7 @@ pub struct MemDisk {
     areas: Areas,
     changes: Vec<Change>,
     calls: u64,
-    fails: Vec<u64>,
+    fails: Vec<Failure>,
     faults: u64,
 }
 
@@ -41,13 +43,6 @@ impl Model for MemDisk {
     } };
 
     ghost invariant = { λ m. replayed m.areas.start m.changes.items ≡ Some m.areas.current };
-}
-
-// Whether the call of this number fails.
-fn is_failing(fails: &[u64], call: u64) -> bool
-    ensures { IsTrue result ↔ Contains fails.now call }
-{
-    fails.iter().any(|n| *n == call)
 }
 
 fn give(from: &[u8], at: u64, buf: &mut [u8])
@@ -84,11 +79,20 @@ impl MemDisk {
 
     /// Of the calls, counted from 0, the one of this number will fail and leave the disk as it is.
     pub fn fail_at(&mut self, call: u64) -> Result<(), Memory>
-        ensures ok { OnOk result
-            (self.new ≡ record self.old { fails = self.old.fails ++ call ∷ [] }) }
+        ensures ok { OnOk result (self.new ≡ failing call 0 self.old) }
         ensures err { OnErr result (self.new ≡ self.old) }
     {
-        self.fails.push(call)?;
+        self.fail_part(call, 0)
+    }
+
+    /// Of the calls, counted from 0, the one of this number will fail. Where it is a write, it has
+    /// then put its first `keep` bytes, or all where it has fewer, or none where memory is refused;
+    /// any other call changes nothing. Where one call is named more than once, the first counts.
+    pub fn fail_part(&mut self, call: u64, keep: u64) -> Result<(), Memory>
+        ensures ok { OnOk result (self.new ≡ failing call keep self.old) }
+        ensures err { OnErr result (self.new ≡ self.old) }
+    {
+        self.fails.push(Failure { call, keep })?;
         Ok(())
     }
 
@@ -129,32 +133,40 @@ impl MemDisk {
         Ok(MemDisk::of(self.alloc, book, blobs))
     }
 
+    // Counts a call, and answers its number.
+    fn count_call(&mut self) -> u64
+        ensures call { result ≡ self.old.calls }
+        ensures exact { self.new ≡ answered self.old }
+    {
+        let call = self.calls;
+        self.calls = call.saturating_add(1);
+        call
+    }
+
+    // A call that was counted fails.
+    fn fault(&mut self) -> DiskFault
+        ensures count { self.new ≡ record self.old { faults = risen self.old.faults } }
+        ensures later { self.old.faults ≤ self.new.faults }
+        ensures rose { Rose self.old.faults self.new.faults }
+    {
+        self.faults = self.faults.saturating_add(1);
+        DiskFault
+    }
+
     // Counts a call, which fails where it was made to.
     fn next_call(&mut self) -> Result<u64, DiskFault>
-        ensures fails { IsErr result ↔ Contains self.old.fails self.old.calls }
+        ensures fails { IsErr result ↔ FailsNext self.old }
         ensures call { IfOk result (λ call. call ≡ self.old.calls) }
         ensures exact { MatchResult result
             (λ _. self.new ≡ answered self.old)
             (λ _. self.new ≡ failed self.old) }
         ensures cause { HasCause self.old.faults self.new.faults result }
     {
-        let call = self.calls;
-        self.calls = call.saturating_add(1);
-        if is_failing(&self.fails, call) {
-            self.faults = self.faults.saturating_add(1);
-            return Err(DiskFault);
+        let call = self.count_call();
+        if keep_at(&self.fails, call).is_some() {
+            return Err(self.fault());
         }
         Ok(call)
-    }
-
-    // A call that was counted fails, since memory was refused.
-    fn fault(&mut self) -> Result<(), DiskFault>
-        ensures err { IsErr result }
-        ensures count { self.new ≡ record self.old { faults = risen self.old.faults } }
-        ensures cause { HasCause self.old.faults self.new.faults result }
-    {
-        self.faults = self.faults.saturating_add(1);
-        Err(DiskFault)
     }
 
     fn keep_write(&mut self, call: u64, area: Area, at: u64, bytes: &[u8]) -> Result<(), Memory>
@@ -174,6 +186,33 @@ impl MemDisk {
             bytes: kept,
         })?;
         Ok(())
+    }
+
+    // Writes, and fails only where memory is refused.
+    fn write_whole(&mut self, area: Area, at: u64, bytes: &[u8]) -> Result<(), DiskFault>
+        requires { Told (reads_of self.old) (λ i. at ≤ length (bytes_of area i)) }
+        ensures { MatchResult result
+            (λ _. self.new ≡ changed (Write self.old.calls area at bytes.now) self.old)
+            (λ _. self.new ≡ failed self.old) }
+    {
+        let call = self.count_call();
+        if self.keep_write(call, area, at, bytes).is_err() {
+            return Err(self.fault());
+        }
+        Ok(())
+    }
+
+    // Writes these bytes, of which there may be none, and fails.
+    fn write_front(&mut self, area: Area, at: u64, bytes: &[u8]) -> DiskFault
+        requires { Told (reads_of self.old) (λ i. at ≤ length (bytes_of area i)) }
+        ensures { PutsFront area at bytes.now self.old self.new }
+    {
+        let call = self.count_call();
+        if !bytes.is_empty() {
+            // Memory that is refused changes nothing, and the call fails all the same.
+            let _ = self.keep_write(call, area, at, bytes);
+        }
+        self.fault()
     }
 
     fn keep_sync(&mut self, call: u64) -> Result<(), Memory>
@@ -196,7 +235,7 @@ impl Disk for MemDisk {
         ensures len { IfOk result (λ n.
             Told (reads_of self.old) (λ i. n ≡ length (bytes_of area i))) }
         ensures cause { HasCause self.old.faults self.new.faults result }
-        ensures fails { IsErr result ↔ Contains self.old.fails self.old.calls }
+        ensures fails { IsErr result ↔ FailsNext self.old }
         ensures exact { MatchResult result
             (λ _. self.new ≡ answered self.old)
             (λ _. self.new ≡ failed self.old) }
@@ -210,7 +249,7 @@ impl Disk for MemDisk {
         ensures bytes { OnOk result (Told (reads_of self.old) (λ i.
             buf.new ≡ take (length buf.old) (drop at (bytes_of area i)))) }
         ensures cause { HasCause self.old.faults self.new.faults result }
-        ensures fails { IsErr result ↔ Contains self.old.fails self.old.calls }
+        ensures fails { IsErr result ↔ FailsNext self.old }
         ensures exact { MatchResult result
             (λ _. self.new ≡ answered self.old)
             (λ _. self.new ≡ failed self.old) }
@@ -224,20 +263,21 @@ impl Disk for MemDisk {
         requires { Told (reads_of self.old) (λ i. at ≤ length (bytes_of area i)) }
         ensures written { OnOk result
             (reads_of self.new ≡ option_map (written area at bytes.now) (reads_of self.old)) }
+        ensures untold { StaysUntold (reads_of self.old) (reads_of self.new) }
         ensures told { StaysTold (reads_of self.old) (reads_of self.new) }
         ensures crash { Follows (TornIn area at (length bytes.now))
             (may_leave_of self.old) (may_leave_of self.new) }
+        ensures time { Elapses tape_tells self.old self.new }
         ensures cause { HasCause self.old.faults self.new.faults result }
-        ensures fails { Contains self.old.fails self.old.calls → IsErr result }
+        ensures fails { FailsNext self.old → IsErr result }
         ensures exact { MatchResult result
             (λ _. self.new ≡ changed (Write self.old.calls area at bytes.now) self.old)
-            (λ _. self.new ≡ failed self.old) }
+            (λ _. CutsShort area at bytes.now self.old self.new) }
     {
-        let call = self.next_call()?;
-        if self.keep_write(call, area, at, bytes).is_err() {
-            return self.fault();
+        match keep_at(&self.fails, self.calls) {
+            Some(keep) => Err(self.write_front(area, at, front(bytes, keep))),
+            None => self.write_whole(area, at, bytes),
         }
-        Ok(())
     }
 
     fn sync(&mut self) -> Result<(), DiskFault>
@@ -246,14 +286,14 @@ impl Disk for MemDisk {
         ensures reads { OnOk result (reads_of self.new ≡ reads_of self.old) }
         ensures crash { Narrows (may_leave_of self.old) (may_leave_of self.new) }
         ensures cause { HasCause self.old.faults self.new.faults result }
-        ensures fails { Contains self.old.fails self.old.calls → IsErr result }
+        ensures fails { FailsNext self.old → IsErr result }
         ensures exact { MatchResult result
             (λ _. self.new ≡ changed (Sync self.old.calls) self.old)
             (λ _. self.new ≡ failed self.old) }
     {
         let call = self.next_call()?;
         if self.keep_sync(call).is_err() {
-            return self.fault();
+            return Err(self.fault());
         }
         Ok(())
     }

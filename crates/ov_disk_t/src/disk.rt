@@ -108,6 +108,78 @@ fn calls_that_fail(rt: HostRuntime) -> Result<(), Fail> {
     Ok(())
 }
 
+// How many bytes are kept of a write of five that fails, what is read then, and what a stop leaves
+// that fills the torn range.
+const PARTS: [(u64, &[u8], &[u8]); 4] = [
+    (0, b"abc", b"abc"),
+    (2, b"VWc", b"\x07\x07c"),
+    (5, b"VWXYZ", b"\x07\x07\x07\x07\x07"),
+    (9, b"VWXYZ", b"\x07\x07\x07\x07\x07"),
+];
+
+// A disk with some bytes in both areas, no call yet, and a first call that fails.
+fn failing_part(alloc: Global, keep: u64) -> Result<MemDisk, Fail> {
+    let book = Octets::copy(alloc, b"abc")?;
+    let mut disk = MemDisk::of(alloc, book, Octets::copy(alloc, b"z")?);
+    disk.fail_part(0, keep)?;
+    // The first failure of a call counts.
+    disk.fail_part(0, 1)?;
+    Ok(disk)
+}
+
+// Makes sure of what a write of five bytes leaves that fails after this many, and of the sync after
+// it.
+fn expect_part(
+    rt: &impl Abort,
+    alloc: Global,
+    keep: u64,
+    put: &[u8],
+    filled: &[u8],
+) -> Result<(), Fail> {
+    let mut disk = failing_part(alloc, keep)?;
+    assert_eq!(rt; disk.write_at(Area::Book, 0, b"VWXYZ"), Err(DiskFault));
+    assert_eq!(rt; disk.book(), put);
+    expect_left(rt, &disk, 0, Tear::New, b"abc")?;
+    expect_left(rt, &disk, 1, Tear::Old, b"abc")?;
+    expect_left(rt, &disk, 1, Tear::New, put)?;
+    expect_left(rt, &disk, 1, Tear::Fill(7), filled)?;
+    assert_eq!(rt; disk.sync(), Ok(()));
+    expect_left(rt, &disk, 2, Tear::Old, put)
+}
+
+#[test]
+fn a_write_that_fails_after_its_first_bytes(rt: HostRuntime) -> Result<(), Fail> {
+    for (keep, put, filled) in &PARTS {
+        expect_part(&rt, rt.alloc(), *keep, put, filled)?;
+    }
+    Ok(())
+}
+
+// Three calls of a disk behind its first call: a read, a sync and a length, of which each fails.
+fn expect_no_part<D: Disk>(rt: &impl Abort, disk: &mut D) {
+    assert_eq!(rt; length_and_read(disk), Ok((2, false)));
+    assert_eq!(rt; disk.sync(), Err(DiskFault));
+    assert_eq!(rt; disk.len(Area::Book), Err(DiskFault));
+}
+
+#[test]
+fn other_calls_that_fail_keep_no_part(rt: HostRuntime) -> Result<(), Fail> {
+    let alloc = rt.alloc();
+    let blobs = Octets::copy(alloc, b"hi")?;
+    let mut disk = MemDisk::of(alloc, Octets::copy(alloc, b"abc")?, blobs);
+    for call in 1..4 {
+        disk.fail_part(call, 3)?;
+    }
+    expect_no_part(&rt, &mut &mut disk);
+    assert_eq!(rt; disk.calls(), 4);
+    assert_eq!(rt; disk.book(), b"abc".as_slice());
+    assert_eq!(rt; disk.blobs(), b"hi".as_slice());
+    let left = left(&disk, 4, Tear::New)?.ok_or("a stop")?;
+    assert_eq!(rt; left.book(), b"abc".as_slice());
+    assert_eq!(rt; left.blobs(), b"hi".as_slice());
+    Ok(())
+}
+
 const FOLDER: &str = "ov_disk_test";
 
 const BOOK: &str = "ov_disk_test/book";

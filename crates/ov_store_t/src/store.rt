@@ -274,6 +274,56 @@ fn a_fault_at_each_call(rt: HostRuntime) {
     }
 }
 
+/// How many disk calls of an enrolment come before that which writes the byte of the commit: the
+/// record is written and synced, then the byte is.
+const BEFORE_COMMIT: u64 = 2;
+
+/// How many bytes are kept of the write of that byte, how a stop tears it, and the epoch that the
+/// reopened store has.
+const COMMITS: [(u64, Tear, u32); 8] = [
+    (0, Tear::Old, 1),
+    (0, Tear::New, 1),
+    (0, Tear::Fill(1), 1),
+    (1, Tear::Old, 1),
+    (1, Tear::New, 2),
+    (1, Tear::Fill(0), 1),
+    (1, Tear::Fill(1), 2),
+    (1, Tear::Fill(255), 1),
+];
+
+/// The disk of a store at epoch 1 whose next update failed at this call, of which so many bytes
+/// were kept. The store stays at its epoch, and takes no update more.
+fn failed_commit(rt: &impl Abort, alloc: Global, call: u64, keep: u64) -> MemDisk {
+    let mut disk = MemDisk::new(alloc);
+    disk.fail_part(call, keep).expect(rt, "memory");
+    let mut store = begun(alloc, disk, Mode::Delta).expect(rt, "a store");
+    assert_eq!(rt; make(rt, alloc, &mut store, 0), Ok(1));
+    assert_eq!(rt; make(rt, alloc, &mut store, 1), Err(StoreFault::Disk));
+    assert_eq!(rt; store.state().epoch(), 1);
+    assert_eq!(rt; make(rt, alloc, &mut store, 3), Err(StoreFault::Failed));
+    store.close()
+}
+
+/// A commit that failed counts where its byte is on the disk.
+#[test]
+fn a_commit_that_fails(rt: HostRuntime) {
+    let alloc = rt.alloc();
+    let calls = calls_of_updates(&rt, alloc, None);
+    let [_, alice, ..] = calls.as_slice() else {
+        panic!(rt; "seven calls")
+    };
+    let call = alice.saturating_add(BEFORE_COMMIT);
+    for (keep, tear, epoch) in &COMMITS {
+        let disk = failed_commit(&rt, alloc, call, *keep);
+        let left = image(&rt, &disk, disk.calls(), *tear);
+        assert_eq!(rt; epoch_on(alloc, left), Some(*epoch), "{tear:?} of {keep}");
+    }
+    for (keep, epoch) in [(0, 1), (1, 2)] {
+        let disk = failed_commit(&rt, alloc, call, keep);
+        assert_eq!(rt; epoch_on(alloc, disk), Some(epoch));
+    }
+}
+
 // ---- what is asked of a store
 
 /// The place of the first record that isn't the owner's with this base master.

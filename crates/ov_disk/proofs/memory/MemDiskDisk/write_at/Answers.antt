@@ -1,32 +1,37 @@
-use Rattle.std.proofs.Common.{rules, ◌≡◌, ◌∙◌, ap}
-use Rattle.std.specs.Option.{option_map}
-use Rattle.ov_disk.specs.Disk.{written}
-use Rattle.ov_disk.specs.Tape.{failed, reads_of}
-use Rattle.ov_disk.specs.declared.change.Change.TheVariants.{Write}
-use Rattle.ov_disk.proofs.Tapes.{Grows, write_reads, write_crash}
+use Rattle.ov_disk.proofs.Fronts.{after_front, after_whole, whole_reads}
 use Rattle.ov_disk.proofs.memory.MemDiskDisk.write_at.Goals as goal
 
-pub returns-clause-written : goal.returns-clause-written
-returns-clause-written c =
-    let grows : Grows c.args.self.now c.keep_write.new.self (Write c.in_ok-call.call c.args.area c.args.at c.args.bytes.now) = record { first = search rules; changes = search rules } in
-    write_reads c.args.self.now c.keep_write.new.self c.in_ok-call.call c.args.area c.args.at c.args.bytes.now grows c.requires
+pub returns-in-Some-clause-told : goal.returns-in-Some-clause-told
+returns-in-Some-clause-told c =
+    (after_front c.args.area c.args.at c.args.self.now c.write_front.new.self c.requires c.in-Some.keep c.args.bytes.now c.front.result.now c.front.ensures c.write_front.ensures).told
 
-pub returns-clause-crash : goal.returns-clause-crash
-returns-clause-crash c =
-    let grows : Grows c.args.self.now c.keep_write.new.self (Write c.in_ok-call.call c.args.area c.args.at c.args.bytes.now) = record { first = search rules; changes = search rules } in
-    write_crash c.args.self.now c.keep_write.new.self c.in_ok-call.call c.args.area c.args.at c.args.bytes.now grows
+pub returns-in-Some-clause-untold : goal.returns-in-Some-clause-untold
+returns-in-Some-clause-untold c =
+    (after_front c.args.area c.args.at c.args.self.now c.write_front.new.self c.requires c.in-Some.keep c.args.bytes.now c.front.result.now c.front.ensures c.write_front.ensures).untold
 
-pub returns-in_err-call-clause-told : goal.returns-in_err-call-clause-told
-returns-in_err-call-clause-told c i is =
-    let same : c.next_call.new.self ≡ failed c.args.self.now = search rules in
-    (i, ap reads_of same ∙ is)
+pub returns-in-Some-clause-crash : goal.returns-in-Some-clause-crash
+returns-in-Some-clause-crash c =
+    (after_front c.args.area c.args.at c.args.self.now c.write_front.new.self c.requires c.in-Some.keep c.args.bytes.now c.front.result.now c.front.ensures c.write_front.ensures).crash
 
-pub returns-then-is_err-clause-told : goal.returns-then-is_err-clause-told
-returns-then-is_err-clause-told c i is =
-    let same : c.fault.new.self ≡ failed c.args.self.now = search rules in
-    (i, ap reads_of same ∙ is)
+pub returns-in-Some-clause-time : goal.returns-in-Some-clause-time
+returns-in-Some-clause-time c =
+    (after_front c.args.area c.args.at c.args.self.now c.write_front.new.self c.requires c.in-Some.keep c.args.bytes.now c.front.result.now c.front.ensures c.write_front.ensures).time
 
-pub returns-clause-told : goal.returns-clause-told
-returns-clause-told c i is =
-    let grows : Grows c.args.self.now c.keep_write.new.self (Write c.in_ok-call.call c.args.area c.args.at c.args.bytes.now) = record { first = search rules; changes = search rules } in
-    (written c.args.area c.args.at c.args.bytes.now i, write_reads c.args.self.now c.keep_write.new.self c.in_ok-call.call c.args.area c.args.at c.args.bytes.now grows c.requires ∙ ap (option_map (written c.args.area c.args.at c.args.bytes.now)) is)
+pub returns-in-None-clause-written : goal.returns-in-None-clause-written
+returns-in-None-clause-written c = whole_reads c.args.area c.args.at c.args.self.now c.write_whole.new.self c.requires c.args.bytes.now c.write_whole.result c.write_whole.ensures
+
+pub returns-in-None-clause-told : goal.returns-in-None-clause-told
+returns-in-None-clause-told c =
+    (after_whole c.args.area c.args.at c.args.self.now c.write_whole.new.self c.requires c.args.bytes.now c.write_whole.result c.write_whole.ensures).told
+
+pub returns-in-None-clause-untold : goal.returns-in-None-clause-untold
+returns-in-None-clause-untold c =
+    (after_whole c.args.area c.args.at c.args.self.now c.write_whole.new.self c.requires c.args.bytes.now c.write_whole.result c.write_whole.ensures).untold
+
+pub returns-in-None-clause-crash : goal.returns-in-None-clause-crash
+returns-in-None-clause-crash c =
+    (after_whole c.args.area c.args.at c.args.self.now c.write_whole.new.self c.requires c.args.bytes.now c.write_whole.result c.write_whole.ensures).crash
+
+pub returns-in-None-clause-time : goal.returns-in-None-clause-time
+returns-in-None-clause-time c =
+    (after_whole c.args.area c.args.at c.args.self.now c.write_whole.new.self c.requires c.args.bytes.now c.write_whole.result c.write_whole.ensures).time
