@@ -82,8 +82,8 @@ def commands_of(chance):
 class Task:
     """A script, the reply to each command, and what is to be read at each epoch."""
 
-    def __init__(self, chance):
-        self.commands = commands_of(chance)
+    def __init__(self, commands):
+        self.commands = commands
         users = sorted({command[1] for command in self.commands if command[0] == "enrol"})
         files = [command[1] for command in self.commands if command[0] == "create"]
         self.questions = [("list", file) for file in files] + [("read", user, file) for user in users for file in files]
@@ -230,7 +230,7 @@ def main():
     arguments = trials.options(__doc__, "program").parse_args()
     library = compiled()
     begun = trials.begin(arguments)
-    task = Task(trials.chance_of(arguments, "script"))
+    task = Task(commands_of(trials.chance_of(arguments, "script")))
     cases = wrong = 0
     for mode in MODES:
         run = Run(arguments.program, mode, new_folder(trials.FAST_PLACE if trials.FAST_PLACE.is_dir() else None))

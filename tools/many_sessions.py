@@ -25,12 +25,14 @@ not the same order.
 
 With `--silent N` so many connections that say nothing come first, and no kill comes before the server has ended them.
 Each is ended after the server's 300 seconds, or a multiple where the workers are fewer; Linux adds up to a ninth. The
-longest wait of a request meanwhile is printed: an owner is answered once a worker is free.
+longest wait of a request meanwhile is printed: an owner is answered once a worker is free. `--silence SECONDS` makes
+the 300 seconds shorter, by a small library in C (`tools/short_silence.c`) that the server preloads.
 
 A server that passes the key `workers` over is one of one worker, whatever `--workers` says.
 """
 import collections
 import copy
+import os
 import pathlib
 import shutil
 import socket
@@ -41,7 +43,7 @@ import time
 
 import network_cases as network
 import trials
-from common import KEYS, framed, new_folder
+from common import KEYS, ROOT, framed, new_folder
 from plain_machine import Machine
 
 USERS, FILES = 3, 24
@@ -63,6 +65,7 @@ def parsed():
     parser.add_argument("--requests", type=trials.whole, default=20, metavar="N", help="of one connection (20)")
     parser.add_argument("--workers", type=trials.whole, default=4, metavar="N", help="workers of the server (4)")
     parser.add_argument("--silent", type=int, default=0, metavar="N", help="connections that say nothing (0)")
+    parser.add_argument("--silence", type=float, default=SILENCE, metavar="SECONDS", help="when they are ended (300)")
     parser.add_argument("--mode", choices=["full", "delta"], default="delta")
     parser.add_argument("--place", type=pathlib.Path, help="where the store is made")
     arguments = parser.parse_args()
@@ -355,21 +358,28 @@ def killed(shared, sessions):
     return f"epoch {epoch}; {on_their_way} updates were on their way, {found} are there; opened in {opened:.2f} s"
 
 
+def shorter(seconds):
+    """Programs that are started from now on take a client for silent after so many seconds."""
+    library = new_folder() / "short_silence.so"
+    subprocess.run(["cc", "-shared", "-fPIC", "-O1", "-o", library, ROOT / "tools" / "short_silence.c"], check=True)
+    os.environ.update(LD_PRELOAD=str(library), SILENCE=str(round(seconds * 1000)))
+
+
 def silent_ones(shared, count):
     """So many connections that say nothing. The list gets the seconds after which each was ended."""
     ended, begun = [], time.monotonic()
+    silence = shared.arguments.silence
+    limit = silence * (1 + LATE / SILENCE) * -(-count // shared.workers) + SLACK
 
-    def wait(stream):
-        with stream:
+    def wait():
+        with socket.create_connection(("127.0.0.1", shared.port), timeout=limit + SLACK) as stream:
             try:
                 stream.recv(1)
             except OSError:
                 pass
             ended.append(time.monotonic() - begun)
 
-    limit = (SILENCE + LATE) * -(-count // shared.workers) + SLACK
-    streams = [socket.create_connection(("127.0.0.1", shared.port), timeout=limit + SLACK) for _ in range(count)]
-    waits = [threading.Thread(target=wait, args=(stream,), daemon=True) for stream in streams]
+    waits = [threading.Thread(target=wait, daemon=True) for _ in range(count)]
     for thread in waits:
         thread.start()
     return waits, ended, limit
@@ -380,10 +390,12 @@ def silence(shared, waits, ended, limit):
     for thread in waits:
         thread.join()
     CASES["silent connections"] += len(ended)
-    print("silent connections were ended after " + ", ".join(f"{seconds:.1f}" for seconds in sorted(ended)) + " s")
+    first, last = min(ended), max(ended)
+    print(f"{len(ended)} silent connections were ended, the first after {first:.1f} s and the last after {last:.1f} s")
     print(f"the longest wait of a request beside them was {shared.longest:.1f} s", flush=True)
-    if any(not SILENCE - 1 < seconds < limit for seconds in ended):
-        shared.complain(f"a silent connection wasn't ended between {SILENCE} s and {limit} s")
+    least = shared.arguments.silence - 1
+    if len(ended) < len(waits) or any(not least < seconds < limit for seconds in ended):
+        shared.complain(f"a silent connection wasn't ended between {least} s and {limit} s")
     free = len(ended) < shared.workers
     if shared.longest > (SLACK if free else limit):
         shared.complain("an owner or a reader waited for longer than the silent connections can make it")
@@ -462,6 +474,8 @@ def main():
     kind = subprocess.run(["stat", "-f", "-c", "%T", shared.folder], capture_output=True, text=True).stdout.strip()
     sessions = []
     sessions += [Session(shared, sessions, number) for number in range(arguments.sessions)]
+    if arguments.silence != SILENCE:
+        shorter(arguments.silence)
     shared.start()
     Connection(shared).close()
     time.sleep(0.5)

@@ -1,6 +1,6 @@
 """Times a server that many clients ask at once, over the loopback: the figures of 'Many sessions at once' in
 docs/PERFORMANCE.md. A plain server in Rust, `plain_threads`, stands beside it: a thread for each session, and one
-lock around each answer. Each run has a server of its own in a folder of its own, both servers run in turns, and
+lock around each answer, which it makes of maps. Each run has a server of its own in a folder of its own, both servers run in turns, and
 medians count. Frames are made before; each session of `plain_session` sends each behind the reply to the last.
 
 Run, after `rt run` has built the programs, at the top of the repository:
@@ -76,7 +76,7 @@ def real(program, **other):
 
 
 def plain(_):
-    return OUT / "plain_threads", OUT / "answers", "book"
+    return OUT / "plain_threads", "book"
 
 
 # ---- sessions
@@ -124,14 +124,13 @@ def medians(place, servers, *words):
     for _ in range(RUNS):
         for server, taken in zip(servers, figures):
             with running(place, server) as (process, address):
-                if server is not plain:
-                    one(address, OUT / "begin")
+                one(address, OUT / "begin")
                 taken.append(many(process, address, *words))
     return [middle(taken) for taken in figures]
 
 
 def make_frames():
-    """The files of frames, and what the plain server answers: as many bytes as the other does."""
+    """The files of frames."""
     owner = Owner()
     file_of("begin", begun(owner))
     epoch = owner.epoch
@@ -141,11 +140,8 @@ def make_frames():
     file_of("updates", updates)
     hello = framed(HELLO)
     file_of("hellos", [hello] * HELLOS)
-    kinds = [file_of("hello", [hello]), file_of("ask", [ASK]), file_of("update", updates[:1])]
-    with running(FREE, SERVER) as (_, address):
-        one(address, OUT / "begin")
-        lines = ["%d %d %d\n" % (frames.read_bytes()[4], *one(address, frames)[1][0]) for frames in kinds]
-    (OUT / "answers").write_text("".join(lines))
+    file_of("hello", [hello])
+    file_of("ask", [ASK])
 
 
 # ---- tables

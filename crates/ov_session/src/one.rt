@@ -39,6 +39,7 @@ enum Stop {
 struct Reading {
     alloc: Global,
     decoder: Decoder,
+    room: [u8; PIECE],
     reply: Vec<u8>,
     taken: u64,
     asked: u32,
@@ -54,6 +55,7 @@ impl Reading {
         Ok(Reading {
             alloc,
             decoder,
+            room: [0; PIECE],
             reply: Vec::new(alloc),
             taken: 0,
             asked: 0,
@@ -185,8 +187,7 @@ fn read_on<R: Wait, L: Stream, A: Asker, G: Gate>(
     ensures ready { A.tells.ready asker.new }
     ensures asker { A.tells.borrow asker.new ≡ A.tells.borrow asker.old }
 {
-    let mut room = [0; PIECE];
-    let count = match stream.take(&mut room) {
+    let count = match stream.take(&mut reading.room) {
         Ok(count) => count,
         Err(Fault) => return Err(SessionEnd::LinkFault),
     };
@@ -195,7 +196,7 @@ fn read_on<R: Wait, L: Stream, A: Asker, G: Gate>(
     }
     reading.taken = reading.taken.saturating_add(count as u64);
     let mut frames = Vec::new(reading.alloc);
-    let (piece, _) = room.split_at(count);
+    let (piece, _) = reading.room.split_at(count);
     let fed = reading.decoder.feed(piece, &mut frames);
     let (reply, asked) = (&mut reading.reply, &mut reading.asked);
     match answer_each(desk, stream, asker, &frames, reply, asked) {

@@ -12,9 +12,25 @@ use crate::steps::EPOCH;
 use ov_base::Memory;
 use ov_peer::{Answerer, AskFault, is_accepted};
 use std::marker::Brand;
-use std::sync::Wait;
+use std::sync::{MutexGuard, Wait};
+use std::thread;
+
+/// How often a thread looks whether it may go on, and lets others run, before it sleeps. A turn is mostly
+/// over by then, and to sleep and be woken takes longer than a turn.
+const LOOKS: u32 = 20;
 
 impl<A: Answerer> Shared<A> {
+    /// Waits until no other thread is at its steps.
+    fn enter<R: Wait>(&self, rt: &R) -> MutexGuard<'_, ()> {
+        for _ in 0..LOOKS {
+            if let Some(guard) = self.entry.try_lock() {
+                return guard;
+            }
+            thread::yield_now();
+        }
+        self.entry.lock(rt)
+    }
+
     /// One call in the seat's turn.
     fn ask_in_turn<R: Wait>(
         &self,
@@ -34,7 +50,7 @@ impl<A: Answerer> Shared<A> {
         ensures turn { TakesTurn A.tells self.now.start seat.old.me.0 request.now result
             reply.new.items seat.new.me.0 }
     {
-        let entry = self.entry.lock(rt);
+        let entry = self.enter(rt);
         let ticket = self.draw(seat);
         self.wait_turn(rt, seat, ticket);
         let done = self.answer_here(seat, request, reply);

@@ -12,6 +12,10 @@ use ov_base::Memory;
 use ov_fields::{append, put_set, put_u16, put_u32};
 use ov_tokens::Numbers;
 
+/// How many bytes are taken at first for what stands in front of an answer's body: enough for most
+/// answers, so that they take memory once.
+const FRONT: usize = 64;
+
 /// The flag of a truth.
 fn flag(value: bool) -> u8
     ensures { result ≡ flag value }
@@ -160,6 +164,7 @@ pub fn write_answer(answer: &Answer, out: &mut Vec<u8>) -> Result<(), Memory>
     ensures err { OnErr result (out.new.items ≡ out.old.items) }
 {
     let mut front = Vec::new(*out.allocator());
+    front.reserve(FRONT)?;
     put_front(answer, &mut front)?;
     append(&front, body(answer), &[], out)
 }
