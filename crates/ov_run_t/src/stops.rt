@@ -7,15 +7,15 @@ use std::alloc::Global;
 use std::process::Abort;
 use std::test::Fail;
 
-static THREE: Row<'static> = Row {
-    script: b"enrol a\nenrol b\ncreate f a,b 2\nxy\n",
+static SEVEN: Row<'static> = Row {
+    script: b"enrol a\nenrol b\nenrol c\ncreate f a,b 2\nxy\ncreate g b,c 1\nz\nrevoke b f\ngrant c f\n",
     status: 0,
-    lines: b"ok 1\nok 2\nok 3\nend epoch 3\n",
+    lines: b"ok 1\nok 2\nok 3\nok 4\nok 5\nok 6\nok 7\nend epoch 7\n",
 };
 
-// Three updates.
-fn three() -> &'static Row<'static> {
-    &THREE
+// Seven updates, of three users and two files.
+fn seven() -> &'static Row<'static> {
+    &SEVEN
 }
 
 // The last line at this epoch.
@@ -25,7 +25,11 @@ fn end(epoch: u64) -> &'static [u8] {
         1 => b"end epoch 1\n",
         2 => b"end epoch 2\n",
         3 => b"end epoch 3\n",
-        _ => b"end epoch 4\n",
+        4 => b"end epoch 4\n",
+        5 => b"end epoch 5\n",
+        6 => b"end epoch 6\n",
+        7 => b"end epoch 7\n",
+        _ => b"end epoch 8\n",
     }
 }
 
@@ -62,21 +66,27 @@ fn assert_tears(
     assert_one_of(rt, alloc, words, disk, Tear::Fill(1), least)
 }
 
-// A disk that fails at this call.
-fn failing(alloc: Global, call: u64) -> Result<MemDisk, Memory> {
+// A disk that fails at this call, a write after so many bytes.
+fn failing(alloc: Global, call: u64, keep: u64) -> Result<MemDisk, Memory> {
     let mut disk = MemDisk::new(alloc);
-    disk.fail_at(call)?;
+    disk.fail_part(call, keep)?;
     Ok(disk)
 }
 
 // Where this call fails the run says so, and what is left has the updates that were answered, or
 // one more.
-fn assert_fault(rt: &impl Abort, alloc: Global, words: &[String], call: u64) -> Result<(), Memory> {
-    let mut disk = failing(alloc, call)?;
-    let mut out = Wants::of(b"ok 1\nok 2\nok 3\n");
+fn assert_fault(
+    rt: &impl Abort,
+    alloc: Global,
+    words: &[String],
+    call: u64,
+    keep: u64,
+) -> Result<(), Memory> {
+    let mut disk = failing(alloc, call, keep)?;
+    let mut out = Wants::of(b"ok 1\nok 2\nok 3\nok 4\nok 5\nok 6\nok 7\n");
     out.aside = b"error disk\n";
     let keys = Pieces::of(key_bytes(), 50);
-    let input = Pieces::of(three().script, 4096);
+    let input = Pieces::of(seven().script, 4096);
     let code = ran(alloc, words, keys, input, &mut out, &mut disk);
     assert_eq!(rt; code, 4);
     let least = out.puts.saturating_sub(1);
@@ -85,19 +95,39 @@ fn assert_fault(rt: &impl Abort, alloc: Global, words: &[String], call: u64) -> 
     all
 }
 
-// The calls of a run of three updates.
-fn calls_of_three(rt: &impl Abort, alloc: Global, words: &[String]) -> u64 {
-    let disk = left_by(rt, alloc, words, three());
+// The calls of a run of these updates.
+fn calls_of_seven(rt: &impl Abort, alloc: Global, words: &[String]) -> u64 {
+    let disk = left_by(rt, alloc, words, seven());
     let calls = disk.calls();
     drop(disk);
     calls
 }
 
+fn assert_faults(
+    rt: &impl Abort,
+    alloc: Global,
+    words: &[String],
+    keep: u64,
+) -> Result<(), Memory> {
+    for call in 0..calls_of_seven(rt, alloc, words) {
+        assert_fault(rt, alloc, words, call, keep)?;
+    }
+    Ok(())
+}
+
 #[test]
 fn a_fault_at_each_call(rt: HostRuntime) -> Result<(), Fail> {
     let words = words(rt.alloc(), &["run", "delta"])?;
-    for call in 0..calls_of_three(&rt, rt.alloc(), &words) {
-        assert_fault(&rt, rt.alloc(), &words, call)?;
+    assert_faults(&rt, rt.alloc(), &words, 0)?;
+    Ok(())
+}
+
+// Records have 7 to 100 bytes, and a block has 4,096.
+#[test]
+fn a_write_that_is_cut_short_at_each_call(rt: HostRuntime) -> Result<(), Fail> {
+    let words = words(rt.alloc(), &["run", "delta"])?;
+    for keep in [1, 40, u64::MAX] {
+        assert_faults(&rt, rt.alloc(), &words, keep)?;
     }
     Ok(())
 }
