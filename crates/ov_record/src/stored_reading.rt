@@ -106,10 +106,11 @@ pub fn read_brief<const W: usize>(
     ensures exact { Gives place_of plain_front result
         (brief_of (form_of form.entry) bytes.now) }
 {
+    let size = bytes.len();
     match take_brief(alloc, form, bytes) {
-        Ok((brief, rest)) => Ok((brief, (bytes.len() - rest.len()) as u32)),
+        Ok((brief, rest)) => Ok((brief, (size - rest.len()) as u32)),
         Err(FieldFault::Bad { left }) => Err(RecordFault::BadRecord {
-            at: (bytes.len() - left) as u32,
+            at: (size - left) as u32,
         }),
         Err(FieldFault::Memory) => Err(RecordFault::Memory),
     }

@@ -166,6 +166,19 @@ fn disks_that_do_not_open(rt: HostRuntime) -> Result<(), Fail> {
     )
 }
 
+// The record of the only user once more. Its gate is where the first one's end gate was, at 90.
+#[test]
+fn a_user_who_joins_twice(rt: HostRuntime) -> Result<(), Fail> {
+    let alloc = rt.alloc();
+    let mut book = book_of(&rt, alloc, "full", &ONE_USER)?;
+    let record = book.get(78..).ok_or("a record")?.to_vec(alloc)?;
+    book.truncate(90);
+    book.extend_from_slice(&record)?;
+    assert_eq!(rt; book.len(), 103);
+    let line = b"error damaged book 90\n";
+    assert_shut(&rt, alloc, "full", &book, b"", 8, line)
+}
+
 // The Book of one user and one file of one byte under these keys, in `full`: what a program in
 // Python gives that was written from the formats alone. In `delta` byte 9 is 1.
 const ONE_FILE: &[u8] = b"\x01OVERENC1\0\0\0\0\0\

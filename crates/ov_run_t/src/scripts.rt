@@ -24,7 +24,7 @@ pub fn siblings() -> &'static Row<'static> {
     &SIBLINGS
 }
 
-static ROWS: [Row<'static>; 21] = [
+static ROWS: [Row<'static>; 24] = [
     NOTHING,
     ONE_USER,
     Row {
@@ -116,6 +116,23 @@ static ROWS: [Row<'static>; 21] = [
         script: b"enrol a\ncreate f a 2\nxx\ncreate g a 1048577\nxxxxxxxx",
         status: 3,
         lines: b"ok 1\nok 2\nerror line 4\n",
+    },
+    // Line ends in a file's bytes count. No items: a body that is longer than its length, and a
+    // length with a zero in front.
+    Row {
+        script: b"create f - 3\na\nb\nenrol B\n",
+        status: 3,
+        lines: b"ok 1\nerror line 4\n",
+    },
+    Row {
+        script: b"create f - 2\nabc\n",
+        status: 3,
+        lines: b"error line 1\n",
+    },
+    Row {
+        script: b"create f - 01\n",
+        status: 3,
+        lines: b"error line 1\n",
     },
     // Every refusal of an update and of a question.
     Row {

@@ -242,6 +242,23 @@ fn expect_bad(rt: &impl Abort, alloc: Global, stream: &[u8]) -> Result<(), Fail>
     Ok(())
 }
 
+/// Makes sure that a stream is bad at its first byte, and has no frame.
+fn expect_bad_start(rt: &impl Abort, alloc: Global, stream: &[u8]) -> Result<(), Fail> {
+    let mut frames = Vec::new(alloc);
+    let mut decoder = Decoder::new(alloc)?;
+    let bad = Err(FeedFault::BadFrame { at: 0 });
+    assert_eq!(rt; decoder.feed(stream, &mut frames), bad);
+    assert_eq!(rt; (decoder.pending(), frames.len()), (0, 0));
+    Ok(())
+}
+
+#[test]
+fn a_stream_that_begins_with_a_bad_length(rt: HostRuntime) -> Result<(), Fail> {
+    // One more than the longest frame has, and none.
+    expect_bad_start(&rt, rt.alloc(), b"\0\x11\0\x01")?;
+    expect_bad_start(&rt, rt.alloc(), b"\0\0\0\0")
+}
+
 #[test]
 fn a_bad_length_field_stays_bad(rt: HostRuntime) -> Result<(), Fail> {
     expect_bad(&rt, rt.alloc(), b"\0\0\0\0\x01")?;

@@ -40,5 +40,5 @@ returns-in-Ok-clause-only g c = λ b rest fits is.
 pub returns-in-Err-Bad-clause-only : goal.returns-in-Err-Bad-clause-only
 returns-in-Err-Bad-clause-only g c = λ b rest fits is.
     let bad = rw c.in-Err-Bad.field-0-is at c.in-Err-Bad.ensures in
-    sym (only_front (form_of c.args.form) (omega arith, omega arith) c.args.bytes.now b rest fits is)
-    ∙ bad_front (form_of c.args.form) c.args.bytes.now c.in-Err-Bad.left bad
+    let none = sym (only_front (form_of c.args.form) (omega arith, omega arith) c.args.bytes.now b rest fits is)
+    ∙ bad_front (form_of c.args.form) c.args.bytes.now c.in-Err-Bad.left bad in cc
