@@ -5,17 +5,19 @@ use Rattle.ov_blocks.specs.declared.extents.Extent.{Extent}
 use Rattle.ov_tokens.specs.Keys.{check_value_of}
 use Rattle.ov_record.specs.Updates.{SealedUpdate}
 use Rattle.ov_history.specs.Briefs.{brief, text_of}
+use Rattle.ov_history.specs.Catalogue.{empty_catalogue}
 use Rattle.ov_history.specs.Rewrites.{rewrites_of, with_text}
 use Rattle.ov_history.specs.Sealed.{SealedHistory, IsSealed, with_sealed}
 use Rattle.ov_history.specs.Texts.{brief_of}
-use Rattle.ov_history.specs.Placed.{HasFirsts, HoldRewrites, PlacedHistory, PlacedUpdate, placed_of}
-use Rattle.ov_history.specs.Placed.{with_placed}
+use Rattle.ov_history.specs.Placed.{AllHaveFirsts, HasFirsts, HoldRewrites, PlacedHistory}
+use Rattle.ov_history.specs.Placed.{PlacedUpdate, placed_of, unplaced, with_placed}
 use Rattle.ov_disk.specs.Disk.{Image}
 use Rattle.ov_journal.specs.declared.header.Header.{Header}
 use Rattle.ov_journal.specs.Book.{contents_of, with_body}
+use Rattle.ov_journal.specs.Log.{end_from}
 use Rattle.ov_journal.specs.Standing.{IsUnborn, HasMagic}
 use Rattle.ov_images.specs.Images.{Keys}
-use Rattle.ov_images.specs.Records.{HasRecordForm, record_spelling}
+use Rattle.ov_images.specs.Records.{HasRecordForm, bodies_of, record_spelling}
 use Rattle.ov_images.specs.Extents.{AllTakeFree, IsFirstTaken, UpdateTakesFree, blocks_in}
 use Rattle.ov_images.specs.Extents.{catalogue_at}
 use Rattle.ov_images.specs.Extents.{extents_in_use, stored_in}
@@ -147,3 +149,13 @@ abbrev pub DamageNeedsNoMaster : Type 0
 DamageNeedsNoMaster =
     (master : List ℕ) (h : Header) (i : Image) (spot : Spot)
     → HasBadRecordsUnder master h i spot → HasBadRecords h i spot
+
+-- Behind the records of a history a gate is at one place, whichever first blocks these have: each
+-- has as many as its update wants.
+abbrev pub GatesNeedNoBlocks : Type 0
+GatesNeedNoBlocks =
+    (master : List ℕ) (p q : PlacedHistory)
+    → AllHaveFirsts master (empty_catalogue p.mode p.first) p.updates
+    → AllHaveFirsts master (empty_catalogue q.mode q.first) q.updates
+    → unplaced p ≡ unplaced q
+    → end_from 78 (bodies_of p.updates) ≡ end_from 78 (bodies_of q.updates)

@@ -1,7 +1,7 @@
 //! What an image can keep. The functions do nothing.
 ghost use Rattle.ov_images.specs.Laws.{DamageHasOnePlace, DamageNeedsNoMaster};
 ghost use Rattle.ov_images.specs.Laws.{DamagedKeepsNone, ExtentsTellBytes, KeepingGoesOn};
-ghost use Rattle.ov_images.specs.Laws.{FreeNeedsNoOrder, KeepsOnce};
+ghost use Rattle.ov_images.specs.Laws.{FreeNeedsNoOrder, GatesNeedNoBlocks, KeepsOnce};
 ghost use Rattle.ov_images.specs.Laws.{KeptIsBorn, KeptIsSealed, KeysAreKept};
 ghost use Rattle.ov_images.specs.Laws.{PlacesAreKeptOnce, RecordsAreKept};
 ghost use Rattle.ov_images.specs.Laws.{SameExtentsKeepTheSame};
@@ -50,4 +50,11 @@ pub fn damaged_images_keep_no_history()
     ensures none { DamagedKeepsNone }
     ensures one_place { DamageHasOnePlace }
     ensures masters { DamageNeedsNoMaster }
+{}
+
+/// The law of gates: where the gate behind the records of a history is depends on its updates
+/// alone, and not on which blocks their first ones are. So of a record that isn't as its owner
+/// sealed it the gate is at one place.
+pub fn gates_need_no_blocks()
+    ensures { GatesNeedNoBlocks }
 {}

@@ -32,6 +32,7 @@
 //! | which blocks are free depends on no order of extents | [`free_blocks_need_no_order`] |
 //! | with a record and its new extents more it keeps the history with the update | [`keeping_goes_on`] |
 //! | a damaged image keeps none, and is damaged at one place | [`damaged_images_keep_no_history`] |
+//! | a gate behind records of a history is at one place, whichever first blocks they have | [`gates_need_no_blocks`] |
 //!
 //! Two masters may have the same check value: nothing is claimed of secrecy or of collisions.
 #![tactic(auto)]
@@ -40,5 +41,5 @@ mod laws;
 
 pub use laws::{
     an_image_keeps_one_history, damaged_images_keep_no_history, free_blocks_need_no_order,
-    keeping_goes_on, records_keep_a_history, same_extents_keep_the_same,
+    gates_need_no_blocks, keeping_goes_on, records_keep_a_history, same_extents_keep_the_same,
 };
