@@ -1,33 +1,17 @@
--- What the answers to questions, and what calls give, come to.
-use Rattle.std.proofs.Common.{refl, ◌≡◌, ℕ, List, [], ◌∷◌, Bool, true, false}
-use Rattle.std.proofs.Common.{Some, None, Result, Ok, Err, sym, subst, inl, inr}
-use Rattle.std.proofs.Common.{arith}
+-- What calls give, and what that comes to.
+use Rattle.std.proofs.Common.{ℕ, List, Result, Ok, Err, sym, subst, inl, inr, arith}
 use Rattle.ov_base.specs.Names.{IsName}
 use Rattle.ov_base.specs.declared.refusal.Refusal.{Refusal}
-use Rattle.ov_base.specs.declared.refusal.Refusal.TheVariants.{NoFile}
-use Rattle.ov_client.specs.Laws.{IsAnsweredOrCut}
+use Rattle.ov_client.specs.Completeness.{IsReadOrCut}
 use Rattle.ov_client.specs.declared.fault.ClientFault.{ClientFault}
 use Rattle.ov_client.specs.declared.fault.ClientFault.TheVariants as client
-use Rattle.ov_fields.specs.Spelling.{IsOneOf}
-use Rattle.ov_history.specs.Asking.{file_named}
-use Rattle.ov_history.specs.Catalogue.{Catalogue}
-use Rattle.ov_history.specs.Masters.{Masters}
-use Rattle.ov_history.specs.Refusals.{first_of_tests}
-use Rattle.ov_owner.proofs.Fitting.{ask_fits}
-use Rattle.ov_owner.specs.Clients.{reader_in}
-use Rattle.ov_owner.specs.Laws.{IsProper}
-use Rattle.ov_owner.specs.Questions.{names_in}
+use Rattle.ov_history.specs.Plain.{PlainHistory}
+use Rattle.ov_owner.specs.Completeness.{IsSaidOrCut}
 use Rattle.ov_owner.specs.declared.fault.OwnerFault.{OwnerFault}
 use Rattle.ov_owner.specs.declared.fault.OwnerFault.TheVariants as faults
-use Rattle.ov_protocol.specs.Asking.{AnswersAsk}
-use Rattle.ov_protocol.specs.Reading.{AnswersList}
-use Rattle.ov_wire.specs.AnswerForm.{HasAnswerForm}
-use Rattle.ov_wire.specs.AnswersTo.{IsAnswer}
-use Rattle.ov_wire.specs.declared.answer.Answer.{Answer}
-use Rattle.ov_wire.specs.declared.answer.Answer.TheVariants as answers
+use Rattle.ov_wire.specs.Requests.{HasRequestForm}
 use Rattle.ov_wire.specs.declared.request.Question.TheVariants as questions
 use Rattle.ov_wire.specs.declared.request.Request.TheVariants as requests
-use Rattle.ov_acts.proofs.AskingAlone.{IsCutOff, IsPlainQuestion}
 use Rattle.ov_acts.proofs.Fronts.{name_short}
 use Rattle.ov_acts.specs.Acts.{Says}
 use Rattle.ov_acts.specs.Acts.{read_outcome}
@@ -37,37 +21,14 @@ use Rattle.ov_acts.specs.declared.stop.Stop.TheVariants as stops
 
 -- ---- the questions
 
-pub hello_plain : IsPlainQuestion requests.Hello
-hello_plain = record {
-  form = record { is_request = tt; fits = omega arith };
-  quiet = λ x. x;
-  fits = λ s a is form. subst (IsAnswer requests.Hello) (sym is) (subst HasAnswerForm is form);
-}
+pub hello_form : HasRequestForm requests.Hello
+hello_form = record { is_request = tt; fits = omega arith }
 
-list_refused : (test : Bool) (why : Refusal) → first_of_tests ((NoFile, test) ∷ []) ≡ Some why
-    → IsOneOf why (NoFile ∷ [])
-list_refused true why is = inl (let same : Some NoFile ≡ Some why = is in cc)
-list_refused false why is = absurd (let none : None ≡ Some why = is in cc)
+pub list_form : (file : List ℕ) → IsName file → HasRequestForm (requests.List file)
+list_form file named = record { is_request = named; fits = omega (arith, name_short file named) }
 
-list_fits : (c : Catalogue) (file : List ℕ) (n : ℕ) (a : Answer) → AnswersList c n a
-    → HasAnswerForm a → IsAnswer (requests.List file) a
-list_fits c file n (answers.Listed names) is form = form
-list_fits c file n (answers.Refused why) is form = list_refused _ why is
-list_fits c file n a is form = absurd is
-
-pub list_plain : (file : List ℕ) → IsName file → IsPlainQuestion (requests.List file)
-list_plain file named = record {
-  form = record { is_request = named; fits = omega (arith, name_short file named) };
-  quiet = λ x. x;
-  fits = λ s a is. list_fits s.catalogue file (file_named s.catalogue file) a is;
-}
-
-pub key_plain : (user : List ℕ) → IsName user → IsPlainQuestion (requests.Ask (questions.Key user))
-key_plain user named = record {
-  form = record { is_request = named; fits = omega (arith, name_short user named) };
-  quiet = λ x. x;
-  fits = λ s. ask_fits s.catalogue (questions.Key user);
-}
+pub key_form : (user : List ℕ) → IsName user → HasRequestForm (requests.Ask (questions.Key user))
+key_form user named = record { is_request = named; fits = omega (arith, name_short user named) }
 
 -- ---- what calls give
 
@@ -96,41 +57,27 @@ module _ (disk : Type 0) where
   says_so line (Ok value) outcome called (inr e) = subst (IsAnsweredOr disk) (sym e) tt
   says_so line (Err fault) outcome called e = subst (IsAnsweredOr disk) (sym e) called
 
-  pub proper_called : (result : Result ℕ OwnerFault) → IsProper result
-      → (result ≡ Err faults.Device → disk) → IsCalled disk result
-  proper_called (Ok epoch) is failed = tt
-  proper_called (Err (faults.Refused why)) is failed = tt
-  proper_called (Err faults.Link) is failed = tt
-  proper_called (Err (faults.BadReply place)) is failed = is
-  proper_called (Err faults.BadTag) is failed = is
-  proper_called (Err faults.Device) is failed = failed refl
-  proper_called (Err (faults.Unsettled epochs)) is failed = is
-  proper_called (Err faults.Memory) is failed = tt
+  -- a call that gives what is said of it, or is cut off
+  pub said_called : {T : Type 0} (Says : Result T Refusal → Type 0) (link : Type 0)
+      (result : Result T OwnerFault)
+      → IsSaidOrCut Says disk link result → IsCalled disk result
+  said_called Says link (Ok value) is = tt
+  said_called Says link (Err (faults.Refused why)) is = tt
+  said_called Says link (Err faults.Link) is = tt
+  said_called Says link (Err (faults.BadReply place)) is = is
+  said_called Says link (Err faults.BadTag) is = is
+  said_called Says link (Err faults.Device) is = is
+  said_called Says link (Err (faults.Unsettled epochs)) is = is
+  said_called Says link (Err faults.Memory) is = tt
 
-  pub cut_called : {T : Type 0} (result : Result T OwnerFault) → IsCutOff result
-      → IsCalled disk result
-  cut_called result (inl link) = subst (IsCalled disk) (sym link) tt
-  cut_called result (inr memory) = subst (IsCalled disk) (sym memory) tt
-
-  pub names_called : (c : Catalogue) (n : ℕ) (a : Answer) → AnswersList c n a
-      → IsCalled disk (names_in a)
-  names_called c n (answers.Listed names) is = tt
-  names_called c n (answers.Refused why) is = tt
-  names_called c n a is = absurd is
-
-  pub key_called : (k : Masters) (c : Catalogue) (user : List ℕ) (a : Answer)
-      → AnswersAsk c (questions.Key user) a → IsCalled disk (reader_in k user a)
-  key_called k c user (answers.Known known) is = tt
-  key_called k c user (answers.Refused why) is = tt
-  key_called k c user a is = absurd is
-
-  pub read_called : (result : Result (List ℕ) ClientFault) → IsAnsweredOrCut result
-      → (result ≡ Err client.Device → disk) → IsAnsweredOr disk (read_outcome result)
-  read_called (Ok bytes) is failed = tt
-  read_called (Err (client.Refused why)) is failed = tt
-  read_called (Err client.Link) is failed = tt
-  read_called (Err (client.BadReply place)) is failed = is
-  read_called (Err (client.Damaged stored computed)) is failed = is
-  read_called (Err client.Device) is failed = failed refl
-  read_called (Err (client.Unsettled generations)) is failed = is
-  read_called (Err client.Memory) is failed = tt
+  pub read_called : (h : PlainHistory) (user file : List ℕ) (link : Type 0)
+      (result : Result (List ℕ) ClientFault)
+      → IsReadOrCut h user file disk link result → IsAnsweredOr disk (read_outcome result)
+  read_called h user file link (Ok bytes) is = tt
+  read_called h user file link (Err (client.Refused why)) is = tt
+  read_called h user file link (Err client.Link) is = tt
+  read_called h user file link (Err (client.BadReply place)) is = is
+  read_called h user file link (Err (client.Damaged stored computed)) is = is
+  read_called h user file link (Err client.Device) is = is
+  read_called h user file link (Err (client.Unsettled generations)) is = is
+  read_called h user file link (Err client.Memory) is = tt

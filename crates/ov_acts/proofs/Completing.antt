@@ -17,7 +17,8 @@ use Rattle.ov_acts.proofs.Sources.{same_masters}
 use Rattle.ov_acts.specs.Acts.{Acts, ActGoesOn, Owns, OwnsBy, ReadsBy, SaysCheck}
 use Rattle.ov_acts.specs.Completeness.{AsksByName, HasFilesFor, HasOwnersFiles, HasReadersLine}
 use Rattle.ov_peer.specs.Alone.{IsAlone}
-use Rattle.ov_acts.specs.Completeness.{FailsDisk, IsAnswered, IsAnsweredOr, IsComplete}
+use Rattle.ov_client.specs.Completeness.{FailsDisk}
+use Rattle.ov_acts.specs.Completeness.{IsAnswered, IsAnsweredOr, IsComplete}
 use Rattle.ov_acts.specs.Completeness.{IsStoreOf}
 use Rattle.ov_acts.specs.Files.{FindsBody, FindsBytes, FindsMasters, FindsReader, plain_masters}
 use Rattle.ov_acts.specs.Machine.{StoresBytes}

@@ -1,10 +1,7 @@
-mod AskingAlone
 mod Called
 mod Changing
 mod Commanding
 mod Completing
-mod FailingDisks
-mod FailingReads
 mod Fronts
 mod Lines
 mod Listing

@@ -3,6 +3,7 @@ use Rattle.std.specs.Prelude.{◌≡◌, ◌⊎◌, ℕ, ◌≤◌, List, length
 use Rattle.ov_base.specs.Names.{IsName}
 use Rattle.ov_base.specs.declared.limits.TheConstants.{MAX_FILE_BYTES}
 use Rattle.ov_tokens.specs.Keys.{check_value_of}
+use Rattle.ov_client.specs.Completeness.{FailsDisk}
 use Rattle.ov_client.specs.KeyLines.{IsLineOf}
 use Rattle.ov_client.specs.Laws.{HasRoots, HoldsRootKeys}
 use Rattle.ov_client.specs.Readers.{Reader}
@@ -12,11 +13,8 @@ use Rattle.ov_history.specs.Refusals.{IsLegal}
 use Rattle.ov_history.specs.Sealing.{IsSealedAs}
 use Rattle.ov_keyfile.specs.KeyFile.{IsKeyFile}
 use Rattle.ov_peer.specs.Alone.{IsAlone}
-use Rattle.ov_peer.specs.Asks.{Ask, Leads}
-use Rattle.ov_peer.specs.Disks.{IsDiskFault}
 use Rattle.ov_peer.specs.Tells.{PeerTells}
-use Rattle.ov_protocol.specs.Serving.{Service, served}
-use Rattle.ov_record.specs.Updates.{SealedUpdate}
+use Rattle.ov_protocol.specs.Serving.{Service}
 use Rattle.ov_acts.specs.Machine.{StoresBytes}
 use Rattle.ov_acts.specs.Stops.{Outcome}
 use Rattle.ov_acts.specs.declared.job.Act.{Act}
@@ -24,23 +22,6 @@ use Rattle.ov_acts.specs.declared.job.Act.TheVariants.{Check, Key, List as ListN
 use Rattle.ov_acts.specs.declared.stop.Stop.TheVariants as stops
 
 -- ---- the server
-
--- Between the one value of the peer and the other it replied that its disk failed, to an ask that
--- needs the disk at what it served.
-pub record FailsDisk {P : Type 0} (peer : PeerTells P) (p q : P) : Type 0 where
-  pub earlier : List Ask
-  pub before : P
-  pub leads : Leads peer p earlier before
-  pub request : List ℕ
-  pub reply : List ℕ
-  pub after : P
-  pub asks : peer.asked before request reply after
-  pub more : List Ask
-  pub goes_on : Leads peer after more q
-  pub service : Service
-  pub serving : peer.serves before service
-  pub made : List SealedUpdate
-  pub fault : IsDiskFault (served service) request reply made
 
 -- What is served is a legal history as these masters seal it, with the check value of the base
 -- master.

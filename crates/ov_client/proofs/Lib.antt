@@ -1,5 +1,7 @@
+pub mod Alone
 pub mod Answering
 pub mod Coats
+pub mod FailingDisks
 pub mod Fetching
 pub mod Fields
 pub mod Gathering

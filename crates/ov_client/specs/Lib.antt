@@ -8,3 +8,4 @@ pub mod Causes
 pub mod KeyLines
 pub mod Laws
 pub mod Told
+pub mod Completeness

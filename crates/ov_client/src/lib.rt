@@ -28,8 +28,9 @@
 //!
 //! Which peer it is doesn't matter. Of one that tells its history, each call says what the result
 //! is worth (`told`): bytes and refusals are the machine's, by the law [`reads_are_the_machines`].
-//! Where nobody changes the history meanwhile a read ends so unless it is cut off
-//! ([`reads_are_answered`]). The nine generations rise ([`moved_generations_rise`]).
+//! Where nobody changes the history meanwhile a read ends so unless it is cut off: by the server's
+//! disk, by the link or by a lack of memory (`complete` of each call, and [`reads_are_answered`]).
+//! The nine generations rise ([`moved_generations_rise`]).
 //!
 //! | file in `specs/` | says |
 //! |---|---|
@@ -43,6 +44,7 @@
 //! | `KeyLines` | the line of a reader's keys, as it is written and as it may be read |
 //! | `Laws` | the laws |
 //! | `Told` | what a read gives over a peer that tells its history |
+//! | `Completeness` | when a read is answered |
 //!
 //! Nothing is claimed of secrecy, nor of a peer that tells nothing beyond what its replies say:
 //! anyone who holds the file's access key can make bytes that have its tag.

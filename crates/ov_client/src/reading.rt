@@ -4,6 +4,7 @@ ghost use Rattle.ov_base.specs.declared.limits.TheConstants.{MAX_FILE_BYTES};
 ghost use Rattle.ov_wire.specs.AnswersTo.{IsChained};
 ghost use Rattle.ov_protocol.specs.Serving.{Service};
 ghost use Rattle.ov_client.specs.Causes.{HasClientCause};
+ghost use Rattle.ov_client.specs.Completeness.{IsCompleteRead, IsCompleteReadInto};
 ghost use Rattle.ov_client.specs.Readers.{Reader, keys_along};
 ghost use Rattle.ov_client.specs.Reads.{ReadGoesOn, Reads, ReadsInto};
 ghost use Rattle.ov_client.specs.Talks.{AsksChain, goes_on};
@@ -114,7 +115,8 @@ impl Client {
     /// Asks for the chains from the user's two roots to the file's nodes, and then for its stored
     /// bytes, chunk after chunk. Where the file's surface changes meanwhile it begins again, nine
     /// times in all. The bytes are given only if the file's tag is theirs. A file without bytes
-    /// asks for no chunk.
+    /// asks for no chunk. A peer that serves a right history, and that nobody else updates, cuts a
+    /// read off only by a fault of its disk or of the link, or where memory is refused.
     pub fn fetch<P: Peer>(
         &self,
         alloc: Global,
@@ -124,6 +126,7 @@ impl Client {
         ensures talk { Reads P.tells peer.old peer.new self.now file.now result }
         ensures told { (v : Service) → P.tells.serves peer.old v
             → IsReadersReply self.now file.now v (P.tells.serves peer.new) result }
+        ensures complete { IsCompleteRead P.tells peer.old peer.new self.now file.now result }
         ensures same { P.tells.borrow peer.new ≡ P.tells.borrow peer.old }
         ensures cause { HasClientCause (P.tells.faults peer.old) (P.tells.faults peer.new) result }
     {
@@ -155,6 +158,8 @@ impl Client {
             into.old.items into.new.items result }
         ensures told { (v : Service) → P.tells.serves peer.old v
             → IsReadersReplyInto self.now file.now v (P.tells.serves peer.new)
+            into.old.items into.new.items result }
+        ensures complete { IsCompleteReadInto P.tells peer.old peer.new self.now file.now
             into.old.items into.new.items result }
         ensures same { P.tells.borrow peer.new ≡ P.tells.borrow peer.old }
         ensures cause { HasClientCause (P.tells.faults peer.old) (P.tells.faults peer.new) result }

@@ -16,3 +16,8 @@ pub mod Sizes
 pub mod Shortness
 pub mod Fitting
 pub mod Proper
+pub mod Alone
+pub mod Making
+pub mod FailingDisks
+pub mod Completing
+pub mod Answered

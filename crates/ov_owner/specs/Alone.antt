@@ -1,5 +1,5 @@
 -- Asks of a server that nobody else updates meanwhile.
-use Rattle.std.specs.Prelude.{◌≡◌, ◌⊎◌, ℕ, List, [], ◌∷◌, Option, Some, None}
+use Rattle.std.specs.Prelude.{◌≡◌, ◌⊎◌, ℕ, List, [], ◌∷◌, Option, Some, None, Ok}
 use Rattle.ov_record.specs.Updates.{SealedUpdate}
 use Rattle.ov_script.specs.declared.command.Command.{Command}
 use Rattle.ov_history.specs.Masters.{Masters}
@@ -7,10 +7,14 @@ use Rattle.ov_history.specs.Plain.{PlainHistory}
 use Rattle.ov_history.specs.Sealed.{SealedHistory}
 use Rattle.ov_history.specs.Sealing.{IsSealedAs}
 use Rattle.ov_model.specs.Step.{after}
-use Rattle.ov_protocol.specs.Serving.{Service, later}
+use Rattle.ov_wire.specs.declared.answer.Answer.{Answer}
+use Rattle.ov_protocol.specs.Answers.{Answers}
+use Rattle.ov_protocol.specs.Serving.{Service, later, served}
 use Rattle.ov_protocol.specs.Replies.{MayMake}
+use Rattle.ov_peer.specs.Alone.{IsAlone}
 use Rattle.ov_peer.specs.Asks.{Ask}
-use Rattle.ov_peer.specs.Tells.{IsReplyAt}
+use Rattle.ov_peer.specs.Tells.{IsReplyAt, PeerTells}
+use Rattle.ov_owner.specs.Errands.{Errand}
 
 -- each ask was answered at what the one before left
 abbrev pub AnsweredAlone : Service → List Ask → Service → Type 0
@@ -33,3 +37,34 @@ AskedAlone v asks unanswered last =
 -- the history is the one of before, or it with the update of this command
 abbrev pub IsOneOrNone : Masters → PlainHistory → Command → SealedHistory → Type 0
 IsOneOrNone k p command now = IsSealedAs k p now ⊎ IsSealedAs k (after p command) now
+
+-- ---- any history
+
+-- Nobody else updates what this peer serves where an ask of it fails either: it then serves the
+-- history that it served, or that with what the request would have made.
+abbrev pub IsLeftAlone : {P : Type 0} → PeerTells P → Type 0
+IsLeftAlone {P} peer =
+    (p q : P) (request : List ℕ) (v : Service)
+    → peer.failed p request q → peer.serves p v
+    → (made : List SealedUpdate) × MayMake request made × peer.serves q (later v made)
+
+-- The update, and the epoch at which it is made, are what the errand seals of what a server of this
+-- history answers to its first request.
+pub record IsSealedOf (v : Service) (e : Errand) (epoch : ℕ) (u : SealedUpdate) : Type 0 where
+  pub answer : Answer
+  pub answered : Answers (served v) e.first answer
+  pub seals : e.sealed answer ≡ Ok (epoch, u)
+
+-- what is served is this history, or that with the one update that the errand makes of it
+abbrev pub IsLeftBy : Errand → Service → Service → Type 0
+IsLeftBy e v now =
+    (now ≡ v)
+    ⊎ ((epoch : ℕ) × (u : SealedUpdate) × IsSealedOf v e epoch u × (now ≡ later v (u ∷ [])))
+
+-- However a call ends, out of memory too: a peer that nobody else updates meanwhile serves the
+-- history of before then, or that with the one update of the call. It may be any history: it needn't
+-- be legal, nor the one that the owner would have sealed, nor served under the owner's masters.
+abbrev pub MakesOneOrNone : {P : Type 0} → PeerTells P → Errand → P → P → Type 0
+MakesOneOrNone peer e p q =
+    (v : Service) → IsAlone peer → IsLeftAlone peer → peer.serves p v
+    → (now : Service) × IsLeftBy e v now × peer.serves q now

@@ -9,3 +9,4 @@ pub mod Alone
 pub mod Laws
 pub mod Changes
 pub mod Helpers
+pub mod Completeness

@@ -7,6 +7,7 @@ ghost use Rattle.ov_wire.specs.declared.request.Request.TheVariants.{Ask};
 ghost use Rattle.ov_wire.specs.Requests.{HasRequestForm};
 ghost use Rattle.ov_protocol.specs.Serving.{Service};
 ghost use Rattle.ov_owner.specs.Causes.{HasOwnerCause};
+ghost use Rattle.ov_owner.specs.Completeness.{IsCompleteCall, SaysReader};
 ghost use Rattle.ov_owner.specs.Clients.{IsReaderOf, reader_in, reader_of};
 ghost use Rattle.ov_owner.specs.Questions.{AsksOnce};
 
@@ -58,6 +59,8 @@ impl Owner {
         ensures form { HasRequestForm (Ask (AsksKey user.now)) }
         ensures told { (v : Service) → P.tells.serves peer.old v
             → IsReaderOf self.now v (P.tells.serves peer.new) user.now result }
+        ensures complete { IsCompleteCall P.tells self.now peer.old peer.new
+            (SaysReader self.now user.now) result }
         ensures same { P.tells.borrow peer.new ≡ P.tells.borrow peer.old }
         ensures cause { HasOwnerCause (P.tells.faults peer.old) (P.tells.faults peer.new) result }
     {

@@ -11,7 +11,10 @@
 //! contract says that asks lead from the peer before to the peer after, and that they are the talk
 //! of its errand with this result (`runs`). That is said of every peer. Over a peer that tells
 //! which history it serves, the result is also the machine's at that history, with what others made
-//! of it (`told`).
+//! of it (`told`). Where nobody else updates that peer, a call leaves the history that it found or
+//! that with its one update, want of memory and faults included (`alone`); and where that history
+//! is right, it ends as the machine does, unless the server's disk, the link or a lack of memory
+//! cuts it off (`complete`).
 //!
 //! | file in `specs/` | says |
 //! |---|---|
@@ -22,7 +25,8 @@
 //! | `Questions` | one question and what comes of it |
 //! | `Clients` | the reader that an owner makes for a user |
 //! | `Steps` | a result is the machine's, at the history of the last ask |
-//! | `Alone` | asks of a server that nobody else updates |
+//! | `Alone` | asks of a server that nobody else updates, and what a call leaves of it |
+//! | `Completeness` | when a call is answered |
 //! | `Laws` | the laws |
 //!
 //! | law | function |

@@ -3,8 +3,10 @@ ghost use Rattle.std.specs.Prelude.{◌≡◌};
 ghost use Rattle.ov_protocol.specs.Serving.{Service};
 ghost use Rattle.ov_script.specs.declared.command.Command.TheVariants.{Create, Enrol};
 ghost use Rattle.ov_script.specs.declared.command.Command.TheVariants.{Grant, Revoke};
+ghost use Rattle.ov_owner.specs.Alone.{MakesOneOrNone};
 ghost use Rattle.ov_owner.specs.Calls.{Runs};
 ghost use Rattle.ov_owner.specs.Causes.{HasOwnerCause};
+ghost use Rattle.ov_owner.specs.Completeness.{IsCompleteCall, SaysUpdate};
 ghost use Rattle.ov_owner.specs.Errands.{IsCreation, creating, enrolling, granting, revoking};
 ghost use Rattle.ov_owner.specs.Steps.{IsOwnersReply};
 ghost use Rattle.ov_owner.specs.Changes.{HasChangeLimits, command_of, errand_of};
@@ -45,6 +47,10 @@ impl Owner {
     }
 
     /// Makes a change. Gives the new epoch.
+    ///
+    /// However it ends, out of memory too, a peer that nobody else updates serves what it served
+    /// before or that with this one change, whatever history that is (`alone`). Over a history that
+    /// is right it ends as the machine does, unless it is cut off (`complete`).
     pub fn change<P: Peer>(
         &self,
         alloc: Global,
@@ -56,6 +62,10 @@ impl Owner {
             peer.old peer.new result }
         ensures told { (v : Service) → P.tells.serves peer.old v → v.surface ≡ self.now.surface
             → IsOwnersReply self.now (command_of change.now) v (P.tells.serves peer.new) result }
+        ensures alone { MakesOneOrNone P.tells (errand_of self.now.base change.now)
+            peer.old peer.new }
+        ensures complete { IsCompleteCall P.tells self.now peer.old peer.new
+            (SaysUpdate self.now (command_of change.now)) result }
         ensures same { P.tells.borrow peer.new ≡ P.tells.borrow peer.old }
         ensures cause { HasOwnerCause (P.tells.faults peer.old) (P.tells.faults peer.new) result }
     {
@@ -72,6 +82,9 @@ impl Owner {
         ensures runs { Runs P.tells self.now.surface (enrolling user.now) peer.old peer.new result }
         ensures told { (v : Service) → P.tells.serves peer.old v → v.surface ≡ self.now.surface
             → IsOwnersReply self.now (Enrol user.now) v (P.tells.serves peer.new) result }
+        ensures alone { MakesOneOrNone P.tells (enrolling user.now) peer.old peer.new }
+        ensures complete { IsCompleteCall P.tells self.now peer.old peer.new
+            (SaysUpdate self.now (Enrol user.now)) result }
         ensures same { P.tells.borrow peer.new ≡ P.tells.borrow peer.old }
         ensures cause { HasOwnerCause (P.tells.faults peer.old) (P.tells.faults peer.new) result }
     {
@@ -93,6 +106,10 @@ impl Owner {
         ensures told { (v : Service) → P.tells.serves peer.old v → v.surface ≡ self.now.surface
             → IsOwnersReply self.now (Create file.now list.now bytes.now) v
             (P.tells.serves peer.new) result }
+        ensures alone { MakesOneOrNone P.tells
+            (creating self.now.base file.now list.now bytes.now) peer.old peer.new }
+        ensures complete { IsCompleteCall P.tells self.now peer.old peer.new
+            (SaysUpdate self.now (Create file.now list.now bytes.now)) result }
         ensures same { P.tells.borrow peer.new ≡ P.tells.borrow peer.old }
         ensures cause { HasOwnerCause (P.tells.faults peer.old) (P.tells.faults peer.new) result }
     {
@@ -111,6 +128,10 @@ impl Owner {
             (granting self.now.base user.now file.now) peer.old peer.new result }
         ensures told { (v : Service) → P.tells.serves peer.old v → v.surface ≡ self.now.surface
             → IsOwnersReply self.now (Grant user.now file.now) v (P.tells.serves peer.new) result }
+        ensures alone { MakesOneOrNone P.tells (granting self.now.base user.now file.now)
+            peer.old peer.new }
+        ensures complete { IsCompleteCall P.tells self.now peer.old peer.new
+            (SaysUpdate self.now (Grant user.now file.now)) result }
         ensures same { P.tells.borrow peer.new ≡ P.tells.borrow peer.old }
         ensures cause { HasOwnerCause (P.tells.faults peer.old) (P.tells.faults peer.new) result }
     {
@@ -129,6 +150,9 @@ impl Owner {
             peer.old peer.new result }
         ensures told { (v : Service) → P.tells.serves peer.old v → v.surface ≡ self.now.surface
             → IsOwnersReply self.now (Revoke user.now file.now) v (P.tells.serves peer.new) result }
+        ensures alone { MakesOneOrNone P.tells (revoking user.now file.now) peer.old peer.new }
+        ensures complete { IsCompleteCall P.tells self.now peer.old peer.new
+            (SaysUpdate self.now (Revoke user.now file.now)) result }
         ensures same { P.tells.borrow peer.new ≡ P.tells.borrow peer.old }
         ensures cause { HasOwnerCause (P.tells.faults peer.old) (P.tells.faults peer.new) result }
     {

@@ -4,6 +4,7 @@ ghost use Rattle.ov_wire.specs.declared.request.Request.TheVariants.{Hello, List
 ghost use Rattle.ov_wire.specs.Requests.{HasRequestForm};
 ghost use Rattle.ov_protocol.specs.Serving.{Service};
 ghost use Rattle.ov_owner.specs.Causes.{HasOwnerCause};
+ghost use Rattle.ov_owner.specs.Completeness.{IsCompleteCall, SaysList, SaysWelcome};
 ghost use Rattle.ov_owner.specs.Questions.{AsksOnce, IsListOf, IsWelcomeOf, names_in, welcome_in};
 
 use crate::sending::fault_of;
@@ -43,6 +44,7 @@ impl Owner {
         ensures form { HasRequestForm Hello }
         ensures told { (v : Service) → P.tells.serves peer.old v
             → IsWelcomeOf v (P.tells.serves peer.new) result }
+        ensures complete { IsCompleteCall P.tells self.now peer.old peer.new SaysWelcome result }
         ensures same { P.tells.borrow peer.new ≡ P.tells.borrow peer.old }
         ensures cause { HasOwnerCause (P.tells.faults peer.old) (P.tells.faults peer.new) result }
     {
@@ -63,6 +65,8 @@ impl Owner {
         ensures form { HasRequestForm (ListNames file.now) }
         ensures told { (v : Service) → P.tells.serves peer.old v
             → IsListOf v (P.tells.serves peer.new) file.now result }
+        ensures complete { IsCompleteCall P.tells self.now peer.old peer.new
+            (SaysList self.now file.now) result }
         ensures same { P.tells.borrow peer.new ≡ P.tells.borrow peer.old }
         ensures cause { HasOwnerCause (P.tells.faults peer.old) (P.tells.faults peer.new) result }
     {

@@ -1,12 +1,14 @@
-use Rattle.std.proofs.Common.{◌∙◌, ◌<◌, [], List, ℕ, Ok, Err, arith, length, subst, sym, take}
-use Rattle.std.proofs.lemmas.List.{length-set, length-take-le, take_more_set}
+use Rattle.std.proofs.Common.{◌≡◌, ◌∙◌, ◌<◌, [], List, ℕ, Ok, Err, ap, arith, length, subst, sym, take}
+use Rattle.std.proofs.lemmas.List.{length-set, length-take-le, take_all, take_more_set}
 use Rattle.ov_client.specs.Reads.{ReadGoesOn, Reaches}
 use Rattle.ov_client.specs.Talks.{AsksChain, again}
 use Rattle.ov_client.specs.Tries.{after_tried}
+use Rattle.ov_client.specs.declared.fault.ClientFault.TheVariants as client
 use Rattle.ov_client.specs.declared.reading.TheConstants.{TRIES}
 use Rattle.ov_client.specs.declared.reading.Tried.{Tried}
 use Rattle.ov_client.specs.declared.reading.Tried.TheVariants as tries
-use Rattle.ov_client.proofs.Gathering.{tried_on}
+use Rattle.ov_client.proofs.Alone.{read_complete, rose_since}
+use Rattle.ov_client.proofs.Gathering.{no_more_tries, tried_on}
 use Rattle.ov_client.proofs.Talking.{ended}
 use Rattle.ov_client.proofs.Told.{read_told}
 use Rattle.ov_client.proofs.client.Client.fetch.Goals as goal
@@ -60,6 +62,40 @@ pub returns-in-Err-clause-told : goal.returns-in-Err-clause-told
 returns-in-Err-clause-told g c = λ v is.
     read_told g.P.Peer.tells c.args.peer.now c.try_once.new.peer c.args.self.now c.args.file.now
     (Err c.in-Err.fault) v (returns-in-Err-clause-talk g c) is
+
+pub returns-in-Ok-Read-clause-complete : goal.returns-in-Ok-Read-clause-complete
+returns-in-Ok-Read-clause-complete g c =
+    read_complete g.P.Peer.tells c.args.peer.now c.try_once.new.peer c.args.self.now
+    c.args.file.now (Ok c.in-Ok-Read.bytes) (returns-in-Ok-Read-clause-talk g c)
+    (λ link. absurd (cc link))
+
+pub returns-in-Err-clause-complete : goal.returns-in-Err-clause-complete
+returns-in-Err-clause-complete g c =
+    let tells = g.P.Peer.tells in
+    read_complete tells c.args.peer.now c.try_once.new.peer c.args.self.now c.args.file.now
+    (Err c.in-Err.fault) (returns-in-Err-clause-talk g c)
+    (λ link.
+    rose_since Tried (tells.faults c.args.peer.now) (tells.faults c.loop-n.peer)
+    (tells.faults c.try_once.new.peer) c.in-Err.fault c.loop-n.invariant.later
+    c.in-Err.ensures.cause.failed (cc link))
+
+pub returns-clause-complete : goal.returns-clause-complete
+returns-clause-complete g c =
+    let tells = g.P.Peer.tells in
+    let r = c.args.self.now in
+    let file = c.args.file.now in
+    let all = c.loop-n.generations in
+    let last : c.loop-n.n ≡ TRIES = omega arith in
+    let whole : take c.loop-n.n all ≡ all =
+    take_all c.loop-n.n all (omega (arith, last, c.loop-n.invariant.many)) in
+    read_complete tells c.args.peer.now c.loop-n.peer r file (Err (client.Unsettled all))
+    (ended tells r file c.args.peer.now c.loop-n.peer (AsksChain [] 0)
+    (Err (client.Unsettled all))
+    (subst (Reaches tells c.args.peer.now c.loop-n.peer r file (AsksChain [] 0))
+    (ap (λ (moved : List ℕ). again moved c.loop-n.least) whole
+    ∙ no_more_tries all c.loop-n.least c.loop-n.invariant.many)
+    c.loop-n.invariant.reaches))
+    (λ link. absurd (cc link))
 
 pub loop-n-preserved : goal.loop-n-preserved
 loop-n-preserved g c =

@@ -1,8 +1,8 @@
--- Where a call ends with a fault of the server's disk, the server replied that its disk failed.
+-- Where an owner's call ends with a fault of the server's disk, the server replied that its disk
+-- failed.
 use Rattle.std.proofs.Common.{◌≡◌, ℕ, List, [], ◌∷◌, ◌++◌, length, Bool, true, false}
 use Rattle.std.proofs.Common.{Option, Some, None, Result, Ok, Err, refl, sym, subst, inl, inr}
 use Rattle.std.specs.Prelude.{nat_lt, ◌==◌}
-use Rattle.ov_client.specs.Talks.{goes_on}
 use Rattle.ov_fields.specs.Fronts.{AreAllBytes}
 use Rattle.ov_history.specs.Catalogue.{Catalogue}
 use Rattle.ov_owner.specs.Calls.{Runs}
@@ -16,6 +16,9 @@ use Rattle.ov_owner.specs.Talks.{update_request}
 use Rattle.ov_owner.specs.declared.fault.OwnerFault.{OwnerFault}
 use Rattle.ov_owner.specs.declared.fault.OwnerFault.TheVariants as faults
 use Rattle.ov_owner.specs.declared.limits.TheConstants.{MAX_TRIES}
+use Rattle.ov_client.specs.Completeness.{FailsDisk}
+use Rattle.ov_client.proofs.FailingDisks.{fails_later}
+use Rattle.ov_peer.specs.Alone.{IsAlone}
 use Rattle.ov_peer.specs.Asks.{Ask, EndsAt, Leads}
 use Rattle.ov_peer.specs.Tells.{PeerTells}
 use Rattle.ov_protocol.proofs.Reading.{replies_are_read}
@@ -36,10 +39,6 @@ use Rattle.ov_wire.specs.declared.answer.Answer.TheVariants as answers
 use Rattle.ov_wire.specs.declared.answer.Known.{Known}
 use Rattle.ov_wire.specs.declared.answer.Plan.{Plan}
 use Rattle.ov_wire.specs.declared.request.Request.{Request}
-use Rattle.ov_peer.specs.Alone.{IsAlone}
-use Rattle.ov_acts.specs.Completeness.{FailsDisk}
-
--- ---- updates
 
 -- a stage that isn't the end by a fault of the disk
 abbrev IsOther : Stage → Type 0
@@ -115,26 +114,6 @@ update_other s surface tries epoch u answers.DeviceFault (tagged, now, is) =
     absurd (spelled_other s.catalogue (update_of first_form (spelling first_form u)) is)
 update_other s surface tries epoch u answers.NoMemory is = tt
 update_other s surface tries epoch u a is = tt
-
--- a disk that fails from a later peer on fails from an earlier one on too
-pub fails_later : {P : Type 0} (peer : PeerTells P) (p m q : P)
-    (request reply : List ℕ)
-    → peer.asked p request reply m → FailsDisk peer m q → FailsDisk peer p q
-fails_later peer p m q request reply sent f = record {
-  earlier = record { request = request; reply = reply } ∷ f.earlier;
-  before = f.before;
-  leads = (m, sent, f.leads);
-  request = f.request;
-  reply = f.reply;
-  after = f.after;
-  asks = f.asks;
-  more = f.more;
-  goes_on = f.goes_on;
-  service = f.service;
-  serving = f.serving;
-  made = f.made;
-  fault = f.fault;
-}
 
 module _ {P : Type 0} (peer : PeerTells P)
     (alone : IsAlone peer) where

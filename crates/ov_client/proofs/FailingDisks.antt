@@ -1,32 +1,14 @@
 -- Where a read ends with a fault of the server's disk, the server replied that its disk failed.
 use Rattle.std.proofs.Common.{◌≡◌, ℕ, List, [], ◌∷◌, ◌++◌, length, Bool, true, false}
 use Rattle.std.proofs.Common.{Option, Some, None, Result, Ok, Err, refl, sym, subst, inl, inr}
-use Rattle.ov_surface.specs.Tags.{tag_of_file}
 use Rattle.std.specs.Prelude.{◌⊎◌, ◌+◌, min, nat_lt, ◌==◌, bytes_eq, if◌then◌else◌}
 use Rattle.std.specs.Prelude.{option_map, slice_index_or}
 use Rattle.ov_base.specs.declared.limits.TheConstants.{MAX_CHUNK_BYTES}
-use Rattle.ov_client.specs.Readers.{Reader, judged, keys_along, uncovered}
-use Rattle.ov_client.specs.Reads.{Reads}
-use Rattle.ov_client.specs.Talks.{AsksChain, AsksChunk, Ends as ReadEnds, Goes as ReadGoes}
-use Rattle.ov_client.specs.Talks.{Closes as ReadCloses, IsAfter as IsReadAfter}
-use Rattle.ov_client.specs.Talks.{Moves as ReadMoves, Stage as ReadStage, after as read_after}
-use Rattle.ov_client.specs.Talks.{again as read_again, after_fetched, asked_at as read_asked_at}
-use Rattle.ov_client.specs.Talks.{goes_on, then_or}
-use Rattle.ov_client.specs.Telling.{chained_unless, chunk_bytes, sized, wrong_field}
-use Rattle.ov_client.specs.declared.fault.ClientFault.TheVariants as client
-use Rattle.ov_client.specs.declared.telling.Fetched.TheVariants.{Bytes}
 use Rattle.ov_fields.specs.Fronts.{AreAllBytes}
+use Rattle.ov_record.specs.Updates.{SealedUpdate}
 use Rattle.ov_history.specs.Catalogue.{Filed}
 use Rattle.ov_history.specs.Places.{living_at}
-use Rattle.ov_owner.specs.Talks.{start}
-use Rattle.ov_peer.specs.Asks.{Ask, EndsAt, Leads}
-use Rattle.ov_peer.specs.Tells.{PeerTells}
-use Rattle.ov_protocol.proofs.Reading.{replies_are_read}
-use Rattle.ov_protocol.specs.Answers.{Answers}
-use Rattle.ov_protocol.specs.Reading.{AnswersChunk}
-use Rattle.ov_protocol.specs.Replies.{Replies}
-use Rattle.ov_protocol.specs.Serving.{Service, Serving, later, served}
-use Rattle.ov_record.specs.Updates.{SealedUpdate}
+use Rattle.ov_surface.specs.Tags.{tag_of_file}
 use Rattle.ov_wire.specs.AnswerReading.{answer_of}
 use Rattle.ov_wire.specs.Requests.{HasRequestForm, request_bytes}
 use Rattle.ov_wire.specs.declared.answer.Answer.{Answer}
@@ -34,21 +16,54 @@ use Rattle.ov_wire.specs.declared.answer.Answer.TheVariants as answers
 use Rattle.ov_wire.specs.declared.answer.Chained.{Chained}
 use Rattle.ov_wire.specs.declared.request.Request.{Request}
 use Rattle.ov_wire.specs.declared.request.Request.TheVariants as requests
-use Rattle.ov_acts.proofs.FailingDisks.{fails_later}
+use Rattle.ov_protocol.specs.Answers.{Answers}
+use Rattle.ov_protocol.specs.Reading.{AnswersChunk}
+use Rattle.ov_protocol.specs.Replies.{Replies}
+use Rattle.ov_protocol.specs.Serving.{Service, Serving, later, served}
+use Rattle.ov_protocol.proofs.Reading.{replies_are_read}
 use Rattle.ov_peer.specs.Alone.{IsAlone}
-use Rattle.ov_acts.specs.Completeness.{FailsDisk}
+use Rattle.ov_peer.specs.Asks.{Ask, EndsAt, Leads}
+use Rattle.ov_peer.specs.Tells.{PeerTells}
+use Rattle.ov_client.specs.Completeness.{FailsDisk}
+use Rattle.ov_client.specs.Readers.{Reader, judged, keys_along, uncovered}
+use Rattle.ov_client.specs.Reads.{Reads}
+use Rattle.ov_client.specs.Talks.{AsksChain, AsksChunk, Closes, Ends, Goes, IsAfter, Moves, Stage}
+use Rattle.ov_client.specs.Talks.{after, after_fetched, again, asked_at, goes_on, then_or}
+use Rattle.ov_client.specs.Telling.{chained_unless, chunk_bytes, sized, wrong_field}
+use Rattle.ov_client.specs.declared.fault.ClientFault.TheVariants as client
+use Rattle.ov_client.specs.declared.telling.Fetched.TheVariants.{Bytes}
+
+-- a disk that fails from a later peer on fails from an earlier one on too
+pub fails_later : {P : Type 0} (peer : PeerTells P) (p m q : P)
+    (request reply : List ℕ)
+    → peer.asked p request reply m → FailsDisk peer m q → FailsDisk peer p q
+fails_later peer p m q request reply sent f = record {
+  earlier = record { request = request; reply = reply } ∷ f.earlier;
+  before = f.before;
+  leads = (m, sent, f.leads);
+  request = f.request;
+  reply = f.reply;
+  after = f.after;
+  asks = f.asks;
+  more = f.more;
+  goes_on = f.goes_on;
+  service = f.service;
+  serving = f.serving;
+  made = f.made;
+  fault = f.fault;
+}
 
 -- a stage that isn't the end by a fault of the disk
-abbrev IsOther : ReadStage → Type 0
-IsOther (ReadEnds (Err client.Device)) = ⊥
+abbrev IsOther : Stage → Type 0
+IsOther (Ends (Err client.Device)) = ⊥
 IsOther stage = Unit {0}
 
 judged_other : (r : Reader) (c : Chained) (bytes : List ℕ)
-    → IsOther (ReadEnds (judged (keys_along r c) c bytes))
+    → IsOther (Ends (judged (keys_along r c) c bytes))
 judged_other r c bytes =
     by (bytes_eq (tag_of_file (keys_along r c).access c.file bytes) c.tag) where
       by : (b : Bool)
-          → IsOther (ReadEnds (if b then Ok bytes
+          → IsOther (Ends (if b then Ok bytes
           else Err (client.Damaged c.tag (tag_of_file (keys_along r c).access c.file bytes))))
       by true = tt
       by false = tt
@@ -58,14 +73,14 @@ goes_on_other : (r : Reader) (tries : List ℕ) (c : Chained) (stored : List ℕ
 goes_on_other r tries c stored = by (nat_lt (length stored) c.length) where
   by : (b : Bool)
       → IsOther (if b then AsksChunk tries c stored
-      else ReadEnds (judged (keys_along r c) c (uncovered (keys_along r c) c.file 0 stored)))
+      else Ends (judged (keys_along r c) c (uncovered (keys_along r c) c.file 0 stored)))
   by true = tt
   by false = judged_other r c (uncovered (keys_along r c) c.file 0 stored)
 
-again_other : (tries : List ℕ) (least : ℕ) → IsOther (read_again tries least)
+again_other : (tries : List ℕ) (least : ℕ) → IsOther (again tries least)
 again_other tries least = by (length tries == 9) where
   by : (b : Bool)
-      → IsOther (if b then ReadEnds (Err (client.Unsettled tries)) else AsksChain tries least)
+      → IsOther (if b then Ends (Err (client.Unsettled tries)) else AsksChain tries least)
   by true = tt
   by false = tt
 
@@ -75,7 +90,7 @@ unless_other r tries None c = goes_on_other r tries c []
 unless_other r tries (Some place) c = tt
 
 chain_other : (r : Reader) (tries : List ℕ) (least : ℕ) (a : Answer)
-    → IsOther (read_after r (AsksChain tries least) (Ok a))
+    → IsOther (after r (AsksChain tries least) (Ok a))
 chain_other r tries least (answers.Chained c) = unless_other r tries (wrong_field r least c) c
 chain_other r tries least (answers.Refused why) = tt
 chain_other r tries least answers.NoMemory = tt
@@ -100,7 +115,7 @@ no_fault (Some f) told generation start count is = is
 chunk_other : (s : Serving) (r : Reader) (tries : List ℕ) (c : Chained) (stored : List ℕ)
     (a : Answer)
     → Answers s (requests.Chunk c.file c.generation (length stored) MAX_CHUNK_BYTES) a
-    → IsOther (read_after r (AsksChunk tries c stored) (Ok a))
+    → IsOther (after r (AsksChunk tries c stored) (Ok a))
 chunk_other s r tries c stored (answers.Bytes bytes) is =
     sized_other r tries c stored (chunk_bytes c.length (length stored)) bytes
 chunk_other s r tries c stored (answers.Moved now) is =
@@ -115,13 +130,13 @@ chunk_other s r tries c stored a is = tt
 
 module _ {P : Type 0} (peer : PeerTells P)
     (alone : IsAlone peer) (r : Reader) (file : List ℕ) where
-  read_other : (v : Service) (stage : ReadStage) (request : Request) (reply : List ℕ)
+  read_other : (v : Service) (stage : Stage) (request : Request) (reply : List ℕ)
       (made : List SealedUpdate) (read : Result Answer ℕ)
-      → read_asked_at r file stage ≡ Some request → HasRequestForm request
+      → asked_at r file stage ≡ Some request → HasRequestForm request
       → AreAllBytes reply → answer_of request reply ≡ read
       → Replies (served v) (request_bytes request) reply made
-      → IsOther (read_after r stage read)
-  read_other v (ReadEnds result) request reply made read due form bytes reads replies =
+      → IsOther (after r stage read)
+  read_other v (Ends result) request reply made read due form bytes reads replies =
       absurd (cc due)
   read_other v (AsksChain tries least) request reply made (Err place) due form bytes reads replies =
       tt
@@ -137,15 +152,15 @@ module _ {P : Type 0} (peer : PeerTells P)
       (subst (λ (x : Request). Answers (served v) x a) same
       (replies_are_read (served v) request reply made a bytes form replies reads).0)
 
-  move_other : (v : Service) (stage next : ReadStage) (a : Ask) (made : List SealedUpdate)
-      (moves : ReadMoves r file stage a next)
+  move_other : (v : Service) (stage next : Stage) (a : Ask) (made : List SealedUpdate)
+      (moves : Moves r file stage a next)
       → Replies (served v) a.request a.reply made → IsOther next
   move_other v stage next a made moves replies = by moves.reads where
     at_it : Replies (served v) (request_bytes moves.asks.request) a.reply made
     at_it = subst (λ (f : List ℕ). Replies (served v) f a.reply made) moves.asks.spelled replies
 
-    by : (IsReadAfter r stage moves.asks.request a.reply next)
-        ⊎ (next ≡ ReadEnds (Err client.Memory))
+    by : (IsAfter r stage moves.asks.request a.reply next)
+        ⊎ (next ≡ Ends (Err client.Memory))
         → IsOther next
     by (inr memory) = subst IsOther (sym memory) tt
     by (inl moved) =
@@ -154,8 +169,8 @@ module _ {P : Type 0} (peer : PeerTells P)
         (answer_of moves.asks.request a.reply) moves.asks.is_asked moves.asks.form moved.bytes refl
         at_it)
 
-  goes_fails : (asks : List Ask) (stage : ReadStage) (p q : P) (v : Service) → IsOther stage
-      → ReadGoes r file stage asks (ReadEnds (Err client.Device)) → Leads peer p asks q
+  goes_fails : (asks : List Ask) (stage : Stage) (p q : P) (v : Service) → IsOther stage
+      → Goes r file stage asks (Ends (Err client.Device)) → Leads peer p asks q
       → peer.serves p v → FailsDisk peer p q
   goes_fails [] stage p q v other goes leads serving = absurd (subst IsOther goes other)
   goes_fails (a ∷ asks) stage p q v other (next, moves, goes) (n, one, rest) serving =
@@ -181,9 +196,9 @@ module _ {P : Type 0} (peer : PeerTells P)
         }
       ]
 
-  ends_there : (final : ReadStage) (o : Option (List ℕ)) (m q : P)
-      → ReadCloses r file final o (Err client.Device) → EndsAt peer m o q
-      → (final ≡ ReadEnds (Err client.Device)) × (m ≡ q)
+  ends_there : (final : Stage) (o : Option (List ℕ)) (m q : P)
+      → Closes r file final o (Err client.Device) → EndsAt peer m o q
+      → (final ≡ Ends (Err client.Device)) × (m ≡ q)
   ends_there final None m q (inl e) ends = (e, ends)
   ends_there final None m q (inr e) ends = absurd (cc e)
   ends_there final (Some frame) m q (due, inl e) ends = absurd (cc e)
@@ -196,5 +211,5 @@ module _ {P : Type 0} (peer : PeerTells P)
       let both = ends_there final unanswered m q closes ends in
       subst (FailsDisk peer p) both.1
       (goes_fails asks (AsksChain [] 0) p m v tt
-      (subst (λ (s : ReadStage). ReadGoes r file (AsksChain [] 0) asks s) both.0 goes) leads
+      (subst (λ (s : Stage). Goes r file (AsksChain [] 0) asks s) both.0 goes) leads
       serving)
