@@ -1,3 +1,4 @@
+pub mod Failing
 pub mod Following
 pub mod Fronts
 pub mod Needing

@@ -1,5 +1,5 @@
--- The spellings of the updates that an answerer accepted.
-use Rattle.std.specs.Prelude.{◌≡◌, ℕ, ◌==◌, Bool, true, false, List, [], ◌∷◌, ◌++◌, Result, Ok, Err}
+-- The spellings of the updates that an answerer accepted, and updates in which its disk failed.
+use Rattle.std.specs.Prelude.{◌≡◌, ℕ, ◌==◌, ◌&&◌, Bool, true, false, List, [], ◌∷◌, ◌++◌, Result, Ok, Err}
 use Rattle.ov_wire.specs.declared.request.Request.{Request}
 use Rattle.ov_wire.specs.declared.request.Request.TheVariants as requests
 use Rattle.ov_wire.specs.RequestReading.{request_of}
@@ -33,3 +33,20 @@ longer_if false list spelling = list
 -- the spellings so far, with that of the request where its reply is an Accepted
 abbrev pub with_accepted : List (List ℕ) → List ℕ → List ℕ → List (List ℕ)
 with_accepted list request reply = longer_if (says_accepted reply) list (spelling_of request)
+
+-- ---- updates in which the disk failed
+
+-- whether what a frame is is an Update
+abbrev pub reads_update : Result Request ℕ → Bool
+reads_update (Ok (requests.Update epoch spelling tag)) = true
+reads_update (Ok request) = false
+reads_update (Err place) = false
+
+-- whether a reply says that the disk failed, by its kind byte
+abbrev pub says_failed : List ℕ → Bool
+says_failed [] = false
+says_failed (kind ∷ body) = kind == 0x8d
+
+-- whether the request is an Update, and its reply says that the disk failed in one
+abbrev pub fails_update : List ℕ → List ℕ → Bool
+fails_update request reply = says_failed reply && reads_update (request_of request)

@@ -1,10 +1,12 @@
 -- What the outside tells: a peer, and what answers frames.
-use Rattle.std.specs.Prelude.{◌⊎◌, ℕ, List}
+use Rattle.std.specs.Prelude.{◌≡◌, ◌⊎◌, ℕ, true, false, List, Result, Ok, Err}
 use Rattle.std.specs.Borrow.{MutBor}
+use Rattle.ov_base.specs.declared.memory.Memory.{Memory}
 use Rattle.ov_record.specs.Updates.{SealedUpdate}
 use Rattle.ov_protocol.specs.Serving.{Service, later, served}
 use Rattle.ov_protocol.specs.Replies.{MayMake, Replies}
 use Rattle.ov_peer.specs.Disks.{IsDiskFault}
+use Rattle.ov_peer.specs.Spellings.{fails_update, says_accepted}
 
 -- ---- what a peer that serves a history promises
 
@@ -73,3 +75,20 @@ pub record AnswererTells (A : Type 0) : Type 1 where
   pub replies : A → List (List ℕ) → List ℕ → List ℕ → Type 0
   -- the epoch of a value
   pub epoch_of : A → ℕ
+  -- the value accepts no update any more, since its disk failed in one
+  pub stuck : A → Type 0
+
+-- An Update that is answered by this, that the disk failed in one, leaves the value stuck. A value
+-- that is stuck stays so, and accepts nothing.
+pub record Sticks {A : Type 0} (tells : AnswererTells A) (old new : A) (request reply : List ℕ)
+    : Type 0 where
+  pub stays : tells.stuck old → tells.stuck new
+  pub refuses : tells.stuck old → says_accepted reply ≡ false
+  pub fails : fails_update request reply ≡ true → tells.stuck new
+
+-- A stuck value stays so and accepts nothing, and a failed update leaves it stuck. Where memory is
+-- refused there is no reply.
+abbrev pub StaysStuck : {A T : Type 0} → AnswererTells A → A → A → List ℕ → List ℕ
+    → Result T Memory → Type 0
+StaysStuck tells old new request reply (Ok done) = Sticks tells old new request reply
+StaysStuck tells old new request reply (Err memory) = tells.stuck old → tells.stuck new

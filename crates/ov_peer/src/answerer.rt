@@ -2,7 +2,7 @@
 ghost use Rattle.std.specs.Prelude.{◌≡◌, ◌+◌, ℕ, List, [], length, true, OnErr, OnOk};
 ghost use Rattle.ov_wire.specs.Frames.{IsFrame};
 ghost use Rattle.ov_peer.specs.Spellings.{IsUpdate, says_accepted, with_accepted};
-ghost use Rattle.ov_peer.specs.Tells.{AnswererTells};
+ghost use Rattle.ov_peer.specs.Tells.{AnswererTells, StaysStuck};
 
 use ov_base::Memory;
 use ov_wire::kinds;
@@ -10,7 +10,8 @@ use ov_wire::kinds;
 /// A value that answers one request at a time. What it answers follows from the value that it began
 /// as and the spellings of the updates that it accepted since, in order.
 pub trait Answerer {
-    /// What leads from a start to a value, what is replied after it, and the epoch.
+    /// What leads from a start to a value, what is replied after it, the epoch, and whether the value
+    /// accepts no update any more.
     ghost tells: { AnswererTells Self };
 
     /// Answers a frame; the answer replaces what `reply` had. Both are without their length fields.
@@ -26,7 +27,9 @@ pub trait Answerer {
             → OnOk result
             (tells.reached start (with_accepted list request.now reply.new.items) self.new) }
         ensures kept { (start : Self) (list : List (List ℕ)) → tells.reached start list self.old
-            → OnErr result (tells.reached start list self.new) };
+            → OnErr result (tells.reached start list self.new) }
+        // Once the disk failed in an update no update is accepted any more.
+        ensures stuck { StaysStuck tells self.old self.new request.now reply.new.items result };
 
     /// The epoch: that of the start, and one for each update since. A value is reached from itself.
     fn epoch(&self) -> u32

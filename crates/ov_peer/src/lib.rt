@@ -2,8 +2,8 @@
 //!
 //! A [`Peer`] is asked one frame and gives one: a server in this process, a server behind a link,
 //! or what a test plays. An [`Answerer`] is what serves on the other side: a value whose replies
-//! follow from where it began and from the updates that it accepted since. Frames are passed
-//! without their length fields.
+//! follow from where it began and from the updates that it accepted since. Once its disk failed in
+//! an update it is *stuck*: it accepts none any more. Frames are passed without their length fields.
 //!
 //! What a peer was asked and answered is a relation of the peer before and after (`PeerTells` in
 //! `specs/Tells`), so a call that asks several times speaks of the list of its asks (`Leads` in
@@ -28,7 +28,7 @@
 //! | `Disks` | which requests need the server's disk, and how a fault of it is told |
 //! | `Framing` | how often a frame is put |
 //! | `Exchanges` | one request, and the answer that is read |
-//! | `Spellings` | which updates a list of asks made, by their spellings |
+//! | `Spellings` | which updates a list of asks made, by their spellings, and in which the disk failed |
 //! | `Tells` | what the outside tells: a peer, a peer behind a `&mut`, and what answers frames |
 //! | `Traced`, `Tracing`, `Fixed` | what a traced peer tells and puts; what a fixed peer replies |
 #![tactic(auto)]

@@ -12,7 +12,7 @@ use Rattle.ov_turn.specs.declared.view.Entry.{Entry}
 use Rattle.ov_turn.specs.declared.view.Knowledge.{Knowledge}
 use Rattle.ov_turn.specs.declared.view.View.{View}
 use Rattle.ov_turn.specs.Logs.{GoesOnFrom}
-use Rattle.ov_turn.specs.Rule.{HasTicket, HaveOwnTickets, IsAtHome, IsKept, IsOut, IsSeat, IsSpentAt, draws_of, parts_of, tickets_of}
+use Rattle.ov_turn.specs.Rule.{HasTicket, HaveOwnTickets, IsAtHome, IsKept, IsOut, IsSeat, IsSpentAt, KnowsFailure, draws_of, parts_of, tickets_of}
 use Rattle.ov_turn.specs.Steps.{IsUnasked, SeatState}
 use Rattle.ov_turn.specs.Views.{first_part, opened, other_parts, spent}
 use Rattle.ov_turn.proofs.Lists.{own_of_later, total_push, total_set}
@@ -94,7 +94,7 @@ module _ {A : Type 0} (tells : AnswererTells A) (start : A) (passes : ℕ) where
           named = omega arith;
           called = omega arith;
           staged = tt;
-          known = (mine.known.0, own_of_later (n + 1) r.log below, mine.known.2);
+          known = (mine.known.0, own_of_later (n + 1) r.log below, mine.known.2, mine.known.3);
           numbered = All-weaker (λ (e : Entry). e.pass < n + 1)
               (λ e. e.pass ≡ length (set s.views id one) → e.call < 1)
               (λ e less is. absurd (let m = less in omega arith)) r.log below;
@@ -151,10 +151,16 @@ module _ {A : Type 0} (tells : AnswererTells A) (start : A) (passes : ℕ) where
         let l = long in
         let a = place.1 in
         let b = place.2 in
+        let f = r.failures id v at in
+        let knows_one : KnowsFailure r.stuck one =
+        record { own = f.own; taken_in = f.taken_in; held = λ h. absurd h } in
+        let knows_others : KnowsFailure r.stuck others =
+        record { own = f.own; taken_in = f.taken_in; held = λ h. absurd h } in
         record {
           next = r.next;
           served = r.served;
           log = r.log;
+          stuck = r.stuck;
           words = r.words;
           small = r.small;
           tickets = omega arith;
@@ -162,7 +168,7 @@ module _ {A : Type 0} (tells : AnswererTells A) (start : A) (passes : ℕ) where
           few = r.few;
           whole = omega arith;
           known = omega arith;
-          value = ⊎_elim (λ (h : IsAtHome tells start s r.log). inl h)
+          value = ⊎_elim (λ (h : IsAtHome tells start s r.log r.stuck). inl h)
               (λ (o : IsOut s).
               let p = out_elsewhere tells start passes s id v one vs at (λ h. h) refl o in
               inr (p.0, p.1, p.2, at_longer vs (others ∷ []) p.0 p.1 p.3, p.4))
@@ -177,6 +183,9 @@ module _ {A : Type 0} (tells : AnswererTells A) (start : A) (passes : ℕ) where
               (λ j d ne e. ⊎_elim (λ (p : d ≡ spent). inl p)
               (λ q. inr (third_seat j d ne q)) (r.seats j d e)));
           tickets_differ = tickets_apart;
+          failures = seats_more (λ j d. KnowsFailure r.stuck d) vs others knows_others
+              (seats_stay (λ j d. KnowsFailure r.stuck d) s.views id one knows_one
+              (λ j d ne e. r.failures j d e));
         }
 
   pub cuts : (id : ℕ) (m : SeatState A) → IsUnasked tells start m → 1 < m.0.parts

@@ -8,7 +8,7 @@ use Rattle.ov_turn.specs.declared.view.Entry.{Entry}
 use Rattle.ov_turn.specs.declared.view.Knowledge.{Knowledge}
 use Rattle.ov_turn.specs.declared.view.View.{View}
 use Rattle.ov_turn.specs.Passes.{IsLeft, PassState, SharedState}
-use Rattle.ov_turn.specs.Logs.{GoesOnFrom}
+use Rattle.ov_turn.specs.Logs.{GoesOnFrom, LeavesStuck}
 use Rattle.ov_turn.specs.Steps.{GivesUp, TakesIn}
 
 -- what holds of the image of each holds of each
@@ -30,10 +30,16 @@ module _ {A : Type 0} (tells : AnswererTells A) where
       let all : w.taken_in ≡ ks = taken.2 ∙ (ap (λ l. ks ++ l) none ∙ append-nil ks) in
       let others : All (λ (q : PassState A). K q.knowledge) rest =
       all_of_map K (λ q. q.knowledge) rest (subst (All K) all given.4) in
-      let one : K last.knowledge = subst K (taken.0 ∙ same) given.3 in (
+      let one : K last.knowledge = subst K (taken.0 ∙ same) given.3 in
+      let S : Knowledge → Type 0 = LeavesStuck tells value in
+      let others_stuck : All (λ (q : PassState A). S q.knowledge) rest =
+      all_of_map S (λ q. q.knowledge) rest (subst (All S) all given.6) in
+      let one_stuck : S last.knowledge = subst S (taken.0 ∙ same) given.5 in (
         log,
         given.1,
         given.2,
         subst (All (λ (q : PassState A). K q.knowledge)) (sym is)
             (All-push (λ (q : PassState A). K q.knowledge) rest last others one),
+        subst (All (λ (q : PassState A). S q.knowledge)) (sym is)
+            (All-push (λ (q : PassState A). S q.knowledge) rest last others_stuck one_stuck),
       )

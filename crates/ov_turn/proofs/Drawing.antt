@@ -12,7 +12,7 @@ use Rattle.ov_turn.specs.declared.view.Knowledge.{Knowledge}
 use Rattle.ov_turn.specs.declared.view.Stage.TheVariants.{Idle}
 use Rattle.ov_turn.specs.declared.view.View.{View}
 use Rattle.ov_turn.specs.Logs.{GoesOnFrom, epoch_after}
-use Rattle.ov_turn.specs.Rule.{HasValue, IsAtHome, HasTicket, IsKept, IsOut, IsSeat, IsSpentAt, draws_of, tickets_at, tickets_of, unused_call}
+use Rattle.ov_turn.specs.Rule.{HasValue, IsAtHome, HasTicket, IsKept, IsOut, IsSeat, IsSpentAt, KnowsFailure, draws_of, tickets_at, tickets_of, unused_call}
 use Rattle.ov_turn.specs.Steps.{Draws, SeatState}
 use Rattle.ov_turn.specs.Views.{drawn, spent}
 use Rattle.ov_turn.proofs.Lists.{total_set}
@@ -64,10 +64,13 @@ module _ {A : Type 0} (tells : AnswererTells A) (start : A) (passes : ℕ) where
       let uses = total_set draws_of s.views id v w at in
       let sum = r.tickets in
       let before = r.drawn in
-      steps tells start passes s r id v w at some_parts refl r.served (r.next + 1) s.homes
+      let f = r.failures id v at in
+      let knows : KnowsFailure r.stuck w =
+      record { own = f.own; taken_in = f.taken_in; held = λ h. absurd h } in
+      steps tells start passes s r id v w at some_parts refl r.served (r.next + 1) s.homes r.stuck
       (omega arith)
       (omega arith)
-      (⊎_elim (λ (h : IsAtHome tells start s r.log). inl h)
+      (⊎_elim (λ (h : IsAtHome tells start s r.log r.stuck). inl h)
       (λ (o : IsOut s). inr (out_elsewhere tells start passes s id v w _ at not refl o))
       r.value)
       (drawn_seat s r id v at idle room (live tells start passes s r id v at some_parts))
@@ -81,6 +84,8 @@ module _ {A : Type 0} (tells : AnswererTells A) (start : A) (passes : ℕ) where
       theirs in
       let c = b.1 in absurd (omega arith))
       (r.seats j d e)))
+      knows
+      (λ j d ne e k. k)
 
   pub draws : (slots id : ℕ) (me : SeatState A) → me.0.stage ≡ Idle → 0 < me.0.parts
       → draws_of me.0 + 1 ≤ 4294967295 * me.0.parts

@@ -1,12 +1,13 @@
 -- The first seat of a new table keeps the rule of turns.
-use Rattle.std.proofs.Common.{◌≡◌, ℕ, zero, suc, ◌+◌, ◌<◌, ◌≤◌, ◌⊎◌, List, [], ◌∷◌, refl, ap, sym, subst, inl, inr, arith}
+use Rattle.std.proofs.Common.{◌≡◌, ℕ, zero, suc, ◌+◌, ◌<◌, ◌≤◌, ◌⊎◌, List, [], ◌∷◌, refl, ap, sym, subst, inl, inr, arith, true, false, true≢false}
 use Rattle.std.proofs.lemmas.List.Elements.{All-nil}
 use mathlib.Core.Option as maybe
 use lib.ListN.{get_elem?}
 use Rattle.ov_peer.specs.Tells.{AnswererTells}
 use Rattle.ov_turn.specs.declared.view.Entry.{Entry}
+use Rattle.ov_turn.specs.declared.view.Knowledge.{Knowledge}
 use Rattle.ov_turn.specs.declared.view.View.{View}
-use Rattle.ov_turn.specs.Rule.{HasTicket, IsKept, IsSeat}
+use Rattle.ov_turn.specs.Rule.{HasTicket, IsKept, IsSeat, KnowsFailure}
 use Rattle.ov_turn.specs.Views.{opened, spent}
 use Rattle.ov_turn.proofs.Lists.{begins_self}
 
@@ -25,7 +26,7 @@ module _ {A : Type 0} (tells : AnswererTells A) (start : A) (passes : ℕ) where
     named = refl;
     called = omega arith;
     staged = tt;
-    known = (begins_self [], refl, omega arith);
+    known = (begins_self [], refl, omega arith, λ failed. refl);
     numbered = All-nil (λ (e : Entry). e.pass ≡ 0 → e.call < 1);
     last = λ _ _. (refl, omega arith);
     taken_in = λ k d lt. absurd (omega arith);
@@ -42,6 +43,7 @@ module _ {A : Type 0} (tells : AnswererTells A) (start : A) (passes : ℕ) where
     next = 0;
     served = 0;
     log = [];
+    stuck = false;
     words = ap (λ (z : ℕ). 0 ∷ 0 ∷ z ∷ []) is;
     small = omega arith;
     tickets = refl;
@@ -49,7 +51,7 @@ module _ {A : Type 0} (tells : AnswererTells A) (start : A) (passes : ℕ) where
     few = few;
     whole = omega arith;
     known = omega arith;
-    value = inl (start, refl, begins);
+    value = inl (start, refl, begins, λ is. absurd (true≢false (sym is)));
     numbered =
         (All-nil (λ (e : Entry). e.pass < 1), λ i j d lt within. absurd (omega arith));
     seats = only
@@ -59,4 +61,9 @@ module _ {A : Type 0} (tells : AnswererTells A) (start : A) (passes : ℕ) where
     tickets_differ = λ i j v w t at_i at_j has_i has_j. absurd
         (only (λ i v. HasTicket t v.stage → ⊥) (opened tells start 0 passes) (λ h. h) i v at_i
         has_i);
+    failures = only (λ i v. KnowsFailure false v) (opened tells start 0 passes) (record {
+      own = λ is. is;
+      taken_in = All-nil (λ (k : Knowledge). k.failed ≡ true → false ≡ true);
+      held = λ h. absurd h;
+    });
   }

@@ -1,5 +1,5 @@
 -- The value comes back for a seat that took all others in.
-use Rattle.std.proofs.Common.{◌≡◌, ℕ, ◌<◌, List, length, ap, sym, ◌∙◌, subst, ⊎_elim, arith}
+use Rattle.std.proofs.Common.{◌≡◌, ℕ, ◌<◌, true, List, length, ap, sym, ◌∙◌, subst, ⊎_elim, arith}
 use Rattle.std.proofs.lemmas.List.Elements.{All-weaker}
 use mathlib.Core.Logic.{dite}
 use mathlib.Core.Option as maybe
@@ -11,7 +11,7 @@ use Rattle.ov_turn.specs.declared.view.Entry.{Entry}
 use Rattle.ov_turn.specs.declared.view.Knowledge.{Knowledge}
 use Rattle.ov_turn.specs.declared.view.Stage.TheVariants.{Idle}
 use Rattle.ov_turn.specs.declared.view.View.{View}
-use Rattle.ov_turn.specs.Logs.{GoesOnFrom, spellings}
+use Rattle.ov_turn.specs.Logs.{GoesOnFrom, LeavesStuck, spellings}
 use Rattle.ov_turn.specs.Rule.{HasValue, IsAtHome, IsKept, IsOut, IsSeat, IsSpentAt, parts_of}
 use Rattle.ov_turn.specs.Steps.{GivesUp}
 use Rattle.ov_turn.specs.Views.{spent}
@@ -25,8 +25,8 @@ module _ {A : Type 0} (tells : AnswererTells A) (start : A) (passes : ℕ) where
   -- where one seat stands for every pass, no other has a ticket: the value is at home
   closes : (s : State A (View A)) (r : Rule s) (id : ℕ) (v : View A)
       → get_elem? s.views id ≡ maybe.some v → v.stage ≡ Idle → v.parts ≡ passes
-      → IsAtHome tells start s r.log
-  closes s r id v at idle whole = ⊎_elim (λ (h : IsAtHome tells start s r.log). h)
+      → IsAtHome tells start s r.log r.stuck
+  closes s r id v at idle whole = ⊎_elim (λ (h : IsAtHome tells start s r.log r.stuck). h)
       (λ (o : IsOut s). absurd (dite (ℕ_discrete o.0 id)
       (λ here. subst HasValue idle (subst (λ (z : View A). HasValue z.stage)
       (maybe.some-injective o.1 v (sym o.3 ∙ (ap (get_elem? s.views) here ∙ at))) o.4))
@@ -50,6 +50,8 @@ module _ {A : Type 0} (tells : AnswererTells A) (start : A) (passes : ℕ) where
       let same : home.0 ≡ y =
       out home.0 (ap (λ (hs : List (maybe.Option A)). get_elem? hs 0) home.1) in
       let q = live tells start passes s r id v at some in
+      let f = r.failures id v at in
+      let sticks : r.stuck ≡ true → tells.stuck y = λ is. subst tells.stuck same (home.3 is) in
       let few = r.known in (
         r.log,
         subst (λ (z : A). tells.reached start (spellings r.log) z) same home.2,
@@ -62,4 +64,7 @@ module _ {A : Type 0} (tells : AnswererTells A) (start : A) (passes : ℕ) where
         All-weaker
             (λ (k : Knowledge). GoesOnFrom tells start k r.log × IsSpentAt s.views k.number)
             (λ k. GoesOnFrom tells start k r.log) (λ k p. p.0) v.taken_in q.taken_in,
+        λ is. sticks (f.own is),
+        All-weaker (λ (k : Knowledge). k.failed ≡ true → r.stuck ≡ true) (LeavesStuck tells y)
+            (λ k p is. sticks (p is)) v.taken_in f.taken_in,
       )

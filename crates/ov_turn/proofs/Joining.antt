@@ -1,8 +1,8 @@
 -- Taking a seat in keeps the rule of turns.
-use Rattle.std.proofs.Common.{◌≡◌, ◌≢◌, ℕ, ◌<◌, ◌⊎◌, List, length, set, refl, ap, sym, ◌∙◌, subst, inl, inr, ⊎_elim, arith}
+use Rattle.std.proofs.Common.{◌≡◌, ◌≢◌, ℕ, ◌<◌, ◌⊎◌, List, length, set, true, refl, ap, sym, ◌∙◌, subst, inl, inr, ⊎_elim, arith, true≢false}
 use Rattle.std.specs.Prelude.{All}
 use Rattle.std.proofs.lemmas.List.{length-set}
-use Rattle.std.proofs.lemmas.List.Elements.{All-cons, All-weaker}
+use Rattle.std.proofs.lemmas.List.Elements.{All-cons, All-nil, All-weaker}
 use mathlib.Core.Option as maybe
 use lib.ListN.{get_elem?}
 use Rattle.atomic_table.specs.Table.{State, Joins}
@@ -12,7 +12,7 @@ use Rattle.ov_turn.specs.declared.view.Knowledge.{Knowledge}
 use Rattle.ov_turn.specs.declared.view.Stage.TheVariants.{Idle}
 use Rattle.ov_turn.specs.declared.view.View.{View}
 use Rattle.ov_turn.specs.Logs.{GoesOnFrom, IsNumbered}
-use Rattle.ov_turn.specs.Rule.{HasValue, IsAtHome, IsAtStage, IsKept, IsOut, IsSeat, IsSpentAt, draws_of, parts_of, tickets_at, tickets_of}
+use Rattle.ov_turn.specs.Rule.{HasValue, IsAtHome, IsAtStage, IsKept, IsOut, IsSeat, IsSpentAt, KnowsFailure, draws_of, parts_of, tickets_at, tickets_of}
 use Rattle.ov_turn.specs.Views.{joined, spent}
 use Rattle.ov_turn.proofs.Lists.{total_set}
 use Rattle.ov_turn.proofs.Seats.{apart_stays, live, next_state, out_elsewhere, same_ticket, seats_stay, set_there, spent_stays}
@@ -100,6 +100,24 @@ module _ {A : Type 0} (tells : AnswererTells A) (start : A) (passes : ℕ) where
         taken_in = kept d.taken_in q.taken_in;
       }
 
+      knows_both : KnowsFailure r.stuck both
+      knows_both =
+          let f = r.failures id v at in
+          let k = r.failures other w at' in
+          record {
+            own = f.own;
+            taken_in = All-cons (λ (x : Knowledge). x.failed ≡ true → r.stuck ≡ true) w.knowledge
+                v.taken_in k.own f.taken_in;
+            held = λ h. absurd (subst HasValue idle h);
+          }
+
+      knows_spent : KnowsFailure {A = A} r.stuck spent
+      knows_spent = record {
+        own = λ failed. absurd (true≢false (sym failed));
+        taken_in = All-nil (λ (x : Knowledge). x.failed ≡ true → r.stuck ≡ true);
+        held = λ h. absurd h;
+      }
+
       joined_state : Rule record { words = s.words; homes = s.homes; views = us }
       joined_state =
           let tickets = total_set tickets_of s.views id v both at in
@@ -119,6 +137,7 @@ module _ {A : Type 0} (tells : AnswererTells A) (start : A) (passes : ℕ) where
             next = r.next;
             served = r.served;
             log = r.log;
+            stuck = r.stuck;
             words = r.words;
             small = r.small;
             tickets = omega arith;
@@ -126,7 +145,7 @@ module _ {A : Type 0} (tells : AnswererTells A) (start : A) (passes : ℕ) where
             few = r.few;
             whole = omega arith;
             known = omega arith;
-            value = ⊎_elim (λ (h : IsAtHome tells start s r.log). inl h)
+            value = ⊎_elim (λ (h : IsAtHome tells start s r.log r.stuck). inl h)
                 (λ (o : IsOut s). inr
                 (out_elsewhere tells start passes (next_state 0 0 0 s.homes vs) other w spent us
                 there (λ h. subst HasValue idle' h) refl
@@ -143,6 +162,9 @@ module _ {A : Type 0} (tells : AnswererTells A) (start : A) (passes : ℕ) where
             tickets_differ = apart_stays vs other spent
                 (same_ticket tells start passes s r id v both at (λ t h. h))
                 (λ t j d ne e has _. absurd has);
+            failures = seats_stay (λ j d. KnowsFailure r.stuck d) vs other spent knows_spent
+                (λ j d _ e. seats_stay (λ j d. KnowsFailure r.stuck d) s.views id both knows_both
+                (λ i x _ f. r.failures i x f) j d e);
           }
 
   pub joins : (id : ℕ) (v : View A) (other : ℕ) (w : View A) → v.stage ≡ Idle → w.stage ≡ Idle

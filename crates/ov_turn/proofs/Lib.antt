@@ -5,6 +5,7 @@ pub mod Drawing
 pub mod Looking
 pub mod Raising
 pub mod Passing
+pub mod Sticking
 pub mod Reading
 pub mod FirstSeat
 pub mod Cutting

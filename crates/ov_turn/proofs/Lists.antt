@@ -58,6 +58,17 @@ module _ {X : Type 0} where
   total_two f (x ∷ xs) (suc i) (suc j) v w ne e h =
       let p = total_two f xs i j v w (λ same. ne (ap suc same)) e h in omega arith
 
+-- the first value in hand
+first_value : {A : Type 0} → A → List (ℕ × A) → A
+first_value none [] = none
+first_value none (one ∷ more) = one.1
+
+-- the one value in hand
+pub only_one : {A : Type 0} (hand : List (ℕ × A)) (y z : A) → hand ≡ (0, y) ∷ []
+    → hand ≡ (0, z) ∷ [] → y ≡ z
+unfolding first_value
+only_one hand y z one other = ap (first_value y) (sym one ∙ other)
+
 -- ---- what a list begins with
 
 pub begins_self : (log : List Entry) → BeginsWith log log
@@ -119,13 +130,15 @@ own_of_later pass (e ∷ log) h =
 
 module _ {A : Type 0} (tells : AnswererTells A) (start : A) where
   pub goes_on_push : (k : Knowledge) (log : List Entry) (e : Entry) → e.pass ≢ k.number
-      → GoesOnFrom tells start k log → GoesOnFrom tells start k (log ++ e ∷ [])
-  goes_on_push k log e ne g =
+      → (k.failed ≡ true → ⊥) → GoesOnFrom tells start k log
+      → GoesOnFrom tells start k (log ++ e ∷ [])
+  goes_on_push k log e ne sound g =
       let long = length-append log (e ∷ []) in
       let told = g.2 in (
         begins_push log k.seen e g.0,
         own_push k.number log e ne ∙ g.1,
         omega arith,
+        λ failed. absurd (sound failed),
       )
 
 pairs_push : {X : Type 0} (R : X → X → Type 0) (xs : List X) (x : X) → AllPairs R xs

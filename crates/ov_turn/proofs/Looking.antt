@@ -15,10 +15,10 @@ use Rattle.ov_turn.specs.declared.view.Knowledge.{Knowledge}
 use Rattle.ov_turn.specs.declared.view.Stage.TheVariants.{Waiting}
 use Rattle.ov_turn.specs.declared.view.View.{View}
 use Rattle.ov_turn.specs.Logs.{GoesOnFrom, epoch_after}
-use Rattle.ov_turn.specs.Rule.{HasTicket, HasValue, IsAtHome, IsAtStage, IsKept, IsOut, IsSeat, IsSpentAt, draws_of, tickets_at, tickets_of, unused_call}
+use Rattle.ov_turn.specs.Rule.{HasTicket, HasValue, IsAtHome, IsAtStage, IsKept, IsOut, IsSeat, IsSpentAt, KnowsFailure, draws_of, tickets_at, tickets_of, unused_call}
 use Rattle.ov_turn.specs.Steps.{Looks, SeatState}
 use Rattle.ov_turn.specs.Views.{serving, spent}
-use Rattle.ov_turn.proofs.Lists.{total_set}
+use Rattle.ov_turn.proofs.Lists.{only_one, total_set}
 use Rattle.ov_turn.proofs.Seats.{busy, next_state, no_value, same_ticket, set_there, spent_stays, steps}
 use Rattle.ov_turn.proofs.Stages.{has_between, others_stay, value_served}
 
@@ -32,8 +32,8 @@ module _ {A : Type 0} (tells : AnswererTells A) (start : A) (passes : ℕ) where
   -- the ticket of a seat that waits is served: so the value is at home
   waits_home : (s : State A (View A)) (r : Rule s) (id : ℕ) (v : View A)
       → get_elem? s.views id ≡ maybe.some v → v.stage ≡ Waiting r.served
-      → IsAtHome tells start s r.log
-  waits_home s r id v at is = ⊎_elim (λ (h : IsAtHome tells start s r.log). h)
+      → IsAtHome tells start s r.log r.stuck
+  waits_home s r id v at is = ⊎_elim (λ (h : IsAtHome tells start s r.log r.stuck). h)
       (λ (o : IsOut s). absurd (⊎_elim
       (λ (p : o.1 ≡ spent). subst (λ (z : View A). HasValue z.stage) p o.4)
       (λ (q : Sat s r.served r.next r.log o.0 o.1).
@@ -64,10 +64,10 @@ module _ {A : Type 0} (tells : AnswererTells A) (start : A) (passes : ℕ) where
   serving_seat : (s : State A (View A)) (r : Rule s) (id : ℕ) (v : View A) (t : ℕ)
       → get_elem? s.views id ≡ maybe.some v → v.stage ≡ Waiting t → r.served ≡ t
       → Sat s r.served r.next r.log id v
-      → Sat (next_state 0 0 0 (maybe.none ∷ []) (set s.views id (serving v t r.log)))
-      r.served r.next r.log id (serving v t r.log)
+      → Sat (next_state 0 0 0 (maybe.none ∷ []) (set s.views id (serving v t r.log r.stuck)))
+      r.served r.next r.log id (serving v t r.log r.stuck)
   serving_seat s r id v t at waits hit q =
-      let w : View A = serving v t r.log in
+      let w : View A = serving v t r.log r.stuck in
       let stage : IsAtStage r.served r.next r.log s.homes v (Waiting t) =
       subst (IsAtStage r.served r.next r.log s.homes v) waits q.staged in
       record {
@@ -93,16 +93,19 @@ module _ {A : Type 0} (tells : AnswererTells A) (start : A) (passes : ℕ) where
       → get_elem? s.views id ≡ maybe.some v → v.stage ≡ Waiting t → r.served ≡ t
       → Sat s r.served r.next r.log id v
       → Rule (next_state r.next r.served (epoch_after tells start r.log) (maybe.none ∷ [])
-      (set s.views id (serving v t r.log)))
+      (set s.views id (serving v t r.log r.stuck)))
   serving_state s r id v t at waits hit q =
-      let w : View A = serving v t r.log in
+      let w : View A = serving v t r.log r.stuck in
       let mine : HasTicket r.served v.stage = subst (HasTicket r.served) (sym waits) hit in
       let one : tickets_at v.stage ≡ 1 = ap tickets_at waits in
       let more = total_set tickets_of s.views id v w at in
       let uses = total_set draws_of s.views id v w at in
       let sum = r.tickets in
       let before = r.drawn in
-      steps tells start passes s r id v w at q.live refl r.served r.next (maybe.none ∷ [])
+      let f = r.failures id v at in
+      let knows : KnowsFailure r.stuck w =
+      record { own = f.own; taken_in = f.taken_in; held = λ h. refl } in
+      steps tells start passes s r id v w at q.live refl r.served r.next (maybe.none ∷ []) r.stuck
       (omega arith)
       (omega arith)
       (inr (id, w, refl, set_there s.views id v w at, tt))
@@ -113,6 +116,8 @@ module _ {A : Type 0} (tells : AnswererTells A) (start : A) (passes : ℕ) where
       (no_value tells start passes s r id v at mine j d ne e p) p.staged)
       (same_ticket tells start passes s r id v w at
       (λ t' h. subst (HasTicket t') (sym waits) h))
+      knows
+      (λ j d ne e k. k)
 
   pub looks : (slots id : ℕ) (me : SeatState A) (t : ℕ) → me.0.stage ≡ Waiting t → me.1 ≡ []
       → Allows Rule slots id me 1 (λ n. n) (Looks tells (step slots 1 0 0 maybe.none) me)
@@ -131,7 +136,7 @@ module _ {A : Type 0} (tells : AnswererTells A) (start : A) (passes : ℕ) where
       let q = busy tells start passes s r id me.0 at (omega arith) in
       subst P (sym r.words) (dite (ℕ_discrete r.served t)
       (λ hit.
-      let w : View A = serving me.0 t r.log in
+      let w : View A = serving me.0 t r.log r.stuck in
       let home = waits_home s r id me.0 at (waits ∙ ap Waiting (sym hit)) in
       let y : A = home.0 in
       let kept = serving_state s r id me.0 t at waits hit q in (
@@ -144,8 +149,12 @@ module _ {A : Type 0} (tells : AnswererTells A) (start : A) (passes : ℕ) where
         λ t' is _. (
           (λ _. (
             r.log,
-            ap (λ (z : ℕ). serving me.0 z r.log) (same t' is),
+            r.stuck,
+            ap (λ (z : ℕ). serving me.0 z r.log r.stuck) (same t' is),
             (start, y, q.begun, ap (λ c. (0, y) ∷ c) empty, home.2),
+            λ z held is. subst tells.stuck
+                (only_one ((0, y) ∷ me.1) y z (ap (λ c. (0, y) ∷ c) empty) held) (home.3 is),
+            (r.failures id me.0 at).own,
             λ x begun. subst (λ (z : A). GoesOnFrom tells z me.0.knowledge r.log)
                 (cc (begun, q.begun)) q.known,
           )),

@@ -10,7 +10,7 @@ use Rattle.ov_turn.specs.declared.view.Entry.{Entry}
 use Rattle.ov_turn.specs.declared.view.Knowledge.{Knowledge}
 use Rattle.ov_turn.specs.declared.view.View.{View}
 use Rattle.ov_turn.specs.Logs.{GoesOnFrom, epoch_after}
-use Rattle.ov_turn.specs.Rule.{IsAtHome, IsKept, IsOut, IsSeat, IsSpentAt, draws_of, tickets_of}
+use Rattle.ov_turn.specs.Rule.{IsAtHome, IsKept, IsOut, IsSeat, IsSpentAt, KnowsFailure, draws_of, tickets_of}
 use Rattle.ov_turn.specs.Steps.{Reads, SeatState}
 use Rattle.ov_turn.specs.Views.{informed}
 use Rattle.ov_turn.proofs.Lists.{begins_length, total_set}
@@ -39,7 +39,7 @@ module _ {A : Type 0} (tells : AnswererTells A) (start : A) (passes : ℕ) where
         called = q.called;
         staged =
             informed_stays r.served r.next r.log s.homes v epoch v.stage q.staged;
-        known = (q.known.0, q.known.1, omega arith);
+        known = (q.known.0, q.known.1, omega arith, q.known.3);
         numbered = q.numbered;
         last = λ many none.
             (let l = q.last many none in (l.0 ∙ sym (length-set s.views id w), l.1));
@@ -69,15 +69,21 @@ module _ {A : Type 0} (tells : AnswererTells A) (start : A) (passes : ℕ) where
       let uses = total_set draws_of s.views id me.0 w at in
       let sum = r.tickets in
       let before = r.drawn in
+      let f = r.failures id me.0 at in
+      let knows : KnowsFailure r.stuck w =
+      record { own = f.own; taken_in = f.taken_in; held = f.held } in
       let kept = steps tells start passes s r id me.0 w at some_parts refl r.served r.next s.homes
+      r.stuck
       (omega arith)
       (omega arith)
-      (⊎_elim (λ (h : IsAtHome tells start s r.log). inl h)
+      (⊎_elim (λ (h : IsAtHome tells start s r.log r.stuck). inl h)
       (λ (o : IsOut s). inr (out_told tells start passes s id me.0 w at refl o))
       r.value)
       (informed_seat s r id me.0 e at refl q)
       (λ j d ne f p. p.staged)
-      (same_ticket tells start passes s r id me.0 w at (λ t' h. h)) in
+      (same_ticket tells start passes s r id me.0 w at (λ t' h. h))
+      knows
+      (λ j d ne e k. k) in
       subst P (sym r.words) (
         w,
         keeps,

@@ -1,5 +1,5 @@
 -- A step changes one seat, and what the others know stays.
-use Rattle.std.proofs.Common.{◌≡◌, ◌≢◌, ℕ, zero, suc, ◌+◌, ◌*◌, ◌<◌, ◌≤◌, ◌⊎◌, List, [], ◌∷◌, length, set, refl, ap, sym, ◌∙◌, subst, inl, inr, ⊎_elim, arith}
+use Rattle.std.proofs.Common.{◌≡◌, ◌≢◌, ℕ, zero, suc, ◌+◌, ◌*◌, ◌<◌, ◌≤◌, ◌⊎◌, Bool, List, [], ◌∷◌, length, set, refl, ap, sym, ◌∙◌, subst, inl, inr, ⊎_elim, arith}
 use Rattle.std.proofs.lemmas.List.{length-set}
 use Rattle.std.proofs.lemmas.List.Elements.{All-weaker}
 use mathlib.Core.Logic.{dite}
@@ -13,7 +13,7 @@ use Rattle.ov_turn.specs.declared.view.Entry.{Entry}
 use Rattle.ov_turn.specs.declared.view.Knowledge.{Knowledge}
 use Rattle.ov_turn.specs.declared.view.View.{View}
 use Rattle.ov_turn.specs.Logs.{GoesOnFrom, IsNumbered, epoch_after}
-use Rattle.ov_turn.specs.Rule.{HasTicket, HasValue, HaveOwnTickets, IsAtHome, IsAtStage, IsKept, IsOut, IsSeat, IsSpentAt, draws_of, parts_of, tickets_at, tickets_of, total}
+use Rattle.ov_turn.specs.Rule.{HasTicket, HasValue, HaveOwnTickets, IsAtHome, IsAtStage, IsKept, IsOut, IsSeat, IsSpentAt, KnowsFailure, draws_of, parts_of, tickets_at, tickets_of, total}
 use Rattle.ov_turn.specs.Views.{spent}
 use Rattle.ov_turn.proofs.Lists.{total_below, total_set}
 use Rattle.ov_turn.proofs.Stages.{value_served}
@@ -119,23 +119,27 @@ module _ {A : Type 0} (tells : AnswererTells A) (start : A) (passes : ℕ) where
   -- a step of a seat that accepts no update
   pub steps : (s : State A (View A)) (r : Rule s) (id : ℕ) (v w : View A)
       → get_elem? s.views id ≡ maybe.some v → 0 < v.parts → w.parts ≡ v.parts
-      → (served next : ℕ) (homes : List (maybe.Option A))
+      → (served next : ℕ) (homes : List (maybe.Option A)) (stuck : Bool)
       → served + total tickets_of (set s.views id w) ≡ next
       → next ≤ total draws_of (set s.views id w)
-      → (IsAtHome tells start (next_state 0 0 0 homes (set s.views id w)) r.log
+      → (IsAtHome tells start (next_state 0 0 0 homes (set s.views id w)) r.log stuck
       ⊎ IsOut (next_state 0 0 0 homes (set s.views id w)))
       → Sat served next r.log (next_state 0 0 0 homes (set s.views id w)) id w
       → ((j : ℕ) (d : View A) → j ≢ id → get_elem? s.views j ≡ maybe.some d
       → Sat r.served r.next r.log s j d → IsAtStage served next r.log homes d d.stage)
-      → HaveOwnTickets (set s.views id w)
+      → HaveOwnTickets (set s.views id w) → KnowsFailure stuck w
+      → ((j : ℕ) (d : View A) → j ≢ id → get_elem? s.views j ≡ maybe.some d
+      → KnowsFailure r.stuck d → KnowsFailure stuck d)
       → Rule (next_state next served (epoch_after tells start r.log) homes (set s.views id w))
-  steps s r id v w at some_parts parts served next homes tickets drawn value mine others apart =
+  steps s r id v w at some_parts parts served next homes stuck tickets drawn value mine others
+      apart knows known =
       let long : length (set s.views id w) ≡ length s.views = length-set s.views id w in
       let t : State A (View A) = next_state 0 0 0 homes (set s.views id w) in
       record {
         next = next;
         served = served;
         log = r.log;
+        stuck = stuck;
         words = refl;
         small = r.small;
         tickets = tickets;
@@ -153,6 +157,8 @@ module _ {A : Type 0} (tells : AnswererTells A) (start : A) (passes : ℕ) where
             (others j d ne e q) long (spent_stays s.views id v w at some_parts)))
             (r.seats j d e));
         tickets_differ = apart;
+        failures = seats_stay (λ j d. KnowsFailure stuck d) s.views id w knows
+            (λ j d ne e. known j d ne e (r.failures j d e));
       }
 
   -- a seat beside the one whose ticket is served hasn't the value
@@ -163,6 +169,16 @@ module _ {A : Type 0} (tells : AnswererTells A) (start : A) (passes : ℕ) where
   no_value s r id v at mine j d other e q h =
       other (sym (r.tickets_differ id j v d r.served at e mine
       (value_served r.served r.next r.log s.homes d d.stage q.staged h)))
+
+  -- and so hasn't any seat beside it, a spent one neither
+  pub none_has_value : (s : State A (View A)) (r : Rule s) (id : ℕ) (v : View A)
+      → get_elem? s.views id ≡ maybe.some v → HasTicket r.served v.stage
+      → (j : ℕ) (d : View A) → j ≢ id → get_elem? s.views j ≡ maybe.some d
+      → HasValue d.stage → ⊥
+  none_has_value s r id v at mine j d other e h = ⊎_elim
+      (λ (p : d ≡ spent). subst (λ (z : View A). HasValue z.stage) p h)
+      (λ (q : Sat r.served r.next r.log s j d). no_value s r id v at mine j d other e q h)
+      (r.seats j d e)
 
   -- the tickets stay different where the seat keeps its own
   pub same_ticket : (s : State A (View A)) (r : Rule s) (id : ℕ) (v w : View A)

@@ -41,7 +41,12 @@ module _ {A : Type 0} (tells : AnswererTells A) (start : A) where
 
   -- The list goes on from what a pass knows, by the updates of others: it begins with those that
   -- the pass has seen, has no more of its own, and its epoch is at least the one that it was told.
+  -- Once the pass was told that the disk failed in an update, there are no more of others either.
   abbrev pub GoesOnFrom : Knowledge → List Entry → Type 0
   GoesOnFrom k log =
       BeginsWith log k.seen × (own k.number log ≡ own k.number k.seen)
-      × (k.told ≤ epoch_after log)
+      × (k.told ≤ epoch_after log) × (k.failed ≡ true → log ≡ k.seen)
+
+-- where a pass was told that the disk failed in an update, this value accepts no more
+abbrev pub LeavesStuck : {A : Type 0} → AnswererTells A → A → Knowledge → Type 0
+LeavesStuck tells value k = k.failed ≡ true → tells.stuck value

@@ -1,17 +1,17 @@
 -- What contracts see: a shared value, its passes, and what a call tells.
 use Rattle.std.specs.Prelude.{◌≡◌, ℕ, ◌+◌, ◌<◌, List, [], length, slice_index_or, All}
-use Rattle.std.specs.Prelude.{Option, Some, Result, Ok, Err}
+use Rattle.std.specs.Prelude.{◌||◌, Bool, true, false, Option, Some, Result, Ok, Err}
 use Rattle.atomic_table.specs.Seated.{TableId}
 use Rattle.atomic_table.specs.declared.shared.Seat.{Seat}
 use Rattle.ov_peer.specs.declared.fault.AskFault.{AskFault}
 use Rattle.ov_peer.specs.declared.fault.AskFault.TheVariants as faults
-use Rattle.ov_peer.specs.Spellings.{says_accepted, spelling_of}
+use Rattle.ov_peer.specs.Spellings.{fails_update, says_accepted, spelling_of}
 use Rattle.ov_peer.specs.Tells.{AnswererTells}
 use Rattle.ov_turn.specs.declared.view.Entry.{Entry}
 use Rattle.ov_turn.specs.declared.view.Knowledge.{Knowledge}
 use Rattle.ov_turn.specs.declared.view.Stage.TheVariants.{Idle}
 use Rattle.ov_turn.specs.declared.view.View.{View}
-use Rattle.ov_turn.specs.Logs.{GoesOnFrom, IsNumbered, entry, longer_if, spellings}
+use Rattle.ov_turn.specs.Logs.{GoesOnFrom, IsNumbered, LeavesStuck, entry, longer_if, spellings}
 
 -- ---- what there is
 
@@ -57,11 +57,12 @@ module _ {A : Type 0} where
   abbrev pub next_entry : PassState A → List ℕ → Entry
   next_entry p request = entry p.knowledge.number (p.calls + 1) (spelling_of request)
 
-  -- the pass after one more call, in which it has seen these updates
-  abbrev pub after_call : PassState A → List Entry → PassState A
-  after_call p log = record p {
+  -- the pass after one more call, in which it has seen these updates, and in whose update the disk
+  -- failed where the test says so
+  abbrev pub after_call : PassState A → List Entry → Bool → PassState A
+  after_call p log failed = record p {
     calls = p.calls + 1;
-    knowledge = record p.knowledge { seen = log };
+    knowledge = record p.knowledge { seen = log; failed = failed || p.knowledge.failed };
   }
 
   -- the pass after it was told this epoch
@@ -71,17 +72,20 @@ module _ {A : Type 0} where
 module _ {A : Type 0} (tells : AnswererTells A) where
   -- The request was asked in its turn: the list is that of the updates that were accepted before
   -- it, and goes on from what the pass knew. The reply is the value's after them, and the pass has
-  -- seen them, with its own one where it is accepted.
+  -- seen them, with its own one where it is accepted. Once the pass was told that the disk failed in
+  -- an update, none of its own is accepted any more.
   abbrev pub Replies : A → PassState A → List ℕ → List ℕ → PassState A → Type 0
   Replies start p request reply q =
       (log : List Entry) × GoesOnFrom tells start p.knowledge log
       × tells.replies start (spellings log) request reply
-      × (q ≡ after_call p (longer_if (says_accepted reply) log (next_entry p request)))
+      × (p.knowledge.failed ≡ true → says_accepted reply ≡ false)
+      × (q ≡ after_call p (longer_if (says_accepted reply) log (next_entry p request))
+      (fails_update request reply))
 
   -- Memory was refused in its turn: nothing was accepted, and the pass has seen what was before.
   abbrev pub Fails : A → PassState A → PassState A → Type 0
   Fails start p q =
-      (log : List Entry) × GoesOnFrom tells start p.knowledge log × (q ≡ after_call p log)
+      (log : List Entry) × GoesOnFrom tells start p.knowledge log × (q ≡ after_call p log false)
 
   -- what a call tells; a pass that is spent asks nothing
   abbrev pub TellsAsk : A → PassState A → List ℕ → Result (Unit {0}) AskFault → List ℕ
@@ -98,7 +102,8 @@ module _ {A : Type 0} (tells : AnswererTells A) where
     table = s.table;
     start = Some s.start;
     calls = 0;
-    knowledge = record { number = number; seen = []; told = tells.epoch_of s.start };
+    knowledge =
+        record { number = number; seen = []; told = tells.epoch_of s.start; failed = false };
   }
 
   -- so many passes, numbered from 0
@@ -107,8 +112,10 @@ module _ {A : Type 0} (tells : AnswererTells A) where
       (k : ℕ) (d : PassState A) → k < length items → slice_index_or items k d ≡ first_pass s k
 
   -- The value as its passes left it: it has accepted one list of updates, each of another call of
-  -- one of them, that goes on from what every pass knows.
+  -- one of them, that goes on from what every pass knows. Where a pass was told that the disk failed
+  -- in an update, the value accepts no more.
   abbrev pub IsLeft : SharedState A → List (PassState A) → A → Type 0
   IsLeft s items value =
       (log : List Entry) × tells.reached s.start (spellings log) value
       × IsNumbered s.passes log × All (λ p. GoesOnFrom tells s.start p.knowledge log) items
+      × All (λ p. LeavesStuck tells value p.knowledge) items

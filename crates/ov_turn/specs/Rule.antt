@@ -1,6 +1,6 @@
 -- The rule of turns: what holds between any two steps.
 use Rattle.std.specs.Prelude.{◌≡◌, ℕ, ◌+◌, ◌*◌, ◌<◌, ◌≤◌, ◌⊎◌, List, [], ◌∷◌, length}
-use Rattle.std.specs.Prelude.{All, Some}
+use Rattle.std.specs.Prelude.{All, Bool, true, Some}
 use mathlib.Core.Option as maybe
 use lib.ListN.{get_elem?}
 use Rattle.atomic_table.specs.Table.{State}
@@ -75,6 +75,13 @@ module _ {A : Type 0} where
   abbrev pub IsSpentAt : List (View A) → ℕ → Type 0
   IsSpentAt views number = get_elem? views number ≡ maybe.some spent
 
+  -- Whether the disk failed in an update of some pass is known, so: where it failed in one of a pass
+  -- of the seat. While the seat has the value it knows it.
+  pub record KnowsFailure (stuck : Bool) (v : View A) : Type 0 where
+    pub own : v.knowledge.failed ≡ true → stuck ≡ true
+    pub taken_in : All (λ k. k.failed ≡ true → stuck ≡ true) v.taken_in
+    pub held : HasValue v.stage → v.stuck ≡ stuck
+
   -- What a seat knows at each stage, where one ticket is served, the next to draw is another, and
   -- the list is that of the updates that were accepted. A seat with the value has it alone, and its
   -- ticket is the one that is served.
@@ -91,11 +98,11 @@ module _ {A : Type 0} where
 -- ---- the rule
 
 module _ {A : Type 0} (tells : AnswererTells A) (start : A) where
-  -- the value is at home, as these updates left it
-  abbrev pub IsAtHome : State A (View A) → List Entry → Type 0
-  IsAtHome s log =
+  -- the value is at home, as these updates left it, and accepts no more where the test says so
+  abbrev pub IsAtHome : State A (View A) → List Entry → Bool → Type 0
+  IsAtHome s log stuck =
       (value : A) × (s.homes ≡ maybe.some value ∷ [])
-      × tells.reached start (spellings log) value
+      × tells.reached start (spellings log) value × (stuck ≡ true → tells.stuck value)
 
 module _ {A : Type 0} (tells : AnswererTells A) (start : A) (passes : ℕ) where
   module _ (served next : ℕ) (log : List Entry) (homes : List (maybe.Option A))
@@ -118,11 +125,12 @@ module _ {A : Type 0} (tells : AnswererTells A) (start : A) (passes : ℕ) where
           All (λ k. GoesOnFrom tells start k log × IsSpentAt views k.number) v.taken_in
 
   -- Word 0 is the next ticket to draw, word 1 the ticket that is served, and word 2 the epoch. Slot
-  -- 0 is where the value is at home.
+  -- 0 is where the value is at home. It is stuck once the disk failed in an update of some pass.
   pub record IsKept (s : State A (View A)) : Type 0 where
     pub next : ℕ
     pub served : ℕ
     pub log : List Entry
+    pub stuck : Bool
     pub words : s.words ≡ next ∷ served ∷ epoch_after tells start log ∷ []
     pub small : epoch_after tells start log < 4294967296
     pub tickets : served + total tickets_of s.views ≡ next
@@ -130,9 +138,11 @@ module _ {A : Type 0} (tells : AnswererTells A) (start : A) (passes : ℕ) where
     pub few : passes ≤ 65536
     pub whole : total parts_of s.views ≡ passes
     pub known : length s.views ≤ passes
-    pub value : IsAtHome tells start s log ⊎ IsOut s
+    pub value : IsAtHome tells start s log stuck ⊎ IsOut s
     pub numbered : IsNumbered (length s.views) log
     pub seats :
         (place : ℕ) (v : View A) → get_elem? s.views place ≡ maybe.some v
         → (v ≡ spent) ⊎ IsSeat served next log s.homes s.views place v
     pub tickets_differ : HaveOwnTickets s.views
+    pub failures :
+        (place : ℕ) (v : View A) → get_elem? s.views place ≡ maybe.some v → KnowsFailure stuck v

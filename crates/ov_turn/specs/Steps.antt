@@ -1,17 +1,18 @@
 -- What each step tells its seat: the seat before it, the number found, and the seat after it.
 use Rattle.std.specs.Prelude.{◌≡◌, ◌≢◌, ℕ, ◌+◌, ◌<◌, ◌≤◌, List, [], ◌∷◌, ◌++◌, length, map}
-use Rattle.std.specs.Prelude.{All, IfOk, OnOk, Some, Result, Ok, Err}
+use Rattle.std.specs.Prelude.{◌||◌, All, Bool, true, false, IfOk, OnOk, Some, Result, Ok, Err}
 use Rattle.atomic_table.specs.Seated.{TableId}
 use Rattle.atomic_table.specs.Table.{Me, Step}
 use Rattle.atomic_table.specs.declared.shared.Seat.{Seat}
 use Rattle.ov_base.specs.declared.memory.Memory.{Memory}
-use Rattle.ov_peer.specs.Spellings.{says_accepted, spelling_of, with_accepted}
-use Rattle.ov_peer.specs.Tells.{AnswererTells}
+use Rattle.ov_peer.specs.Spellings.{fails_update, says_accepted, spelling_of, with_accepted}
+use Rattle.ov_peer.specs.Tells.{AnswererTells, StaysStuck}
 use Rattle.ov_turn.specs.declared.view.Entry.{Entry}
 use Rattle.ov_turn.specs.declared.view.Stage.TheVariants.{Idle, Waiting, Serving}
 use Rattle.ov_turn.specs.declared.view.View.{View}
 use Rattle.ov_turn.specs.Passes.{PassState}
-use Rattle.ov_turn.specs.Logs.{GoesOnFrom, IsNumbered, entry, epoch_after, longer_if, spellings}
+use Rattle.ov_turn.specs.Logs.{GoesOnFrom, IsNumbered, LeavesStuck, entry, epoch_after, longer_if}
+use Rattle.ov_turn.specs.Logs.{spellings}
 use Rattle.ov_turn.specs.Views.{drawn, informed, opened, raised, rested, serving}
 
 -- a seat: what it knows, and the value, where it has it
@@ -34,11 +35,17 @@ module _ {A : Type 0} where
         (start : A) × (value : A) × (m.0.start ≡ Some start)
         × (m.1 ≡ (0, value) ∷ []) × tells.reached start (spellings log) value
 
-    -- the ticket is served: the seat took the value, as updates left it that go on from what its
-    -- pass knows
+    -- the value that the seat has accepts no more where the test says so
+    abbrev pub HoldsStuck : SeatState A → Bool → Type 0
+    HoldsStuck m stuck =
+        (value : A) → m.1 ≡ (0, value) ∷ [] → stuck ≡ true → tells.stuck value
+
+    -- The ticket is served: the seat took the value, as updates left it that go on from what its
+    -- pass knows. It accepts no more where the pass was told that the disk failed in one.
     abbrev pub Takes : ℕ → SeatState A → SeatState A → Type 0
     Takes ticket m n =
-        (log : List Entry) × (n.0 ≡ serving m.0 ticket log) × Holds n log
+        (log : List Entry) × (stuck : Bool) × (n.0 ≡ serving m.0 ticket log stuck)
+        × Holds n log × HoldsStuck n stuck × (m.0.knowledge.failed ≡ true → stuck ≡ true)
         × ((start : A) → m.0.start ≡ Some start → GoesOnFrom tells start m.0.knowledge log)
 
     -- a seat that waits looked which ticket is served
@@ -60,9 +67,10 @@ module _ {A : Type 0} where
   Raises spelling step m found n =
       (ticket : ℕ) → m.0.stage ≡ Serving ticket → (n.0 ≡ raised m.0 ticket spelling) × (n.1 ≡ m.1)
 
-  -- the value was given back, and the turn passed on
-  abbrev pub PassesOn : StepTells A
-  PassesOn step m found n = (n.0 ≡ rested m.0) × (n.1 ≡ [])
+  -- the value was given back, and the turn passed on, by a call in whose update the disk failed where
+  -- the test says so
+  abbrev pub PassesOn : Bool → StepTells A
+  PassesOn failed step m found n = (n.0 ≡ rested m.0 failed) × (n.1 ≡ [])
 
 -- ---- an answer in the seat's turn
 
@@ -75,7 +83,7 @@ module _ {A : Type 0} (tells : AnswererTells A) where
   -- the value in hand answered the request, and told its epoch, or memory was refused
   abbrev pub Answers : A → List ℕ → Result ℕ Memory → List ℕ → List (ℕ × A) → Type 0
   Answers value request result reply hand =
-      (left : A) × (hand ≡ (0, left) ∷ [])
+      (left : A) × (hand ≡ (0, left) ∷ []) × StaysStuck tells value left request reply result
       × ((start : A) (list : List (List ℕ)) → tells.reached start list value
       → IfOk result (λ epoch. tells.replies start list request reply
       × (epoch ≡ tells.epoch_of start + length (with_accepted list request reply)))
@@ -88,13 +96,20 @@ abbrev pub log_after : Result ℕ Memory → List Entry → Entry → List ℕ �
 log_after (Ok epoch) log e reply = longer_if (says_accepted reply) log e
 log_after (Err memory) log e reply = log
 
+-- whether the disk failed in the update that was asked
+abbrev pub failed_after : Result ℕ Memory → List ℕ → List ℕ → Bool
+failed_after (Ok epoch) request reply = fails_update request reply
+failed_after (Err memory) request reply = false
+
 module _ {A : Type 0} where
-  -- the seat after one more call, before which these updates were accepted
-  abbrev pub after_turn : View A → List Entry → List Entry → View A
-  after_turn v log seen = record v {
+  -- the seat after one more call, before which these updates were accepted, and in whose update the
+  -- disk failed where the test says so
+  abbrev pub after_turn : View A → List Entry → List Entry → Bool → View A
+  after_turn v log seen failed = record v {
     calls = v.calls + 1;
     base = log;
-    knowledge = record v.knowledge { seen = seen };
+    stuck = false;
+    knowledge = record v.knowledge { seen = seen; failed = failed || v.knowledge.failed };
   }
 
   -- the update that the next call of a seat asks by this request
@@ -113,6 +128,11 @@ module _ {A : Type 0} where
       (w.knowledge ≡ v.knowledge) × (w.parts + length left ≡ v.parts + length passes)
       × (map (λ p. p.knowledge) left ++ w.taken_in ≡ map (λ p. p.knowledge) passes ++ v.taken_in)
 
+-- a pass that was told that the disk failed in an update has none accepted
+abbrev pub RefusesOnce : {A : Type 0} → View A → Result ℕ Memory → List ℕ → Type 0
+RefusesOnce v result reply =
+    OnOk result (v.knowledge.failed ≡ true → says_accepted reply ≡ false)
+
 module _ {A : Type 0} (tells : AnswererTells A) (start : A) where
   -- the seat stands for passes that haven't asked
   abbrev pub IsUnasked : SeatState A → Type 0
@@ -123,12 +143,15 @@ module _ {A : Type 0} (tells : AnswererTells A) (start : A) where
   TakesTurn v request result reply w =
       (log : List Entry) × GoesOnFrom tells start v.knowledge log
       × OnOk result (tells.replies start (spellings log) request reply)
-      × (w ≡ after_turn v log (log_after result log (entry_of v request) reply))
+      × (w
+      ≡ after_turn v log (log_after result log (entry_of v request) reply)
+      (failed_after result request reply))
 
   -- The value comes back: it accepted these updates, which go on from all that the seat knows and
-  -- took in.
+  -- took in. It accepts no more where one of these was told that the disk failed in an update.
   abbrev pub GivesUp : ℕ → View A → A → Type 0
   GivesUp passes v value =
       (log : List Entry) × tells.reached start (spellings log) value × IsNumbered passes log
       × GoesOnFrom tells start v.knowledge log
       × All (λ k. GoesOnFrom tells start k log) v.taken_in
+      × LeavesStuck tells value v.knowledge × All (LeavesStuck tells value) v.taken_in

@@ -1,5 +1,5 @@
 -- What a seat at the table knows, and what becomes of it by each step.
-use Rattle.std.specs.Prelude.{ℕ, ◌+◌, ◌-◌, List, [], ◌∷◌, ◌++◌, Some, None}
+use Rattle.std.specs.Prelude.{ℕ, ◌+◌, ◌-◌, ◌||◌, Bool, false, List, [], ◌∷◌, ◌++◌, Some, None}
 use Rattle.ov_peer.specs.Tells.{AnswererTells}
 use Rattle.ov_turn.specs.declared.view.Entry.{Entry}
 use Rattle.ov_turn.specs.declared.view.Stage.{Stage}
@@ -13,11 +13,12 @@ module _ {A : Type 0} where
   opened tells start number parts = record {
     start = Some start;
     parts = parts;
-    knowledge = record { number = number; seen = []; told = tells.epoch_of start };
+    knowledge = record { number = number; seen = []; told = tells.epoch_of start; failed = false };
     calls = 0;
     past = 0;
     stage = Idle;
     base = [];
+    stuck = false;
     taken_in = [];
   }
 
@@ -25,9 +26,10 @@ module _ {A : Type 0} where
   abbrev pub drawn : View A → ℕ → View A
   drawn v ticket = record v { calls = v.calls + 1; stage = Waiting ticket }
 
-  -- a seat that took the value as these updates had left it
-  abbrev pub serving : View A → ℕ → List Entry → View A
-  serving v ticket log = record v { stage = Serving ticket; base = log }
+  -- a seat that took the value as these updates had left it, with the disk failed in one where the
+  -- test says so
+  abbrev pub serving : View A → ℕ → List Entry → Bool → View A
+  serving v ticket log stuck = record v { stage = Serving ticket; base = log; stuck = stuck }
 
   -- a seat whose call accepted an update
   abbrev pub raised : View A → ℕ → List ℕ → View A
@@ -45,11 +47,15 @@ module _ {A : Type 0} where
   log_in_hand (Serving ticket) v = v.base
   log_in_hand (Raised ticket) v = v.knowledge.seen
 
-  -- a seat that passed its turn on
-  abbrev pub rested : View A → View A
-  rested v = record v {
+  -- a seat that passed its turn on, and in whose update the disk failed where the test says so
+  abbrev pub rested : View A → Bool → View A
+  rested v failed = record v {
     stage = Idle;
-    knowledge = record v.knowledge { seen = log_in_hand v.stage v };
+    stuck = false;
+    knowledge = record v.knowledge {
+      seen = log_in_hand v.stage v;
+      failed = failed || v.knowledge.failed;
+    };
   }
 
   -- a seat that was told this epoch
@@ -78,10 +84,11 @@ module _ {A : Type 0} where
   spent = record {
     start = None;
     parts = 0;
-    knowledge = record { number = 0; seen = []; told = 0 };
+    knowledge = record { number = 0; seen = []; told = 0; failed = false };
     calls = 0;
     past = 0;
     stage = Idle;
     base = [];
+    stuck = false;
     taken_in = [];
   }

@@ -2,7 +2,7 @@
 ghost use Rattle.std.specs.Prelude.{◌≡◌, ◌↔◌, ◌<◌, ◌≤◌, [], Err, OnOk, Some};
 ghost use Rattle.ov_wire.specs.Frames.{IsFrame};
 ghost use Rattle.ov_turn.specs.Passes.{IsAtRest, IsPassOf, TellsAsk, after_epoch};
-ghost use Rattle.ov_turn.specs.Steps.{TakesTurn};
+ghost use Rattle.ov_turn.specs.Steps.{RefusesOnce, TakesTurn};
 ghost use Rattle.ov_turn.specs.Logs.{epoch_after};
 
 use crate::pass::Pass;
@@ -49,15 +49,17 @@ impl<A: Answerer> Shared<A> {
         ensures hand { seat.new.me.1 ≡ [] }
         ensures turn { TakesTurn A.tells self.now.start seat.old.me.0 request.now result
             reply.new.items seat.new.me.0 }
+        ensures refuses { RefusesOnce seat.old.me.0 result reply.new.items }
     {
         let entry = self.enter(rt);
         let ticket = self.draw(seat);
         self.wait_turn(rt, seat, ticket);
         let done = self.answer_here(seat, request, reply);
-        if done.is_ok() && is_accepted(reply.as_slice()) {
+        let told = reply.as_slice();
+        if done.is_ok() && is_accepted(told) {
             self.raise::<Brand>(seat, ticket, request);
         }
-        self.pass_on(seat);
+        self.pass_on::<Brand>(seat, &done, request, told);
         drop(entry);
         done
     }

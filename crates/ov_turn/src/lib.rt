@@ -18,8 +18,8 @@
 //! run, some twenty times, and then sleep.
 //!
 //! **What a contract sees** of a pass is its number, the count of its calls, the accepted updates
-//! that it has *seen*, in order, and the epoch that it was last *told* (`PassState` and
-//! `Knowledge`). Each update in that list is an `Entry`: the pass and the call that asked it, and
+//! that it has *seen*, in order, the epoch that it was last *told*, and whether the disk *failed* in
+//! an update of its own (`PassState` and `Knowledge`). Each update in that list is an `Entry`: the pass and the call that asked it, and
 //! its spelling.
 //!
 //! * A call is answered at one list: that of the updates accepted before its turn. This list goes
@@ -28,13 +28,16 @@
 //! * The reply is the answerer's at this list. The pass has then seen it, with the call's own
 //!   update at its end exactly where the reply is an Accepted. So a pass's own updates in what it
 //!   has seen are those of its accepted calls, each once.
+//! * Once an update was answered by this, that the disk failed, none is accepted any more, whichever
+//!   pass asks it: the list stays what the pass that was told so had seen then.
 //! * Where memory is refused nothing is accepted; the call counts, and the pass has seen the list.
 //! * A pass that has asked 4,294,967,295 times is spent: it asks nothing and stays as it is.
 //! * [`Shared::epoch`] takes no `Wait`. The epoch that it gives is no less than the one told
 //!   before, nor than that of the updates seen.
 //! * [`Shared::close`] gives the answerer back as one list of updates left it. What every pass has
 //!   seen is a beginning of this list, it has no more of the pass's own updates, and no two are of
-//!   the same call. No pass was told more than its epoch.
+//!   the same call. No pass was told more than its epoch. Where the disk failed in an update of a
+//!   pass the answerer that comes back is stuck.
 //!
 //! | file in `specs/` | says |
 //! |---|---|

@@ -1,6 +1,6 @@
 //! The steps of a seat, each with what it tells. Proofs alone read these types: no value of them is
 //! made.
-ghost use Rattle.std.specs.Prelude.{ℕ, List, []};
+ghost use Rattle.std.specs.Prelude.{ℕ, Bool, List, [], false};
 ghost use Rattle.ov_turn.specs.Steps.{Draws, Looks, PassesOn, Raises, Reads};
 ghost use Rattle.ov_turn.specs.Views.{first_part, joined, other_parts, spent};
 
@@ -41,11 +41,22 @@ impl<A: Answerer, N: Spelled> Play<A, View<A>> for Raise<N> {
     ghost then = { Raises N.spelling };
 }
 
-/// Gives the value back, and passes the turn on.
-pub struct PassOn;
+/// Whether the disk failed in the update of a call. Each call that passes its turn on picks its own.
+pub trait Failing {
+    ghost failed: { Bool };
+}
 
-impl<A: Answerer> Play<A, View<A>> for PassOn {
-    ghost then = { PassesOn };
+impl Failing for Brand {
+    ghost failed = { false };
+}
+
+/// Gives the value back, and passes the turn on, with the disk failed or not.
+pub struct PassOn<N> {
+    marker: PhantomData<N>,
+}
+
+impl<A: Answerer, N: Failing> Play<A, View<A>> for PassOn<N> {
+    ghost then = { PassesOn N.failed };
 }
 
 /// Reads the epoch.

@@ -2,16 +2,16 @@
 //!
 //! Threads come to these steps one at a time, by a lock of which nothing is known here. So a ticket is
 //! served at once, but it is the ticket by which a thread knows that it has the value alone.
-ghost use Rattle.std.specs.Prelude.{◌≡◌, ℕ, ◌+◌, ◌*◌, ◌<◌, ◌≤◌, [], ◌∷◌, List, OnOk};
+ghost use Rattle.std.specs.Prelude.{◌≡◌, ℕ, ◌+◌, ◌*◌, ◌<◌, ◌≤◌, ◌||◌, [], ◌∷◌, List, OnOk, false};
 ghost use Rattle.ov_wire.specs.Frames.{IsFrame};
 ghost use Rattle.ov_peer.specs.Spellings.{spelling_of};
 ghost use Rattle.ov_turn.specs.declared.view.Stage.TheVariants.{Idle, Serving, Waiting};
 ghost use Rattle.ov_turn.specs.Logs.{epoch_after};
 ghost use Rattle.ov_turn.specs.Rule.{HasValue, draws_of};
-ghost use Rattle.ov_turn.specs.Steps.{Answers, Holds, Takes};
+ghost use Rattle.ov_turn.specs.Steps.{Answers, Holds, HoldsStuck, Takes, failed_after};
 ghost use Rattle.ov_turn.specs.Views.{drawn, log_in_hand, raised, rested};
 
-use crate::plays::{Draw, Look, PassOn, Raise, Spelled};
+use crate::plays::{Draw, Failing, Look, PassOn, Raise, Spelled};
 use crate::shared::{Place, Shared};
 use ov_base::Memory;
 use ov_peer::Answerer;
@@ -81,6 +81,7 @@ impl<A: Answerer> Shared<A> {
         requires serves { seat.old.me.0.stage ≡ Serving ticket }
         requires small { epoch_after A.tells self.now.start seat.old.me.0.base + 1 < 4294967296 }
         requires spelled { N.spelling ≡ spelling_of request.now }
+        requires sound { seat.old.me.0.stuck ≡ false }
         ensures own { seat.new.table_id ≡ seat.old.table_id }
         ensures view { seat.new.me ≡ (
           raised seat.old.me.0 ticket (spelling_of request.now),
@@ -92,14 +93,29 @@ impl<A: Answerer> Shared<A> {
         self.table.shared.fetch_add::<Raise<N>>(seat, EPOCH, 1);
     }
 
-    /// Gives the value back, and passes the turn on.
-    pub(crate) fn pass_on(&self, seat: &mut Place<A>)
+    /// Gives the value back, and passes the turn on after a call that did this. The value is stuck
+    /// where the disk failed in its update, or in one before.
+    pub(crate) fn pass_on<N: Failing>(
+        &self,
+        seat: &mut Place<A>,
+        done: &Result<u32, Memory>,
+        request: &[u8],
+        reply: &[u8],
+    )
         requires own { seat.old.table_id ≡ self.now.table }
         requires serves { HasValue seat.old.me.0.stage }
         requires value { Holds A.tells seat.old.me (log_in_hand seat.old.me.0.stage seat.old.me.0) }
+        requires stuck { HoldsStuck A.tells seat.old.me (N.failed || seat.old.me.0.stuck) }
+        requires told { N.failed ≡ failed_after done.now request.now reply.now }
         ensures own { seat.new.table_id ≡ seat.old.table_id }
-        ensures view { seat.new.me ≡ (rested seat.old.me.0, []) }
+        ensures view { seat.new.me ≡ (
+          rested seat.old.me.0 (failed_after done.now request.now reply.now),
+          [],
+        ) }
     {
-        self.table.shared.fetch_add::<PassOn>(seat, SERVED, 1);
+        let _ = done;
+        let _ = request;
+        let _ = reply;
+        self.table.shared.fetch_add::<PassOn<N>>(seat, SERVED, 1);
     }
 }

@@ -18,6 +18,8 @@ pub struct Knowledge {
     pub seen: LinkedList<Entry>,
     /// The last epoch that it was told.
     pub told: u64,
+    /// Whether an update of its own was answered by this, that the disk failed in it.
+    pub failed: bool,
 }
 
 /// What a seat is about to do. Each number is its ticket.
@@ -46,6 +48,8 @@ pub struct View<A> {
     pub stage: Stage,
     /// While it has the value: the updates that were accepted when it took it.
     pub base: LinkedList<Entry>,
+    /// While it has the value: whether the disk had failed in an update of some pass when it took it.
+    pub stuck: bool,
     /// What the seats that it took in knew.
     pub taken_in: LinkedList<Knowledge>,
 }

@@ -8,5 +8,7 @@ fetch_add-requires g c =
       search rules,
       search rules,
       passes_on g.A.Answerer.tells c.self.inside.table.shared.key.start.value
-          c.self.inside.table.shared.key.passes _ _ c.args.seat.now.me v.0 v.1 c.requires.serves v.2 v.3 v.4,
+          c.self.inside.table.shared.key.passes _ _ c.args.seat.now.me g.N.Failing.failed v.0 v.1
+          c.requires.serves v.2 v.3 v.4
+          (c.requires.stuck v.1 v.3),
     )

@@ -15,5 +15,5 @@ fetch_add-requires g c =
       search rules,
       search rules,
       raises tells key.start.value key.passes _ _ c.args.seat.now.me c.args.ticket
-          g.N.Spelled.spelling c.requires.serves small,
+          g.N.Spelled.spelling c.requires.serves small c.requires.sound,
     )
