@@ -15,7 +15,7 @@ module _ {V S : Type 0} (answerer : AnswererTells V) (source : SourceTells S) (s
       → answerer.reached start (and_accepted list exchanges) b
   leads_reach a b list [] here same = subst (answerer.reached start list) same here
   leads_reach a b list (e ∷ more) here (m, one, rest) =
-      leads_reach m b (spellings_after list e.request e.reply) more (one start list here).1 rest
+      leads_reach m b (spellings_after list e.request e.reply) more (one.0 start list here).1 rest
 
   pub sessions_reach : (v : V) (sessions : List (Session S)) (w : V) (list : List (List ℕ)) → answerer.reached start list v
       → (f : Follows (serves_alone answerer source sink) v sessions w)

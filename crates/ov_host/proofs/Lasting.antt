@@ -9,11 +9,10 @@ use Rattle.ov_disk.specs.Tells.{DiskTells}
 use Rattle.ov_disk.proofs.Runs.{started, then_on, weaker}
 use Rattle.ov_images.specs.Images.{Keeps, Keys}
 use Rattle.ov_wire.specs.declared.request.Request.{Request}
-use Rattle.ov_wire.specs.declared.request.Request.TheVariants as requests
 use Rattle.ov_wire.specs.declared.answer.Answer.TheVariants as answers
 use Rattle.ov_wire.specs.RequestReading.{request_of}
-use Rattle.ov_protocol.specs.Serving.{Serving, followed}
-use Rattle.ov_protocol.specs.Updating.{AnswersUpdate, owner_tag, spelled_by, updates_in, updates_of}
+use Rattle.ov_protocol.specs.Serving.{followed}
+use Rattle.ov_protocol.specs.Updating.{spelled_by, updates_in, updates_of}
 use Rattle.ov_protocol.specs.Replies.{AnswersRead, made_of, updates_asked}
 use Rattle.ov_peer.specs.Disks.{AsksBytes, HasUpdate}
 use Rattle.ov_peer.specs.Spellings.{longer_if, says_accepted, spelling_in, spelling_of, with_accepted}
@@ -26,6 +25,7 @@ use Rattle.ov_server.specs.Following.{Reaches, RepliesAfter}
 use Rattle.ov_server.proofs.AnswerKinds.{IsMade, accepted_made, nothing_made, says_so}
 use Rattle.ov_server.proofs.Following.{reached_after, replies_ok}
 use Rattle.ov_server.proofs.Shown.{serves_with}
+use Rattle.ov_server.proofs.Sticking.{has_update}
 use Rattle.ov_host.specs.Lasting.{Endures, StoreGoesOn, KeepsAll, KeepsFirst, KeepsSome}
 
 -- ---- counts
@@ -87,22 +87,6 @@ module _ (k : Keys) (g : SealedHistory) (us : List SealedUpdate) (i : Image) whe
       let whole : followed (followed g us) asked ≡ followed g (us ++ u ∷ []) =
       followed-append g us asked ∙ ap (λ (l : List SealedUpdate). followed g (us ++ l)) same in
       inr (failed, (u, subst (λ (h : SealedHistory). Keeps k h i) whole after))
-
--- ---- what is accepted
-
--- an Accepted is an Update's with the owner's tag, at the server's epoch
-has_update : (s : Serving) (request : List ℕ) (n : ℕ) (made : List SealedUpdate) → AnswersRead s (request_of request) (answers.Accepted n)
-    → (m : IsMade (request_of request) made) → HasUpdate s request m.update
-has_update s request n made is m =
-    let here : AnswersUpdate s.surface s.catalogue m.epoch m.spelling m.tag (answers.Accepted n) =
-    subst (λ (r : Result Request ℕ). AnswersRead s r (answers.Accepted n)) m.is is in
-    let at_epoch : m.epoch ≡ s.catalogue.epoch = here.1 in record {
-      spelling = m.spelling;
-      tag = m.tag;
-      is = m.is ∙ ap (λ (e : ℕ). Ok (requests.Update e m.spelling m.tag)) at_epoch;
-      right = here.0 ∙ ap (λ (e : ℕ). owner_tag s.surface e m.spelling) at_epoch;
-      spells = m.spells;
-    }
 
 module _ {D : Type 0} (tells : DiskTells D) where
   -- a store goes on from itself

@@ -83,10 +83,12 @@ module _ {D : Type 0} (tells : DiskTells D) where
       → g.mode ≡ mode → IsImageOf k g i
       → Survives k g (updates_of list) last.failed disk last.disk)
 
--- what a server over a store tells: how its store and its disk went on, and what it replies by that
+-- What a server over a store tells: how its store and its disk went on, and what it replies by that.
+-- It accepts no more once its disk failed in an update.
 abbrev pub store_tells : {D : Type 0} → DiskTells D → AnswererTells (Opened D)
 store_tells tells = record {
   reached = λ start list now. StoreGoesOn tells start list now;
   replies = λ start list request reply. RepliesAfter (serving_of start) list request reply;
   epoch_of = λ s. s.catalogue.epoch;
+  stuck = λ s. s.failed ≡ true;
 }

@@ -31,8 +31,9 @@ module _ {V S G : Type 0} (answerer : AnswererTells V) (source : SourceTells S) 
         accepted_in_sessions answerer source sink first tells.serves.sessions.sessions last
         tells.serves.sessions.passes
 
-    -- each reply in the sessions is the value's after a first part of this list, which goes on by the
-    -- request's own update where the reply accepts it
+    -- Each reply in the sessions is the value's after a first part of this list, which goes on by the
+    -- request's own update where the reply accepts it. Where the reply says that the disk failed in an
+    -- update, that part is the whole list: no session's update is accepted any more.
     abbrev pub AreToldOf : V → List Entry → (first last : List (PassState V)) (old new : Doorway S)
         (idle done : SpawnerState S V G) (wanted : ℕ) (before after : Option (List ℕ)) (status : ℕ)
         → Serves (serves_by_pass answerer source sink) first last old new idle done wanted before
@@ -51,7 +52,8 @@ module _ {V S G : Type 0} (answerer : AnswererTells V) (source : SourceTells S) 
     (wanted : ℕ) (before after : Option (List ℕ)) (status : ℕ) where
   -- The value was shared by so many passes, by which the door was served. It is left with one list
   -- of accepted updates: each that a session accepted is there once, and those of a pass are in the
-  -- order of its sessions; what the sessions were told is that list's.
+  -- order of its sessions; what the sessions were told is that list's, which ends where the disk
+  -- failed in an update of theirs.
   pub record Shares : Type 0 where
     pub shared : SharedState V
     pub start : shared.start ≡ value

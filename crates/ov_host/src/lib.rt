@@ -18,7 +18,9 @@
 //! the disk, as the server left it.
 //! `specs/Hosting` says it all: what is put in which order, that the first line has the address at
 //! which the door listens, where the door tells that, that the sessions are those of a server of
-//! just the store that was begun, and which status has which cause.
+//! just the store that was begun, and which status has which cause. Once an update of any session
+//! was answered by this, that the disk failed, no session's update is accepted any more
+//! (`AreToldOf` in `specs/Sharing`).
 #![tactic(auto)]
 
 mod disk_server;

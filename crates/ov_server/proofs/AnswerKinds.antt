@@ -1,5 +1,5 @@
 -- What is answered by what a server shows is no fault of the disk, and an Accepted is an update's.
-use Rattle.std.proofs.Common.{◌≡◌, ◌==◌, ℕ, Bool, true, false, List, [], ◌∷◌, Result, Ok, Err, refl, ap, sym, true≢false}
+use Rattle.std.proofs.Common.{◌≡◌, ◌∙◌, ℕ, true, false, List, [], ◌∷◌, Result, Ok, Err, refl, ap, sym, true≢false}
 use Rattle.ov_record.specs.Reading.{update_of}
 use Rattle.ov_record.specs.Updates.{SealedUpdate}
 use Rattle.ov_record.specs.Forms.{first_form}
@@ -16,7 +16,7 @@ use Rattle.ov_protocol.specs.Serving.{Serving}
 use Rattle.ov_protocol.specs.Reading.{AnswersChunk}
 use Rattle.ov_protocol.specs.Updating.{AnswersSpelled, spelled_by}
 use Rattle.ov_protocol.specs.Replies.{AnswersRead, made_of}
-use Rattle.ov_peer.specs.Spellings.{says_accepted}
+use Rattle.ov_peer.specs.Spellings.{says_accepted, says_failed}
 
 -- ---- no fault of the disk
 
@@ -44,36 +44,35 @@ no_fault s (Ok (requests.Chunk file generation start count)) is =
 no_fault s (Ok (requests.Page part number)) is = cc
 no_fault s (Ok (requests.List file)) is = is
 
--- whether bytes begin with the kind byte of a fault of the disk
-is_fault : List ℕ → Bool
-is_fault [] = false
-is_fault (kind ∷ bytes) = kind == 0x8d
+-- an answer by what is shown doesn't say that the disk failed
+pub says_no_fault : (s : Serving) (read : Result Request ℕ) (a : Answer) → AnswersRead s read a
+    → says_failed (answer_bytes a) ≡ false
+says_no_fault s read (answers.Welcome welcome) is = refl
+says_no_fault s read (answers.Known known) is = refl
+says_no_fault s read (answers.Plan plan) is = refl
+says_no_fault s read (answers.Accepted epoch) is = refl
+says_no_fault s read (answers.Chained chained) is = refl
+says_no_fault s read (answers.Bytes bytes) is = refl
+says_no_fault s read (answers.PageOf entry) is = refl
+says_no_fault s read (answers.Refused refusal) is = refl
+says_no_fault s read (answers.Stale epoch) is = refl
+says_no_fault s read answers.BadTag is = refl
+says_no_fault s read (answers.BadRequest place) is = refl
+says_no_fault s read (answers.Moved generation) is = refl
+says_no_fault s read answers.DeviceFault is = absurd (no_fault s read is)
+says_no_fault s read answers.NoMemory is = refl
+says_no_fault s read (answers.Listed names) is = refl
 
 -- the bytes of an answer by what is shown aren't those of a fault of the disk
 pub other_bytes : (s : Serving) (read : Result Request ℕ) (a : Answer) → AnswersRead s read a
     → answer_bytes a ≡ answer_bytes answers.DeviceFault → ⊥
-unfolding is_fault
-other_bytes s read (answers.Welcome welcome) is same = true≢false (sym (ap is_fault same))
-other_bytes s read (answers.Known known) is same = true≢false (sym (ap is_fault same))
-other_bytes s read (answers.Plan plan) is same = true≢false (sym (ap is_fault same))
-other_bytes s read (answers.Accepted epoch) is same = true≢false (sym (ap is_fault same))
-other_bytes s read (answers.Chained chained) is same = true≢false (sym (ap is_fault same))
-other_bytes s read (answers.Bytes bytes) is same = true≢false (sym (ap is_fault same))
-other_bytes s read (answers.PageOf entry) is same = true≢false (sym (ap is_fault same))
-other_bytes s read (answers.Refused refusal) is same = true≢false (sym (ap is_fault same))
-other_bytes s read (answers.Stale epoch) is same = true≢false (sym (ap is_fault same))
-other_bytes s read answers.BadTag is same = true≢false (sym (ap is_fault same))
-other_bytes s read (answers.BadRequest place) is same = true≢false (sym (ap is_fault same))
-other_bytes s read (answers.Moved generation) is same = true≢false (sym (ap is_fault same))
-other_bytes s read answers.DeviceFault is same = no_fault s read is
-other_bytes s read answers.NoMemory is same = true≢false (sym (ap is_fault same))
-other_bytes s read (answers.Listed names) is same = true≢false (sym (ap is_fault same))
+other_bytes s read a is same =
+    true≢false (sym (ap says_failed same) ∙ says_no_fault s read a is)
 
 -- the bytes of an Accepted aren't those of a fault of the disk
 pub accepted_apart : (n : ℕ) → answer_bytes (answers.Accepted n) ≡ answer_bytes answers.DeviceFault
     → ⊥
-unfolding is_fault
-accepted_apart n same = true≢false (sym (ap is_fault same))
+accepted_apart n same = true≢false (sym (ap says_failed same))
 
 -- ---- what is accepted
 

@@ -9,6 +9,7 @@ pub mod AnswerKinds
 pub mod Shown
 pub mod Making
 pub mod Following
+pub mod Sticking
 pub mod Alike
 pub mod ChunkAnswers
 pub mod Tagging

@@ -26,7 +26,7 @@ leads_of tells a b old new ends.Memory s = (s.all.exchanges, s.all.asked.asked)
 module _ {V : Type 0} (answerer : AnswererTells V) where
   pub turn_same : (start : V) (p : PassState V) (request : List ℕ) (reply : Option (List ℕ))
       (q : PassState V) → TakesTurn answerer start p request reply q → IsOfSame p q
-  turn_same start p request (Some reply) q (log, goes, replies, is) =
+  turn_same start p request (Some reply) q (log, goes, replies, refuses, is) =
       (ap (λ (x : PassState V). x.table) is, ap (λ (x : PassState V). x.start) is)
   turn_same start p request None q (log, goes, is) =
       (ap (λ (x : PassState V). x.table) is, ap (λ (x : PassState V). x.start) is)

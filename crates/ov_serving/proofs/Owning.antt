@@ -103,7 +103,7 @@ module _ {V : Type 0} (answerer : AnswererTells V) where
 
   turn_sees : (start : V) (p : PassState V) (request : List ℕ) (reply : Option (List ℕ))
       (q : PassState V) → TakesTurn answerer start p request reply q → SeesOne p q request reply
-  turn_sees start p request (Some reply) q (log, goes, replies, is) = record {
+  turn_sees start p request (Some reply) q (log, goes, replies, refuses, is) = record {
     number = ap number_of is;
     calls = ap (λ (x : PassState V). x.calls) is;
     seen = ap (λ (x : PassState V). own k x.knowledge.seen) is ∙ by_test (says_accepted reply);

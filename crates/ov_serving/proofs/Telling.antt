@@ -1,16 +1,18 @@
 -- All sessions are told of one list of accepted updates.
 use Rattle.std.proofs.Common.{◌≡◌, ◌∙◌, ℕ, ◌+◌, List, [], ◌∷◌, ◌++◌, Some, None, refl, sym, ap, subst, append_assoc}
-use Rattle.std.specs.Prelude.{All, Bool, true, false, Option}
+use Rattle.std.specs.Prelude.{◌||◌, All, Bool, true, false, Option}
 use Rattle.std.specs.List.Sorted.{IsPermutation}
+use Rattle.std.proofs.lemmas.Bool.{or_left, or_right}
 use Rattle.std.proofs.lemmas.List.Elements.{All-cons, All-head, All-tail, All-weaker}
 use Rattle.std.proofs.lemmas.List.Sorted.{All-permutation, IsPermutation-sym}
 use Rattle.ov_io.specs.Tells.{SinkTells, SourceTells}
-use Rattle.ov_peer.specs.Spellings.{says_accepted}
+use Rattle.ov_peer.specs.Spellings.{fails_update, says_accepted}
 use Rattle.ov_peer.specs.Tells.{AnswererTells}
+use Rattle.ov_peer.proofs.Failing.{failed_accepts_none}
 use Rattle.ov_session.specs.Exchanges.{Exchange, Leads}
 use Rattle.ov_turn.specs.declared.view.Entry.{Entry}
 use Rattle.ov_turn.specs.Logs.{BeginsWith, GoesOnFrom, longer_if}
-use Rattle.ov_turn.specs.Passes.{AreFirst, IsPassOf, PassState, SharedState, next_entry}
+use Rattle.ov_turn.specs.Passes.{AreFirst, IsPassOf, PassState, SharedState, after_call, next_entry}
 use Rattle.ov_turn.proofs.Lists.{begins_push}
 use Rattle.ov_serving.specs.Accepted.{exchanges_in}
 use Rattle.ov_serving.specs.AtOnce.{LeadsPasses, PassSession}
@@ -35,26 +37,58 @@ begins_longer : (b : Bool) (log first : List Entry) (e : Entry) → BeginsWith l
 begins_longer true log first e begins = begins_push log first e begins
 begins_longer false log first e begins = begins
 
+-- The list begins with what a pass has seen. Once the pass was told that the disk failed in an
+-- update, it is no more than that.
+abbrev Shows : {V : Type 0} → List Entry → PassState V → Type 0
+Shows log p = BeginsWith log p.knowledge.seen × (p.knowledge.failed ≡ true → log ≡ p.knowledge.seen)
+
 module _ {V : Type 0} (answerer : AnswererTells V) (start : V) (log : List Entry) where
   abbrev Knows : PassState V → Type 0
-  Knows p = BeginsWith log p.knowledge.seen
+  Knows p = Shows log p
+
+  -- what the pass after a call shows of the list
+  called : (p q : PassState V) (seen : List Entry) (failed : Bool)
+      → q ≡ after_call p seen failed → Knows q
+      → BeginsWith log seen × ((failed || p.knowledge.failed) ≡ true → log ≡ seen)
+  called p q seen failed is knows = (
+    subst (BeginsWith log) (ap (λ (x : PassState V). x.knowledge.seen) is) knows.0,
+    λ fails.
+        knows.1 (ap (λ (x : PassState V). x.knowledge.failed) is ∙ fails)
+        ∙ ap (λ (x : PassState V). x.knowledge.seen) is,
+  )
 
   turn_told : (p : PassState V) (request : List ℕ) (reply : Option (List ℕ)) (q : PassState V)
       → TakesTurn answerer start p request reply q → Knows q
       → IsTold answerer start log p.knowledge.number (p.calls + 1) request reply × Knows p
-  turn_told p request (Some reply) q (before, goes, replies, is) knows =
-      let seen = longer_if (says_accepted reply) before (next_entry p request) in
-      let here : BeginsWith log seen =
-      subst (BeginsWith log) (ap (λ (x : PassState V). x.knowledge.seen) is) knows in (
-        (before, replies, here),
-        begins_before log seen p.knowledge.seen here
-            (begins_longer (says_accepted reply) before p.knowledge.seen (next_entry p request)
-            goes.0),
+  turn_told p request (Some reply) q (before, goes, replies, refuses, is) knows =
+      let e : Entry = next_entry p request in
+      let seen = longer_if (says_accepted reply) before e in
+      let fails = fails_update request reply in
+      let here = called p q seen fails is knows in
+      let same : says_accepted reply ≡ false → seen ≡ before =
+      λ none. ap (λ (b : Bool). longer_if b before e) none in (
+        (
+          before,
+          replies,
+          here.0,
+          λ failed. here.1 (or_left fails p.knowledge.failed failed)
+              ∙ same (failed_accepts_none request reply failed),
+        ),
+        (
+          begins_before log seen p.knowledge.seen here.0
+              (begins_longer (says_accepted reply) before p.knowledge.seen e goes.0),
+          λ failed. here.1 (or_right fails p.knowledge.failed failed)
+              ∙ (same (refuses failed) ∙ goes.3 failed),
+        ),
       )
   turn_told p request None q (before, goes, is) knows =
-      let here : BeginsWith log before =
-      subst (BeginsWith log) (ap (λ (x : PassState V). x.knowledge.seen) is) knows in
-      (tt, begins_before log before p.knowledge.seen here goes.0)
+      let here = called p q before false is knows in (
+        tt,
+        (
+          begins_before log before p.knowledge.seen here.0 goes.0,
+          λ failed. here.1 failed ∙ goes.3 failed,
+        ),
+      )
 
   calls_told : (p q : PassState V) (es : List Exchange) → Leads (in_turns answerer) p es q
       → p.start ≡ Some start → Knows q
@@ -79,7 +113,7 @@ module _ {V : Type 0} (answerer : AnswererTells V) (start : V) (log : List Entry
 module _ {V S : Type 0} (answerer : AnswererTells V) (source : SourceTells S) (sink : SinkTells S)
     (s : SharedState V) (log : List Entry) where
   abbrev Seen : PassState V → Type 0
-  Seen p = BeginsWith log p.knowledge.seen
+  Seen p = Shows log p
 
   sessions_told : (passes after : List (PassState V))
       (sessions : List (PassSession (PassState V) S)) → All (IsPassOf s) passes
@@ -110,4 +144,4 @@ module _ {V S : Type 0} (answerer : AnswererTells V) (source : SourceTells S) (s
     told_one_history s passes after sessions log own leads goes =
         (sessions_told answerer source sink s log passes after sessions own leads
         (All-weaker (λ (p : PassState V). GoesOnFrom answerer s.start p.knowledge log)
-        (λ (p : PassState V). BeginsWith log p.knowledge.seen) (λ p on. on.0) after goes)).0
+        (λ (p : PassState V). Shows log p) (λ p on. (on.0, on.3)) after goes)).0

@@ -92,7 +92,7 @@ module _ {V S : Type 0} (answerer : AnswererTells V) (source : SourceTells S) (s
         goes)
 
     pub leave_values : SessionsLeaveValues answerer source sink
-    leave_values s left passes after sessions first many leads (log, reached, numbered, goes) = record {
+    leave_values s left passes after sessions first many leads (log, reached, numbered, goes, stuck) = record {
       log = log;
       reached = reached;
       each = log_is_accepted answerer source sink s passes after sessions log first many leads numbered goes;

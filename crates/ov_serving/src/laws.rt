@@ -28,7 +28,8 @@ pub fn the_log_is_all_that_sessions_accepted<V: Answerer, L: Stream>()
     ensures { LogIsAllThatSessionsAccepted V.tells L.Source.tells L.Sink.tells }
 {}
 
-/// All sessions are told of that one list: each reply is the value's after a first part of it.
+/// All sessions are told of that one list: each reply is the value's after a first part of it. Once a
+/// reply says that the disk failed in an update, no session's update is accepted any more.
 pub fn sessions_are_told_one_history<V: Answerer, L: Stream>()
     ensures { SessionsAreToldOneHistory V.tells L.Source.tells L.Sink.tells }
 {}

@@ -22,6 +22,7 @@ impl Answerer for Parrot {
       reached = λ a list b. (list ≡ []) × (b.epoch ≡ a.epoch);
       replies = λ a list request reply. reply ≡ 0x86 ∷ request;
       epoch_of = λ a. a.epoch;
+      stuck = λ _. Unit {0};
     } };
 
     fn answer(&mut self, request: &[u8], reply: &mut Vec<u8>) -> Result<(), Memory> {
@@ -157,6 +158,7 @@ impl<'a> Answerer for Watcher<'a> {
       reached = λ _ list _. list ≡ [];
       replies = λ _ _ _ reply. length reply ≡ 2;
       epoch_of = λ _. 0;
+      stuck = λ _. Unit {0};
     } };
 
     fn answer(&mut self, request: &[u8], reply: &mut Vec<u8>) -> Result<(), Memory> {

@@ -1,7 +1,9 @@
 use Rattle.std.proofs.Common.{subst, sym}
+use Rattle.ov_peer.specs.Tells.{StaysStuck}
 use Rattle.ov_store.specs.Opened.{Opened}
 use Rattle.ov_server.proofs.Following.{accepted_ok, frame_ok}
-use Rattle.ov_host.specs.Lasting.{StoreGoesOn}
+use Rattle.ov_server.proofs.Sticking.{stays_stuck}
+use Rattle.ov_host.specs.Lasting.{StoreGoesOn, store_tells}
 use Rattle.ov_host.proofs.Lasting.{goes_on_err, goes_on_ok, replies_after}
 use Rattle.ov_host.proofs.disk_server.DiskServerAnswerer.answer.Goals as goal
 
@@ -28,3 +30,12 @@ pub returns-clause-kept : goal.returns-clause-kept
 returns-clause-kept g c = λ start list before.
     goes_on_err g.D.Disk.tells _ _ c.args.request.now _ c.answer.result c.answer.ensures.memory
     start list (subst (λ (s : Opened g.row.D.Denot). StoreGoesOn g.D.Disk.tells start list s) (sym c.self.view_is) before)
+
+pub returns-clause-stuck : goal.returns-clause-stuck
+returns-clause-stuck g c =
+    let tells = store_tells g.D.Disk.tells in
+    subst (λ (s : Opened g.row.D.Denot). StaysStuck tells s c.answer.new.self c.args.request.now
+    c.answer.new.reply.items c.answer.result)
+    c.self.view_is
+    (stays_stuck g.D.Disk.tells _ c.answer.new.self c.args.request.now c.answer.new.reply.items tells
+    (λ s bad. bad) (λ s bad. bad) c.answer.result c.answer.ensures.answer c.answer.ensures.memory)
