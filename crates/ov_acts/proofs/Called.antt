@@ -70,14 +70,14 @@ module _ (disk : Type 0) where
   said_called Says link (Err (faults.Unsettled epochs)) is = is
   said_called Says link (Err faults.Memory) is = tt
 
-  pub read_called : (h : PlainHistory) (user file : List ℕ) (link : Type 0)
+  pub read_called : (h : PlainHistory) (user file : List ℕ) (stays link : Type 0)
       (result : Result (List ℕ) ClientFault)
-      → IsReadOrCut h user file disk link result → IsAnsweredOr disk (read_outcome result)
-  read_called h user file link (Ok bytes) is = tt
-  read_called h user file link (Err (client.Refused why)) is = tt
-  read_called h user file link (Err client.Link) is = tt
-  read_called h user file link (Err (client.BadReply place)) is = is
-  read_called h user file link (Err (client.Damaged stored computed)) is = is
-  read_called h user file link (Err client.Device) is = is
-  read_called h user file link (Err (client.Unsettled generations)) is = is
-  read_called h user file link (Err client.Memory) is = tt
+      → IsReadOrCut h user file stays disk link result → IsAnsweredOr disk (read_outcome result)
+  read_called h user file stays link (Ok bytes) is = tt
+  read_called h user file stays link (Err (client.Refused why)) is = tt
+  read_called h user file stays link (Err client.Link) is = tt
+  read_called h user file stays link (Err (client.BadReply place)) is = is.0
+  read_called h user file stays link (Err (client.Damaged stored computed)) is = is.0
+  read_called h user file stays link (Err client.Device) is = is
+  read_called h user file stays link (Err (client.Unsettled generations)) is = is.0
+  read_called h user file stays link (Err client.Memory) is = tt

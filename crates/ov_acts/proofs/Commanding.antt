@@ -167,6 +167,6 @@ module _ {P : Type 0} (peer : PeerTells P)
       → HoldsRootKeys k r → HasRoots h r → Reads peer p q r file result → peer.serves p v
       → IsAnsweredOr (Disk p q) (read_outcome result)
   read_answered r file p q result holds roots reads serving =
-      read_called (Disk p q) h r.name file (Unit {0}) result
+      read_called (Disk p q) h r.name file (peer.serves q v) (Unit {0}) result
       (read_said peer p q r file (Unit {0}) k h v result alone serving under_masters holds roots
       reads (λ link. tt))

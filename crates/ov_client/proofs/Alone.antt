@@ -16,10 +16,11 @@ use Rattle.ov_wire.specs.declared.request.Request.{Request}
 use Rattle.ov_wire.specs.declared.request.Request.TheVariants as requests
 use Rattle.ov_protocol.specs.Replies.{MayMake, updates_asked}
 use Rattle.ov_protocol.specs.Serving.{Service, later}
-use Rattle.ov_protocol.proofs.Leaving.{later-nil, replies_may_make}
+use Rattle.ov_protocol.proofs.Leaving.{later-nil}
 use Rattle.ov_protocol.proofs.Reading.{request_back}
 use Rattle.ov_peer.specs.Alone.{IsAlone}
 use Rattle.ov_peer.specs.Asks.{Along, AreRight, Ask, Leads}
+use Rattle.ov_peer.specs.Leaving.{reply_makes}
 use Rattle.ov_peer.specs.Tells.{IsReplyAt, PeerTells}
 use Rattle.ov_client.specs.Causes.{IsClientCause}
 use Rattle.ov_client.specs.Completeness.{FailsDisk, IsCompleteRead, IsReadOrCut, IsStoreUnder}
@@ -33,14 +34,9 @@ use Rattle.ov_client.specs.declared.fault.ClientFault.TheVariants as client
 use Rattle.ov_client.proofs.FailingDisks.{read_fails}
 use Rattle.ov_client.proofs.Machine.{reads_are_the_machines}
 use Rattle.ov_client.proofs.Settled.{reads_are_answered}
+use Rattle.ov_client.proofs.Told.{left_so}
 
 -- ---- what asks make
-
--- a reply makes nothing, or what was asked for
-pub reply_makes : (v : Service) (request reply : List ℕ) (made : List SealedUpdate)
-    → IsReplyAt v request reply made → MayMake request made
-reply_makes v request reply made (inl is) = replies_may_make _ request reply made is
-reply_makes v request reply made (inr failed) = failed.makes
 
 -- a request that is sent makes nothing, where it asks for no update
 sent_makes : (request : Request) (made : List SealedUpdate) → HasRequestForm request
@@ -74,8 +70,10 @@ AllAt v asks =
 
 read_alone : {P : Type 0} (peer : PeerTells P) → IsAlone peer
     → (r : Reader) (file : List ℕ) (asks : List Ask) (stage last : Stage) (p q : P) (v : Service)
-    → Goes r file stage asks last → Leads peer p asks q → peer.serves p v → AllAt v asks
-read_alone peer alone r file [] stage last p q v goes leads is = ([], refl, tt)
+    → Goes r file stage asks last → Leads peer p asks q → peer.serves p v
+    → AllAt v asks × peer.serves q v
+read_alone peer alone r file [] stage last p q v goes leads is =
+    (([], refl, tt), subst (λ x. peer.serves x v) leads is)
 read_alone peer alone r file (a ∷ asks) stage last p q v (next, moves, goes) (n, one, rest) is =
     let (made, at_v, goes_on) = alone p n a.request a.reply v one is in
     let may : MayMake (request_bytes moves.asks.request) made =
@@ -84,20 +82,23 @@ read_alone peer alone r file (a ∷ asks) stage last p q v (next, moves, goes) (
     let none : made ≡ [] = sent_makes moves.asks.request made moves.asks.form
     (read_asks r file stage moves.asks.request moves.asks.is_asked) may in
     let still : peer.serves n v = subst (peer.serves n) (same_left v made none) goes_on in
-    let (histories, along, same) = read_alone peer alone r file asks next last n q v goes rest
-    still in
+    let ((histories, along, same), end) = read_alone peer alone r file asks next last n q v goes
+    rest still in
     let nothing : later v [] ≡ v = later-nil v in
     let left : later (later v []) made ≡ v =
     same_left (later v []) made none ∙ nothing in (
-      (later v []).history ∷ histories,
       (
-        [],
-        made,
-        refl,
-        subst (λ (w : Service). IsReplyAt w a.request a.reply made) (sym nothing) at_v,
-        subst (λ (w : Service). Along w asks histories v) (sym left) along,
+        (later v []).history ∷ histories,
+        (
+          [],
+          made,
+          refl,
+          subst (λ (w : Service). IsReplyAt w a.request a.reply made) (sym nothing) at_v,
+          subst (λ (w : Service). Along w asks histories v) (sym left) along,
+        ),
+        (ap (λ (w : Service). w.history) nothing, same),
       ),
-      (ap (λ (w : Service). w.history) nothing, same),
+      end,
     )
 
 -- ---- the history of the last Chain
@@ -153,49 +154,63 @@ module _ {P : Type 0} (peer : PeerTells P) (p q : P) (r : Reader) (file : List �
       subst (λ (x : PlainHistory). IsReadAt x r.name file result)
       (sealed_comes_of_one k other h there) reads
 
-  module _ (Linked : Type 0) where
+  module _ (Stays Linked : Type 0) where
     by_result : (k : Masters) (h : PlainHistory) (asks : List Ask)
         (histories : List SealedHistory) (result : Result (List ℕ) ClientFault)
         → AllAre (sealed k h) histories
         → IsAsMachine k (last_chain None asks histories) r.name file result
         → IsAnsweredOrCut result → (result ≡ Err client.Device → Disk)
-        → (result ≡ Err client.Link → Linked) → IsReadOrCut h r.name file Disk Linked result
-    by_result k h asks histories (Ok bytes) same machine cut failed linked =
-        machine_there k h asks histories (Ok bytes) same machine
-    by_result k h asks histories (Err (client.Refused why)) same machine cut failed linked =
-        machine_there k h asks histories (Err (client.Refused why)) same machine
-    by_result k h asks histories (Err client.Link) same machine cut failed linked = linked refl
-    by_result k h asks histories (Err (client.BadReply place)) same machine cut failed linked = cut
+        → (result ≡ Err client.Link → Linked)
+        → ((result ≡ Err client.Link → ⊥) → (result ≡ Err client.Memory → ⊥) → Stays)
+        → IsReadOrCut h r.name file Stays Disk Linked result
+    by_result k h asks histories (Ok bytes) same machine cut failed linked stays = (
+      machine_there k h asks histories (Ok bytes) same machine,
+      stays (λ e. cc e) (λ e. cc e),
+    )
+    by_result k h asks histories (Err (client.Refused why)) same machine cut failed linked stays = (
+      machine_there k h asks histories (Err (client.Refused why)) same machine,
+      stays (λ e. cc e) (λ e. cc e),
+    )
+    by_result k h asks histories (Err client.Link) same machine cut failed linked stays =
+        linked refl
+    by_result k h asks histories (Err (client.BadReply place)) same machine cut failed linked
+        stays =
+        absurd cut
     by_result k h asks histories (Err (client.Damaged stored computed)) same machine cut failed
-        linked =
-        cut
-    by_result k h asks histories (Err client.Device) same machine cut failed linked = failed refl
+        linked stays =
+        absurd cut
+    by_result k h asks histories (Err client.Device) same machine cut failed linked stays =
+        failed refl
     by_result k h asks histories (Err (client.Unsettled generations)) same machine cut failed
-        linked =
-        cut
-    by_result k h asks histories (Err client.Memory) same machine cut failed linked = tt
+        linked stays =
+        absurd cut
+    by_result k h asks histories (Err client.Memory) same machine cut failed linked stays = tt
 
-    -- a read is the machine's, or cut off
-    pub read_said : (k : Masters) (h : PlainHistory) (v : Service)
-        (result : Result (List ℕ) ClientFault) → IsAlone peer → peer.serves p v
-        → IsStoreUnder k h v → HoldsRootKeys k r → HasRoots h r → Reads peer p q r file result
-        → (result ≡ Err client.Link → Linked) → IsReadOrCut h r.name file Disk Linked result
-    read_said k h v result alone serving store holds roots
-        (asks, unanswered, (m, leads, ends), (last, goes, closes)) linked =
-        let (histories, along, same) = read_alone peer alone r file asks
-        (AsksChain [] 0) last p m v goes leads serving in
-        let all : AllAre (sealed k h) histories =
-        subst (λ (g : SealedHistory). AllAre g histories) store.history same in
-        by_result k h asks histories result all
-        (reads_are_the_machines k r file asks unanswered result v v histories holds store.surface
-        (last, goes, closes) along (all_right k h histories store.legal all))
-        (reads_are_answered k r file asks unanswered result v v histories h holds roots
-        store.surface (last, goes, closes) along store.legal all)
-        (λ device.
-        read_fails peer alone r file p q v
-        (subst (λ (x : Result (List ℕ) ClientFault). Reads peer p q r file x) device
-        (asks, unanswered, (m, leads, ends), (last, goes, closes))) serving)
-        linked
+  -- a read is the machine's, or cut off
+  pub read_said : (Linked : Type 0) (k : Masters) (h : PlainHistory) (v : Service)
+      (result : Result (List ℕ) ClientFault) → IsAlone peer → peer.serves p v
+      → IsStoreUnder k h v → HoldsRootKeys k r → HasRoots h r → Reads peer p q r file result
+      → (result ≡ Err client.Link → Linked)
+      → IsReadOrCut h r.name file (peer.serves q v) Disk Linked result
+  read_said Linked k h v result alone serving store holds roots
+      (asks, unanswered, (m, leads, ends), (last, goes, closes)) linked =
+      let ((histories, along, same), still) = read_alone peer alone r file asks
+      (AsksChain [] 0) last p m v goes leads serving in
+      let all : AllAre (sealed k h) histories =
+      subst (λ (g : SealedHistory). AllAre g histories) store.history same in
+      by_result (peer.serves q v) Linked k h asks histories result all
+      (reads_are_the_machines k r file asks unanswered result v v histories holds store.surface
+      (last, goes, closes) along (all_right k h histories store.legal all))
+      (reads_are_answered k r file asks unanswered result v v histories h holds roots
+      store.surface (last, goes, closes) along store.legal all)
+      (λ device.
+      read_fails peer alone r file p q v
+      (subst (λ (x : Result (List ℕ) ClientFault). Reads peer p q r file x) device
+      (asks, unanswered, (m, leads, ends), (last, goes, closes))) serving)
+      linked
+      (λ unlinked given.
+      subst (λ x. peer.serves x v)
+      (left_so peer p q r file m last unanswered result unlinked given closes ends) still)
 
   -- every read is complete
   pub read_complete : (result : Result (List ℕ) ClientFault) → Reads peer p q r file result

@@ -16,7 +16,7 @@ use Rattle.ov_client.proofs.Machine.{reads_are_the_machines}
 
 module _ {P : Type 0} (peer : PeerTells P) (p q : P) (r : Reader) (file : List ℕ) where
   -- a read that has its answer left the peer as its last ask did
-  left_so : (m : P) (stage : Stage) (unanswered : Option (List ℕ))
+  pub left_so : (m : P) (stage : Stage) (unanswered : Option (List ℕ))
       (result : Result (List ℕ) ClientFault)
       → (result ≡ Err faults.Link → ⊥) → (result ≡ Err faults.Memory → ⊥)
       → Closes r file stage unanswered result → EndsAt peer m unanswered q → m ≡ q

@@ -43,14 +43,14 @@ pub record IsStoreUnder (k : Masters) (h : PlainHistory) (v : Service) : Type 0 
 
 -- ---- a read of it
 
--- The bytes, or the refusal, are the machine's at this history. Or the read was cut off: by the
--- server's disk, by the link, or because memory was refused.
-abbrev pub IsReadOrCut : PlainHistory → List ℕ → List ℕ → (disk link : Type 0)
+-- The bytes, or the refusal, are the machine's at this history, and what is served stays. Or the
+-- read was cut off: by the server's disk, by the link, or because memory was refused.
+abbrev pub IsReadOrCut : PlainHistory → List ℕ → List ℕ → (stays disk link : Type 0)
     → Result (List ℕ) ClientFault → Type 0
-IsReadOrCut h user file disk link (Err Device) = disk
-IsReadOrCut h user file disk link (Err Link) = link
-IsReadOrCut h user file disk link (Err Memory) = Unit {0}
-IsReadOrCut h user file disk link result = IsReadAt h user file result
+IsReadOrCut h user file stays disk link (Err Device) = disk
+IsReadOrCut h user file stays disk link (Err Link) = link
+IsReadOrCut h user file stays disk link (Err Memory) = Unit {0}
+IsReadOrCut h user file stays disk link result = IsReadAt h user file result × stays
 
 -- A read of a server that nobody else updates gives what the machine gives, where what is served is
 -- a store under the masters of the reader's root keys, which are of the user's roots in it. Only
@@ -60,7 +60,8 @@ abbrev pub IsCompleteRead : {P : Type 0} → PeerTells P → P → P → Reader 
 IsCompleteRead peer p q r file result =
     (k : Masters) (h : PlainHistory) (v : Service)
     → IsAlone peer → peer.serves p v → IsStoreUnder k h v → HoldsRootKeys k r → HasRoots h r
-    → IsReadOrCut h r.name file (FailsDisk peer p q) (Rose (peer.faults p) (peer.faults q)) result
+    → IsReadOrCut h r.name file (peer.serves q v) (FailsDisk peer p q)
+    (Rose (peer.faults p) (peer.faults q)) result
 
 -- a read that appends is complete as one of the bytes alone; nothing is appended at a fault
 abbrev pub IsCompleteReadInto : {P : Type 0} → PeerTells P → P → P → Reader → List ℕ

@@ -20,7 +20,8 @@ use Rattle.ov_peer.specs.Asks.{Ask}
 use Rattle.ov_peer.specs.Tells.{IsReplyAt}
 use Rattle.ov_peer.specs.Exchanges.{IsAnswerAt}
 use Rattle.ov_peer.proofs.Telling.{answer_at}
-use Rattle.ov_client.proofs.Alone.{reply_makes, same_left}
+use Rattle.ov_peer.specs.Leaving.{reply_makes}
+use Rattle.ov_client.proofs.Alone.{same_left}
 use Rattle.ov_owner.specs.Alone.{AnsweredAlone, AskedAlone, LeftAlone}
 use Rattle.ov_owner.specs.Errands.{Errand}
 use Rattle.ov_owner.specs.Talks.{Asks, Closes, Ends, Goes, IsAfter, IsDue, Moves, Sends, Stage, Talks, after as stage_after, after_first, after_update, again_if, sends_if, start, update_request}
