@@ -152,6 +152,25 @@ fn faults_come_of_replies_to_updates(rt: HostRuntime) -> Result<(), Fail> {
     expect_fault(&rt, rt.alloc(), None, OwnerFault::Link)
 }
 
+/// What comes of a grant whose ask of this number fails.
+fn grant_failing(alloc: Global, ask: u8) -> Result<Result<u32, OwnerFault>, Fail> {
+    let mut replies = Vec::new(alloc);
+    replies.push(Octets::copy(alloc, &known_at(7))?)?;
+    replies.push(Octets::copy(alloc, ACCEPTED_8)?)?;
+    grant(
+        alloc,
+        &mut FixedPeer::new(replies, Octets::copy(alloc, &[ask])?),
+    )
+}
+
+#[test]
+fn each_ask_of_a_grant_fails(rt: HostRuntime) -> Result<(), Fail> {
+    assert_eq!(rt; grant_failing(rt.alloc(), 0)?, Err(OwnerFault::Link));
+    assert_eq!(rt; grant_failing(rt.alloc(), 1)?, Err(OwnerFault::Link));
+    assert_eq!(rt; grant_failing(rt.alloc(), 2)?, Ok(8));
+    Ok(())
+}
+
 /// A peer that gives every second of these frames, each behind its length field, and puts all.
 fn tracing(alloc: Global, frames: &[u8]) -> Result<Traced<FixedPeer, MemSink>, Fail> {
     let mut replies = Vec::new(alloc);

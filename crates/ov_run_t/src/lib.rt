@@ -17,6 +17,8 @@ mod running;
 #[cfg(test)]
 mod scripts;
 #[cfg(test)]
+mod sinks;
+#[cfg(test)]
 mod stops;
 #[cfg(test)]
 mod tags;

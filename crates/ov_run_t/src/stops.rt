@@ -13,8 +13,8 @@ static SEVEN: Row<'static> = Row {
     lines: b"ok 1\nok 2\nok 3\nok 4\nok 5\nok 6\nok 7\nend epoch 7\n",
 };
 
-// Seven updates, of three users and two files.
-fn seven() -> &'static Row<'static> {
+/// Seven updates, of three users and two files.
+pub fn seven() -> &'static Row<'static> {
     &SEVEN
 }
 
@@ -53,7 +53,8 @@ fn assert_one_of(
     Ok(())
 }
 
-fn assert_tears(
+/// Asserts that what each tear leaves now opens at this epoch or at the next one.
+pub fn assert_tears(
     rt: &impl Abort,
     alloc: Global,
     words: &[String],
