@@ -1,5 +1,5 @@
 -- A question to a server that nobody else updates is answered as the machine does, or cut off.
-use Rattle.std.proofs.Common.{◌≡◌, ◌∙◌, ℕ, List, [], Result, Ok, Err, refl, sym, ap, subst, inl, inr}
+use Rattle.std.proofs.Common.{◌≡◌, ◌∙◌, ℕ, List, [], Result, Err, refl, sym, ap, subst, inl, inr}
 use Rattle.ov_base.specs.Causes.{Rose}
 use Rattle.ov_base.specs.declared.refusal.Refusal.{Refusal}
 use Rattle.ov_base.specs.declared.refusal.Refusal.TheVariants.{NoUser}
@@ -39,7 +39,7 @@ use Rattle.ov_owner.specs.declared.fault.OwnerFault.{OwnerFault}
 use Rattle.ov_owner.specs.declared.fault.OwnerFault.TheVariants as faults
 use Rattle.ov_owner.proofs.Alone.{IsCutOff, hello_plain, key_plain, list_plain, once_alone}
 use Rattle.ov_owner.proofs.Clients.{reader_told}
-use Rattle.ov_owner.proofs.Questioning.{list_told, welcome_told}
+use Rattle.ov_owner.proofs.Questioning.{list_told}
 
 -- ---- faults of the link
 

@@ -1,5 +1,5 @@
 -- What a call leaves of a server that nobody else updates: of any history, and of one that is right.
-use Rattle.std.proofs.Common.{◌≡◌, ℕ, ◌+◌, ◌∙◌, List, [], ◌∷◌, Option, Some, None, Result, Ok, refl, sym, ap, subst, inl, inr}
+use Rattle.std.proofs.Common.{◌≡◌, ℕ, ◌+◌, ◌∙◌, List, [], ◌∷◌, Option, None, Result, Ok, refl, sym, ap, subst, inl, inr}
 use Rattle.ov_record.specs.Updates.{SealedUpdate}
 use Rattle.ov_script.specs.declared.command.Command.{Command}
 use Rattle.ov_script.specs.declared.reply.Reply.{Reply}
