@@ -75,8 +75,8 @@ module _ {A : Type 0} where
   abbrev pub IsSpentAt : List (View A) → ℕ → Type 0
   IsSpentAt views number = get_elem? views number ≡ maybe.some spent
 
-  -- Whether the disk failed in an update of some pass is known, so: where it failed in one of a pass
-  -- of the seat. While the seat has the value it knows it.
+  -- Where the test says whether the disk failed in an update of some pass, it failed in none of a
+  -- seat's own passes but where the test says so, and a seat with the value was told what it says.
   pub record KnowsFailure (stuck : Bool) (v : View A) : Type 0 where
     pub own : v.knowledge.failed ≡ true → stuck ≡ true
     pub taken_in : All (λ k. k.failed ≡ true → stuck ≡ true) v.taken_in

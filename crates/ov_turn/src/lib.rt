@@ -19,8 +19,8 @@
 //!
 //! **What a contract sees** of a pass is its number, the count of its calls, the accepted updates
 //! that it has *seen*, in order, the epoch that it was last *told*, and whether the disk *failed* in
-//! an update of its own (`PassState` and `Knowledge`). Each update in that list is an `Entry`: the pass and the call that asked it, and
-//! its spelling.
+//! an update of its own (`PassState` and `Knowledge`). Each update in that list is an `Entry`: the
+//! pass and the call that asked it, and its spelling.
 //!
 //! * A call is answered at one list: that of the updates accepted before its turn. This list goes
 //!   on from what the pass knew, by the updates of others alone (`GoesOnFrom`): it begins with what
