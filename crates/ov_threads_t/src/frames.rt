@@ -33,7 +33,19 @@ pub fn tags() -> SurfaceMaster {
 
 /// A server over an empty store in memory.
 pub fn server(alloc: Global) -> Result<DiskServer<MemDisk>, Fail> {
-    let (disk, surface) = (MemDisk::new(alloc), surface());
+    server_on(alloc, MemDisk::new(alloc))
+}
+
+/// The same over a disk that fails at the first call behind those of the store's beginning.
+pub fn failing_server(alloc: Global) -> Result<DiskServer<MemDisk>, Fail> {
+    let begun = server(alloc)?.close();
+    let mut disk = MemDisk::new(alloc);
+    disk.fail_at(begun.calls())?;
+    server_on(alloc, disk)
+}
+
+fn server_on(alloc: Global, disk: MemDisk) -> Result<DiskServer<MemDisk>, Fail> {
+    let surface = surface();
     match Store::begin(alloc, disk, surface, [17; 32], Mode::Full) {
         Ok(store) => Ok(DiskServer::new(Server::new(store, surface))),
         Err(_) => Err(Fail::from("no store")),

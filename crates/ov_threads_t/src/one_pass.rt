@@ -1,5 +1,5 @@
 //! One pass of two that asks, against the bytes of another program.
-use crate::frames::server;
+use crate::frames::{failing_server, server};
 use crate::pair::{Pair, ask, close, share};
 use ov_peer::Answerer;
 use std::alloc::Global;
@@ -19,6 +19,9 @@ const ACCEPTED_1: &[u8] = b"\x84\x00\x00\x00\x01";
 const WELCOME_1: &[u8] = b"\x81\x00\x00\x00\x00\x01\
     \x11\x11\x11\x11\x11\x11\x11\x11\x11\x11\x11\x11\x11\x11\x11\x11\
     \x11\x11\x11\x11\x11\x11\x11\x11\x11\x11\x11\x11\x11\x11\x11\x11";
+
+/// What it answers where its disk failed, in this update or in one before.
+const DISK_FAILED: &[u8] = b"\x8d";
 
 /// The first pass is answered so.
 fn expect_reply<R: Abort + Wait, V: Answerer>(
@@ -49,5 +52,22 @@ fn a_pass_is_told_what_another_did(rt: HostRuntime) -> Result<(), Fail> {
     expect_epochs(&rt, &mut pair, 1);
     let server = close(alloc, pair)?;
     assert_eq!(rt; server.epoch(), 1);
+    Ok(())
+}
+
+/// The disk fails in an update of the first pass: no pass has one accepted then, and questions are
+/// answered.
+#[test]
+fn a_failed_disk_is_told_to_both_passes(rt: HostRuntime) -> Result<(), Fail> {
+    let alloc = rt.alloc();
+    let mut pair = share(alloc, failing_server(alloc)?)?;
+    expect_reply(&rt, alloc, &mut pair, ENROL_A, DISK_FAILED);
+    let mut found = Vec::new(alloc);
+    assert!(rt; ask(&rt, &pair.shared, &mut pair.second, ENROL_A, &mut found));
+    assert_eq!(rt; found.as_slice(), DISK_FAILED);
+    expect_reply(&rt, alloc, &mut pair, b"\x02\x05\x01a", b"\x88\x02");
+    expect_epochs(&rt, &mut pair, 0);
+    let server = close(alloc, pair)?;
+    assert_eq!(rt; server.epoch(), 0);
     Ok(())
 }
