@@ -36,6 +36,19 @@ fn expect_reply<R: Abort + Wait, V: Answerer>(
     assert_eq!(rt; found.as_slice(), reply);
 }
 
+/// The second pass is answered so.
+fn expect_second_reply<R: Abort + Wait, V: Answerer>(
+    rt: &R,
+    alloc: Global,
+    pair: &mut Pair<V>,
+    request: &[u8],
+    reply: &[u8],
+) {
+    let mut found = Vec::new(alloc);
+    assert!(rt; ask(rt, &pair.shared, &mut pair.second, request, &mut found));
+    assert_eq!(rt; found.as_slice(), reply);
+}
+
 /// Both passes are told this epoch.
 fn expect_epochs<V: Answerer>(rt: &impl Abort, pair: &mut Pair<V>, epoch: u32) {
     assert_eq!(rt; pair.shared.epoch(&mut pair.first), epoch);
@@ -62,9 +75,7 @@ fn a_failed_disk_is_told_to_both_passes(rt: HostRuntime) -> Result<(), Fail> {
     let alloc = rt.alloc();
     let mut pair = share(alloc, failing_server(alloc)?)?;
     expect_reply(&rt, alloc, &mut pair, ENROL_A, DISK_FAILED);
-    let mut found = Vec::new(alloc);
-    assert!(rt; ask(&rt, &pair.shared, &mut pair.second, ENROL_A, &mut found));
-    assert_eq!(rt; found.as_slice(), DISK_FAILED);
+    expect_second_reply(&rt, alloc, &mut pair, ENROL_A, DISK_FAILED);
     expect_reply(&rt, alloc, &mut pair, b"\x02\x05\x01a", b"\x88\x02");
     expect_epochs(&rt, &mut pair, 0);
     let server = close(alloc, pair)?;
