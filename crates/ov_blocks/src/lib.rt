@@ -17,8 +17,8 @@
 //!   for it. So no more blocks lie before the run than all held extents have and, for each of these,
 //!   one block less than the run has, which bounds how far Blobs grows. `place` takes no memory and
 //!   walks over the held extents at most once: at 16,384 of them that is 16,384 steps. Those that
-//!   follow one another from block 0 on, with one gap at most, it passes in one step. So where the
-//!   extents of all files lie close together, and one is replaced at a time, a search takes no more
+//!   follow one another from block 0 on, with one gap at most, it passes in one step. So where
+//!   all files have as many blocks and lie close together, and one is replaced at a time, a search takes no more
 //!   steps beside 10,000 files than beside ten. Where two gaps are too short for the run, it walks
 //!   over what stands behind the second.
 //! * [`Extents::place_from`] takes up where an earlier search ended: where a caller knows a block
