@@ -78,8 +78,10 @@
 mod bytes;
 mod extents;
 mod free;
+mod gap;
 mod laws;
 mod packed;
+mod slots;
 
 pub use extents::{
     BLOCK_BYTES, Extent, Extents, MAX_BLOCKS, MAX_EXTENT_BLOCKS, MAX_HELD, blocks_of,
