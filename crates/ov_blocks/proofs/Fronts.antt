@@ -63,7 +63,7 @@ free_of_rest (e ∷ held) (suc i) first count is = free_of_rest held i first cou
 -- ---- a search
 
 -- two lowest free runs are the same
-same_lowest : (held : List Extent) (count a : ℕ) → AreApart 0 held → IsFree a count held → ((first : ℕ) → first < a → IsFree first count held → ⊥) → a ≡ lowest_in 0 count held
+pub same_lowest : (held : List Extent) (count a : ℕ) → AreApart 0 held → IsFree a count held → ((first : ℕ) → first < a → IsFree first count held → ⊥) → a ≡ lowest_in 0 count held
 same_lowest held count a apart is none = elim (cases_lt a (lowest_in 0 count held)) [
   | inl lt ↦ absurd (lowest 0 count held a (omega arith) lt is)
   | inr ge ↦ elim (cases_lt (lowest_in 0 count held) a) [

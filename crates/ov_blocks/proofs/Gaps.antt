@@ -1,11 +1,10 @@
 -- Gaps between extents, what is known of them, and a search that passes many at once.
-use Rattle.std.proofs.Common.{◌≡◌, ◌⊎◌, inl, inr, ℕ, zero, suc, ◌+◌, ◌-◌, ◌≤◌, ◌<◌, List, [], ◌∷◌, length, take, get_or, refl, sym, ◌∙◌, ap, subst, arith}
+use Rattle.std.proofs.Common.{◌≡◌, ◌⊎◌, inl, inr, ℕ, zero, suc, ◌+◌, ◌-◌, ◌≤◌, ◌<◌, List, [], ◌∷◌, length, take, get_or, refl, ◌∙◌, ap, arith}
 use Rattle.std.specs.Prelude.{◌≢◌}
 use Rattle.std.specs.List.{insert, remove}
 use Rattle.std.proofs.lemmas.Bool.{cases_eq, cases_lt}
 use Rattle.std.proofs.lemmas.List.Edits.{length-insert, length-remove}
 use Rattle.ov_blocks.specs.declared.extents.Extent.{Extent}
-use Rattle.ov_blocks.specs.declared.packed.Packed.{Packed}
 use Rattle.ov_blocks.specs.Extents.{AreApart, IsFree, end_from}
 use Rattle.ov_blocks.specs.Gaps.{AreShort, HasNoneBefore, IsPacked, gap_at}
 use Rattle.ov_blocks.specs.Places.{IsBetween}

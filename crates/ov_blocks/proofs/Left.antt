@@ -1,18 +1,20 @@
 -- A list of extents without one of them: which runs are free then, and another one in its slot.
-use Rattle.std.proofs.Common.{◌≡◌, ◌⊎◌, inl, inr, ℕ, zero, suc, ◌+◌, ◌≤◌, ◌<◌, List, [], ◌∷◌, length, take, get_or, set, refl, sym, ap, arith}
+use Rattle.std.proofs.Common.{◌≡◌, ◌⊎◌, inl, inr, ℕ, zero, suc, ◌+◌, ◌≤◌, ◌<◌, List, [], ◌∷◌, length, take, get_or, set, refl, ap, arith}
+use Rattle.std.specs.Prelude.{Option, None, Some}
 use Rattle.std.specs.List.{insert, remove}
 use Rattle.std.proofs.lemmas.Bool.{cases_lt}
 use Rattle.ov_blocks.specs.declared.extents.Extent.{Extent}
 use Rattle.ov_blocks.specs.declared.extents.TheConstants.{MAX_BLOCKS}
 use Rattle.ov_blocks.specs.Extents.{AreApart, IsFree, end_from}
 use Rattle.ov_blocks.specs.Places.{IsBetween, IsLowest}
+use Rattle.ov_blocks.specs.Slots.{without}
 use Rattle.ov_blocks.proofs.Fronts.{ends_before}
 use Rattle.ov_blocks.proofs.Lowest.{free_before}
 use Rattle.ov_blocks.proofs.Places.{beside_at, inserted, is_free, one, removed}
 
 -- ---- what stands before its place
 
-take_left : (held : List Extent) (place : ℕ) → take place (remove held place) ≡ take place held
+pub take_left : (held : List Extent) (place : ℕ) → take place (remove held place) ≡ take place held
 take_left held zero = refl
 take_left [] (suc p) = refl
 take_left (e ∷ held) (suc p) = ap (λ (l : List Extent). e ∷ l) (take_left held p)
@@ -91,6 +93,16 @@ module _ (held : List Extent) (place count lowest : ℕ) (apart : AreApart 0 hel
       | inr gap ↦ none other less gap
     ];
   }
+
+-- ---- the slots without the one that was given up, if one was
+
+pub free_without : (gone : Option ℕ) (slots : List Extent) (first count : ℕ) → IsFree first count slots → IsFree first count (without gone slots)
+free_without None slots first count is = is
+free_without (Some place) slots first count is = free_left slots place first count is
+
+pub apart_without : (gone : Option ℕ) (slots : List Extent) → AreApart 0 slots → AreApart 0 (without gone slots)
+apart_without None slots apart = apart
+apart_without (Some place) slots apart = removed 0 slots place apart
 
 -- ---- another in its slot
 

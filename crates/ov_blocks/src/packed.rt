@@ -1,7 +1,7 @@
 //! How far the held extents follow one another from block 0 on, with one gap at most.
 ghost use Rattle.std.specs.Prelude.{◌≡◌, ◌≤◌, ◌<◌, List, length, take};
 ghost use Rattle.std.specs.List.{insert, remove};
-ghost use Rattle.ov_blocks.specs.Extents.{AreApart, end_from};
+ghost use Rattle.ov_blocks.specs.Extents.{AreApart};
 ghost use Rattle.ov_blocks.specs.Gaps.{HasNoneBefore, IsPacked, TellsShort, gap_at};
 ghost use Rattle.ov_blocks.specs.Places.{IsBetween};
 ghost use Rattle.ov_blocks.specs.declared.extents.Extent.{Extent};
@@ -68,20 +68,23 @@ impl Packed {
         self.gap
     }
 
-    /// What is known of a list of which this is known, once this extent stands in it, too, at this
-    /// place, where the one before it ends at block `before`.
-    pub(crate) fn with(self, before: u32, place: usize, extent: Extent) -> Packed
-        requires { 1 ≤ extent.length }
-        ensures { (held : List Extent) → IsPacked self held
-            → IsBetween place extent.first extent.length held
-            → before ≡ end_from 0 (take place held) → IsPacked result (insert held place extent) }
+    /// What is known of a list, of which this is known, once this extent stands in it, too, at this
+    /// place. What stands before it is the same as in `held`.
+    pub(crate) fn with(self, held: &[Extent], place: usize, extent: Extent) -> Packed
+        requires apart { AreApart 0 held.now }
+        requires few { self.until ≤ length held.now }
+        requires inside { place ≤ length held.now }
+        requires some { 1 ≤ extent.length }
+        ensures { (list : List Extent) → IsPacked self list
+            → IsBetween place extent.first extent.length list
+            → take place list ≡ take place held.now → IsPacked result (insert list place extent) }
     {
         if place >= self.until {
             return self;
         }
         // It stands in the one gap. Where it leaves blocks free in front of it, it may leave some
         // behind it, too, and no more than the front is known then.
-        if before < extent.first {
+        if end_before(held, place) < extent.first {
             return Packed {
                 gap: place,
                 until: place + 1,

@@ -8,7 +8,7 @@ ghost use Rattle.ov_blocks.specs.Slots.{HasSlot, without};
 ghost use Rattle.ov_blocks.specs.declared.extents.TheConstants.{MAX_BLOCKS};
 
 use crate::extents::Extent;
-use crate::free::{count_before, end_before, is_free, lowest_run};
+use crate::free::{count_before, is_free, lowest_run};
 use crate::packed::Packed;
 use ov_base::Memory;
 use std::alloc::Global;
@@ -84,8 +84,7 @@ impl Slots {
             return Ok(false);
         }
         let extent = Extent { first, length };
-        let before = end_before(&self.extents, place);
-        let packed = self.packed.with(before, place, extent);
+        let packed = self.packed.with(&self.extents, place, extent);
         self.extents.insert(place, extent)?;
         self.packed = packed.further(&self.extents);
         Ok(true)
@@ -103,9 +102,8 @@ impl Slots {
         if self.extents[place] == extent {
             return;
         }
-        let before = end_before(&self.extents, place);
         let without = self.packed.without(&self.extents, place);
-        let packed = without.with(before, place, extent);
+        let packed = without.with(&self.extents, place, extent);
         self.extents[place] = extent;
         self.packed = packed.further(&self.extents);
     }

@@ -24,12 +24,12 @@ returns c =
     let others = remove c.args.held.now c.args.place in
     lowest_stays c.args.held.now c.args.place c.args.blocks c.args.lowest c.requires.apart c.requires.inside c.requires.lowest
     (λ other less gap.
-        let behind = ends_before others c.args.place other c.args.blocks gap in
-        elim c.else-start-lowest.branch [
-          | else-start-lowest-via-then-start-lowest+else-fits w ↦ w.if-fits.ensures (record {
-              inside = gap.inside;
-              before = end_is others c.args.place c.end_before-start.result gap.inside (omega (arith, c.end_before-start.ensures, end_left c.args.held.now c.args.place));
-              behind = λ d lt. omega (arith, gap.behind d lt, behind, c.end_before-start.ensures, end_left c.args.held.now c.args.place);
-            })
-          | else-start-lowest-via-else-start-lowest w ↦ omega (arith, less, behind, c.end_before-start.ensures, end_left c.args.held.now c.args.place, w.if-start-lowest.false)
-        ])
+    let behind = ends_before others c.args.place other c.args.blocks gap in
+    elim c.else-start-lowest.branch [
+      | else-start-lowest-via-then-start-lowest+else-fits w ↦ w.if-fits.ensures (record {
+        inside = gap.inside;
+        before = end_is others c.args.place c.end_before-start.result gap.inside (omega (arith, c.end_before-start.ensures, end_left c.args.held.now c.args.place));
+        behind = λ d lt. omega (arith, gap.behind d lt, behind, c.end_before-start.ensures, end_left c.args.held.now c.args.place);
+      })
+      | else-start-lowest-via-else-start-lowest w ↦ omega (arith, less, behind, c.end_before-start.ensures, end_left c.args.held.now c.args.place, w.if-start-lowest.false)
+    ])
