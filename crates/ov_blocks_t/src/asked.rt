@@ -14,7 +14,9 @@ use std::process::Abort;
 fn are_short(extents: &[Extent]) -> bool
     ensures { IsTrue result → All (λ (e : Extent). e.length ≤ MAX_EXTENT_BLOCKS) extents.now }
 {
-    extents.iter().all(|extent| extent.length <= MAX_EXTENT_BLOCKS)
+    extents
+        .iter()
+        .all(|extent| extent.length <= MAX_EXTENT_BLOCKS)
 }
 
 // Whether a place is found for so many blocks.
@@ -44,7 +46,10 @@ pub fn count(extents: &Extents) -> usize {
 /// Whether just these extents are held, each with its first block and its length.
 pub fn are_held(extents: &Extents, rows: &[(u32, u32)]) -> bool {
     let (front, back) = extents.held();
-    let held = front.iter().chain(back).map(|extent| (extent.first, extent.length));
+    let held = front
+        .iter()
+        .chain(back)
+        .map(|extent| (extent.first, extent.length));
     held.eq(rows.iter().copied())
 }
 

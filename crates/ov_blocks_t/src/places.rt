@@ -180,7 +180,11 @@ fn places_beside_one_given_up(rt: HostRuntime) -> Result<(), Fail> {
     for (held, gone, length, first) in &BESIDE_ONE_GIVEN_UP {
         let mut extents = holding(&rt, rt.alloc(), *held)?;
         release(&rt, &mut extents, gone.0, gone.1);
-        assert_eq!(rt; place(&rt, &extents, *length), *first, "{length} without {gone:?}");
+        assert_eq!(rt;
+            place(&rt, &extents, *length),
+            *first,
+            "{length} without {gone:?}"
+        );
         assert_eq!(rt; place_from(&rt, &extents, *length, *first), *first);
         assert!(rt; *length > 0 && *first < MAX_BLOCKS && *length <= MAX_BLOCKS - *first);
         assert_eq!(rt; extents.hold(*first, *length), Ok(true));

@@ -77,7 +77,9 @@ fn has_new_text(text: &[u8], file: &Placed) -> bool
 fn are_short(extents: &[Extent]) -> bool
     ensures { IsTrue result → All (λ (e : Extent). e.length ≤ MAX_EXTENT_BLOCKS) extents.now }
 {
-    extents.iter().all(|extent| extent.length <= MAX_EXTENT_BLOCKS)
+    extents
+        .iter()
+        .all(|extent| extent.length <= MAX_EXTENT_BLOCKS)
 }
 
 // Whether one more extent may be held.

@@ -12,7 +12,9 @@ use std::test::Fail;
 fn are_short(extents: &[Extent]) -> bool
     ensures { IsTrue result → All (λ (e : Extent). e.length ≤ MAX_EXTENT_BLOCKS) extents.now }
 {
-    extents.iter().all(|extent| extent.length <= MAX_EXTENT_BLOCKS)
+    extents
+        .iter()
+        .all(|extent| extent.length <= MAX_EXTENT_BLOCKS)
 }
 
 // Whether a place is found for so many blocks.
