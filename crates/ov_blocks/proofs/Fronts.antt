@@ -4,7 +4,7 @@ use Rattle.std.proofs.lemmas.Bool.{cases_lt}
 use Rattle.ov_blocks.specs.declared.extents.Extent.{Extent}
 use Rattle.ov_blocks.specs.Extents.{AreApart, IsFree, end_from}
 use Rattle.ov_blocks.specs.Gaps.{HasNoneBefore}
-use Rattle.ov_blocks.specs.Places.{IsCountBefore}
+use Rattle.ov_blocks.specs.Places.{IsBetween, IsCountBefore}
 use Rattle.ov_blocks.proofs.Lowest.{lowest_in, free, lowest}
 use Rattle.ov_blocks.proofs.Places.{beside_at}
 
@@ -35,6 +35,13 @@ end_is held (suc j) first inside le k d is =
     let same : j ≡ k = omega (arith, is) in
     subst (λ (n : ℕ). (get_or held n d).first + (get_or held n d).length ≤ first) same (omega (arith, le, end_at 0 held j d (omega (arith, inside))))
 
+-- and the other way round
+pub ends_before : (held : List Extent) (place first count : ℕ) → IsBetween place first count held → end_from 0 (take place held) ≤ first
+ends_before held zero first count between = omega arith
+ends_before held (suc p) first count between =
+    let d : Extent = record { first = 0; length = 0 } in
+    omega (arith, between.before p d (omega arith), end_at 0 held p d (omega (arith, between.inside)))
+
 -- a slice of the others is all of them
 pub rest_whole : (held : List Extent) (i : ℕ) → take (length held - i) (drop i held) ≡ drop i held
 rest_whole held i = take_all (length held - i) (drop i held) (omega (arith, length-drop i held))
@@ -56,7 +63,7 @@ free_of_rest (e ∷ held) (suc i) first count is = free_of_rest held i first cou
 -- ---- a search
 
 -- two lowest free runs are the same
-same_lowest : (held : List Extent) (count a : ℕ) → AreApart 0 held → IsFree a count held → ((first : ℕ) → first < a → IsFree first count held → ⊥) → a ≡ lowest_in 0 count held
+pub same_lowest : (held : List Extent) (count a : ℕ) → AreApart 0 held → IsFree a count held → ((first : ℕ) → first < a → IsFree first count held → ⊥) → a ≡ lowest_in 0 count held
 same_lowest held count a apart is none = elim (cases_lt a (lowest_in 0 count held)) [
   | inl lt ↦ absurd (lowest 0 count held a (omega arith) lt is)
   | inr ge ↦ elim (cases_lt (lowest_in 0 count held) a) [

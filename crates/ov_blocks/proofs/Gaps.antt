@@ -1,15 +1,14 @@
 -- Gaps between extents, what is known of them, and a search that passes many at once.
-use Rattle.std.proofs.Common.{◌≡◌, ◌⊎◌, inl, inr, ℕ, zero, suc, ◌+◌, ◌-◌, ◌≤◌, ◌<◌, List, [], ◌∷◌, length, take, get_or, refl, sym, ◌∙◌, ap, subst, arith}
+use Rattle.std.proofs.Common.{◌≡◌, ◌⊎◌, inl, inr, ℕ, zero, suc, ◌+◌, ◌-◌, ◌≤◌, ◌<◌, List, [], ◌∷◌, length, take, get_or, refl, ◌∙◌, ap, arith}
 use Rattle.std.specs.Prelude.{◌≢◌}
 use Rattle.std.specs.List.{insert, remove}
 use Rattle.std.proofs.lemmas.Bool.{cases_eq, cases_lt}
 use Rattle.std.proofs.lemmas.List.Edits.{length-insert, length-remove}
 use Rattle.ov_blocks.specs.declared.extents.Extent.{Extent}
-use Rattle.ov_blocks.specs.declared.packed.Packed.{Packed}
 use Rattle.ov_blocks.specs.Extents.{AreApart, IsFree, end_from}
 use Rattle.ov_blocks.specs.Gaps.{AreShort, HasNoneBefore, IsPacked, gap_at}
 use Rattle.ov_blocks.specs.Places.{IsBetween}
-use Rattle.ov_blocks.proofs.Fronts.{end_at, end_behind}
+use Rattle.ov_blocks.proofs.Fronts.{end_behind, ends_before}
 
 -- ---- one gap
 
@@ -131,12 +130,7 @@ module _ (held : List Extent) (gap until : ℕ) (was : IsPacked (record { gap = 
     | inr differ ↦ absurd (
         let inside : place < length held = omega (arith, lt, was.inside) in
         omega (arith, was.tight place lt differ, gap_is 0 held place e inside, between.behind e inside, some, ends_before held place e.first e.length between))
-  ] where
-    ends_before : (held : List Extent) (place first count : ℕ) → IsBetween place first count held → end_from 0 (take place held) ≤ first
-    ends_before held zero first count between = omega arith
-    ends_before held (suc p) first count between =
-        let d : Extent = record { first = 0; length = 0 } in
-        omega (arith, between.before p d (omega arith), end_at 0 held p d (omega (arith, between.inside)))
+  ]
 
   pub more_unchanged : (place : ℕ) (e : Extent) → place ≤ length held → until ≤ place → IsPacked (record { gap = gap; until = until }) (insert held place e)
   more_unchanged place e inside le = record {

@@ -2,6 +2,7 @@ pub mod Changes
 pub mod Fronts
 pub mod Gaps
 pub mod GivenUp
+pub mod Left
 pub mod Lowest
 pub mod OneLess
 pub mod Others

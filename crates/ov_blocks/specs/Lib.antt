@@ -2,4 +2,5 @@ pub mod Extents
 pub mod Gaps
 pub mod Laws
 pub mod Places
+pub mod Slots
 pub mod Writes

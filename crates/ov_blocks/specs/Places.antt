@@ -29,3 +29,13 @@ TellsFree place first count held false = IsFree first count held → ⊥
 abbrev pub TellsNone : ℕ → List ℕ → Bool → Type 0
 TellsNone block blocks true = Contains blocks block → ⊥
 TellsNone block blocks false = Contains blocks block
+
+-- the run is there, or it isn't
+abbrev pub TellsBetween : ℕ → ℕ → ℕ → List Extent → Bool → Type 0
+TellsBetween place first count held true = IsBetween place first count held
+TellsBetween place first count held false = IsBetween place first count held → ⊥
+
+-- the run is free, and no other of so many blocks that begins before it
+pub record IsLowest (first count : ℕ) (held : List Extent) : Type 0 where
+  pub free : IsFree first count held
+  pub lower : (other : ℕ) → other < first → IsFree other count held → ⊥

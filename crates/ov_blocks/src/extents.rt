@@ -1,12 +1,13 @@
 //! The extents that are held.
-ghost use Rattle.std.specs.Prelude.{◌≡◌, ◌≤◌, ◌<◌, ◌+◌, ◌-◌, ◌*◌, ◌∷◌, ℕ, [], All, IfOk, OnErr, Contains, length};
+ghost use Rattle.std.specs.Prelude.{◌≡◌, ◌≤◌, ◌<◌, ◌+◌, ◌-◌, ◌*◌, ◌∷◌, ◌++◌, ℕ, [], All, IfOk, OnErr, Contains, length};
 ghost use Rattle.std.specs.List.Sorted.{IsStrictlyIncreasing};
 ghost use Rattle.ov_blocks.specs.Extents.{AreApart, AreGivenUp, BeginsOne, HasPlace, Holds, IsFree, IsWith, ShareNoBlock, blocks_held, blocks_of, end_from};
-ghost use Rattle.ov_blocks.specs.Places.{TellsNone};
+ghost use Rattle.ov_blocks.specs.Places.{IsLowest};
 ghost use Rattle.ov_blocks.specs.declared.extents.Extent.{Extent};
 
-use crate::free::{count_before, is_free, lowest_run};
-use crate::packed::Packed;
+use crate::free::count_before;
+use crate::gap::{fits, lowest_without};
+use crate::slots::Slots;
 use ov_base::Memory;
 use std::alloc::Global;
 use std::marker::Model;
@@ -46,30 +47,22 @@ pub struct Extent {
 /// The extents that are held, in the order of their places.
 #[derive(Drop)]
 pub struct Extents {
-    held: Vec<Extent>,
-    // What is known of the gaps between them.
-    packed: Packed,
+    slots: Slots,
+    // The place of a slot whose extent was given up. It stays there, so that nothing behind it moves,
+    // until another extent takes its slot, or the next is held elsewhere or given up.
+    gone: Option<usize>,
 }
 
 impl Model for Extents {
     ghost use Rattle.std.specs.Prelude.{List};
     ghost use Rattle.ov_blocks.specs.declared.extents.Extent.{Extent};
-    ghost use Rattle.ov_blocks.specs.Extents.{AreApart};
-    ghost use Rattle.ov_blocks.specs.Gaps.{IsPacked};
+    ghost use Rattle.ov_blocks.specs.Slots.{HasSlot, without};
 
     ghost Value = { List Extent };
 
-    ghost view = { λ e. e.held.items };
+    ghost view = { λ e. without e.gone e.slots };
 
-    ghost invariant = { λ e. AreApart 0 e.held.items × IsPacked e.packed e.held.items };
-}
-
-// Whether the block is none of these, which rise.
-fn is_none_of(block: u32, blocks: &[u32]) -> bool
-    requires { IsStrictlyIncreasing blocks.now }
-    ensures { TellsNone block blocks.now result }
-{
-    blocks.binary_search(&block).is_err()
+    ghost invariant = { λ e. HasSlot e.gone e.slots };
 }
 
 impl Extents {
@@ -78,16 +71,20 @@ impl Extents {
         ensures { result ≡ [] }
     {
         Extents {
-            held: Vec::new(alloc),
-            packed: Packed::unknown(),
+            slots: Slots::new(alloc),
+            gone: None,
         }
     }
 
-    /// The extents that are held, in the order of their places.
-    pub fn held(&self) -> &[Extent]
-        ensures { result.now ≡ self.now }
+    /// The extents that are held, in the order of their places: the first of them, and the others.
+    pub fn held(&self) -> (&[Extent], &[Extent])
+        ensures { result.0.now ++ result.1.now ≡ self.now }
     {
-        &self.held
+        let slots = self.slots.as_slice();
+        if let Some(place) = self.gone {
+            return (&slots[..place], &slots[place + 1..]);
+        }
+        slots.split_at(slots.len())
     }
 
     /// Does nothing. Its contract is what holds of all that is held.
@@ -95,7 +92,7 @@ impl Extents {
         ensures order { AreApart 0 self.now }
         ensures apart { ShareNoBlock self.now }
     {
-        let _held = self.held.len();
+        let _slots = self.slots.as_slice();
     }
 
     /// The first block of the lowest run of so many free blocks. It takes no memory, and walks over
@@ -125,7 +122,21 @@ impl Extents {
         ensures near { result ≤ end_from 0 self.now }
         ensures bound { result ≤ blocks_held self.now + length self.now * (blocks - 1) }
     {
-        lowest_run(&self.held, self.packed, blocks, from)
+        self.known();
+        self.lowest(blocks, from)
+    }
+
+    // It looks into the gap at the slot of the extent that was given up, too.
+    fn lowest(&self, blocks: u32, from: u32) -> u32
+        requires place { HasPlace blocks self.now }
+        requires none { (first : ℕ) → first < from → IsFree first blocks self.now → ⊥ }
+        ensures { IsLowest result blocks self.now }
+    {
+        let lowest = self.slots.lowest_run(blocks, from);
+        if let Some(place) = self.gone {
+            return lowest_without(self.slots.as_slice(), place, blocks, lowest);
+        }
+        lowest
     }
 
     /// Holds a range, unless one of its blocks is in use.
@@ -136,15 +147,16 @@ impl Extents {
             (Holds (record { first = first; length = length }) self.old self.new) }
         ensures err { OnErr result (self.new ≡ self.old) }
     {
-        let place = count_before(&self.held, first);
-        if !is_free(&self.held, place, first, length) {
-            return Ok(false);
+        if let Some(place) = self.gone {
+            if fits(self.slots.as_slice(), place, first, length) {
+                self.slots.replace(place, Extent { first, length });
+                self.gone = None;
+                return Ok(true);
+            }
         }
-        let extent = Extent { first, length };
-        let packed = self.packed.with(&self.held, place, extent);
-        self.held.insert(place, extent)?;
-        self.packed = packed.further(&self.held);
-        Ok(true)
+        self.slots.close(self.gone);
+        self.gone = None;
+        self.slots.hold(first, length)
     }
 
     /// Gives up an extent that is held. It takes no memory.
@@ -162,9 +174,10 @@ impl Extents {
             → IsWith e self.new self.old }
         ensures only { AreGivenUp (first ∷ []) self.old self.new }
     {
-        let place = count_before(&self.held, first);
-        self.packed = self.packed.without(&self.held, place);
-        let _extent = self.held.remove(place);
+        self.slots.close(self.gone);
+        self.gone = None;
+        let place = count_before(self.slots.as_slice(), first);
+        self.gone = Some(place);
     }
 
     /// Gives up the held extents that begin at these blocks, which rise. It takes no memory. A few are
@@ -192,13 +205,14 @@ impl Extents {
         }
     }
 
-    // Gives them up in one walk over all that is held. Many gaps may arise, so none is known then.
+    // Gives them up in one walk over all that is held.
     fn keep_others(&mut self, gone: &[u32])
         requires rise { IsStrictlyIncreasing gone.now }
         requires held { All (BeginsOne self.old) gone.now }
         ensures { AreGivenUp gone.now self.old self.new }
     {
-        self.packed = Packed::unknown();
-        self.held.retain(|extent| is_none_of(extent.first, gone));
+        self.slots.close(self.gone);
+        self.gone = None;
+        self.slots.keep_others(gone);
     }
 }

@@ -1,8 +1,8 @@
 //! Which blocks are free, by the extents that are held.
-ghost use Rattle.std.specs.Prelude.{◌≡◌, ◌≤◌, ◌<◌, ◌+◌, ◌-◌, ◌*◌, ℕ, length, take};
-ghost use Rattle.ov_blocks.specs.Extents.{AreApart, HasPlace, IsFree, blocks_held, end_from};
+ghost use Rattle.std.specs.Prelude.{◌≡◌, ◌≤◌, ◌<◌, ◌+◌, ℕ, length, take};
+ghost use Rattle.ov_blocks.specs.Extents.{AreApart, IsFree, end_from};
 ghost use Rattle.ov_blocks.specs.Gaps.{IsPacked};
-ghost use Rattle.ov_blocks.specs.Places.{IsCountBefore, TellsFree};
+ghost use Rattle.ov_blocks.specs.Places.{IsCountBefore, IsLowest, TellsFree};
 ghost use Rattle.ov_blocks.specs.declared.extents.TheConstants.{MAX_BLOCKS};
 
 use crate::extents::Extent;
@@ -14,13 +14,9 @@ use crate::packed::Packed;
 pub(crate) fn lowest_run(held: &[Extent], packed: Packed, blocks: u32, from: u32) -> u32
     requires apart { AreApart 0 held.now }
     requires packed { IsPacked packed held.now }
-    requires short { HasPlace blocks held.now }
+    requires some { 1 ≤ blocks }
     requires none { (first : ℕ) → first < from → IsFree first blocks held.now → ⊥ }
-    ensures free { IsFree result blocks held.now }
-    ensures lowest { (first : ℕ) → first < result → IsFree first blocks held.now → ⊥ }
-    ensures end { result + blocks ≤ MAX_BLOCKS }
-    ensures near { result ≤ end_from 0 held.now }
-    ensures bound { result ≤ blocks_held held.now + length held.now * (blocks - 1) }
+    ensures { IsLowest result blocks held.now }
 {
     let start = packed.passed(held, blocks, count_before(held, from));
     lowest_behind(&held[start..], end_before(held, start), blocks)

@@ -17,8 +17,8 @@
 //!   for it. So no more blocks lie before the run than all held extents have and, for each of these,
 //!   one block less than the run has, which bounds how far Blobs grows. `place` takes no memory and
 //!   walks over the held extents at most once: at 16,384 of them that is 16,384 steps. Those that
-//!   follow one another from block 0 on, with one gap at most, it passes in one step. So where the
-//!   extents of all files lie close together, and one is replaced at a time, a search takes no more
+//!   follow one another from block 0 on, with one gap at most, it passes in one step. So where
+//!   all files have as many blocks and lie close together, and one is replaced at a time, a search takes no more
 //!   steps beside 10,000 files than beside ten. Where two gaps are too short for the run, it walks
 //!   over what stands behind the second.
 //! * [`Extents::place_from`] takes up where an earlier search ended: where a caller knows a block
@@ -27,17 +27,22 @@
 //!   many runs, none shorter than the one before it, takes one walk in all.
 //! * [`Extents::hold`] answers `false` exactly where a block of the range is in use, and else holds
 //!   the range; [`Extents::release`] gives one up, and takes no memory. Both find the place by
-//!   halves and move what stands behind it: at 10,000 held extents that is 14 steps and at most
-//!   80,000 bytes. `hold` also walks on from the extents that `place` passes in one step, up to the
-//!   second gap: over each once, until an extent before it is given up while another gap is there.
+//!   halves: at 10,000 held extents that is 14 steps. An extent that is given up leaves its slot in
+//!   the list, so that nothing moves, and the next one that is held in the gap there takes the slot.
+//!   One that is held elsewhere moves what stands behind it, and what stands behind the slot; and
+//!   another that is given up moves what stands behind the slot of the one before it: at 10,000 held
+//!   extents 80,000 bytes at most each time. So where one extent after another is replaced, and each
+//!   new one goes into the gap that the last one left, nothing moves. `hold` also walks on from the
+//!   extents that `place` passes in one step, up to the second gap: over each once, until an extent
+//!   before it is given up, or its slot taken by another, while another gap is there.
 //! * [`Extents::release_all`] gives up the extents that begin at these blocks, which rise, and takes
 //!   no memory. Up to eight cost as much as so many calls of `release`. More of them take one walk
 //!   over all that is held, however many they are, and each extent is looked up among the blocks by
 //!   halves: at 10,000 held extents that costs as much as ten calls of `release` or more. The next
 //!   `place` and the next `hold` after such a walk may take one more.
-//! * [`Extents::held`] gives the list. [`Extents::known`] does nothing; its contract is what holds
-//!   of every such list: a block is in the extent at one place of it at most, so that no two
-//!   extents share one and none stands there twice.
+//! * [`Extents::held`] gives the list, in two parts. [`Extents::known`] does nothing; its contract is
+//!   what holds of every such list: a block is in the extent at one place of it at most, so that no
+//!   two extents share one and none stands there twice.
 //! * [`Extents::put`] writes into a held extent by one call of the disk. At every moment since its
 //!   start a crash leaves an image that it could have left at the start, changed in the range
 //!   alone: Book is the same, Blobs is no shorter, and no byte of another held extent has changed.
@@ -51,6 +56,7 @@
 //! | `Laws` | puts one after the other, and what is read behind them |
 //! | `Places` | inside: where an extent stands among the others |
 //! | `Gaps` | inside: which extents have no gap in front of them |
+//! | `Slots` | inside: a list of extents without one of them |
 //!
 //! A law stands as a public function with an empty body, whose contract is the law.
 //!
@@ -78,8 +84,10 @@
 mod bytes;
 mod extents;
 mod free;
+mod gap;
 mod laws;
 mod packed;
+mod slots;
 
 pub use extents::{
     BLOCK_BYTES, Extent, Extents, MAX_BLOCKS, MAX_EXTENT_BLOCKS, MAX_HELD, blocks_of,

@@ -1,5 +1,5 @@
 //! How far the held extents follow one another from block 0 on, with one gap at most.
-ghost use Rattle.std.specs.Prelude.{◌≡◌, ◌≤◌, ◌<◌, List, length};
+ghost use Rattle.std.specs.Prelude.{◌≡◌, ◌≤◌, ◌<◌, List, length, take};
 ghost use Rattle.std.specs.List.{insert, remove};
 ghost use Rattle.ov_blocks.specs.Extents.{AreApart};
 ghost use Rattle.ov_blocks.specs.Gaps.{HasNoneBefore, IsPacked, TellsShort, gap_at};
@@ -68,13 +68,16 @@ impl Packed {
         self.gap
     }
 
-    /// What is known once this extent is held, too, at this place.
+    /// What is known of a list, of which this is known, once this extent stands in it, too, at this
+    /// place. What stands before it is the same as in `held`.
     pub(crate) fn with(self, held: &[Extent], place: usize, extent: Extent) -> Packed
         requires apart { AreApart 0 held.now }
-        requires packed { IsPacked self held.now }
+        requires few { self.until ≤ length held.now }
+        requires inside { place ≤ length held.now }
         requires some { 1 ≤ extent.length }
-        requires between { IsBetween place extent.first extent.length held.now }
-        ensures { IsPacked result (insert held.now place extent) }
+        ensures { (list : List Extent) → IsPacked self list
+            → IsBetween place extent.first extent.length list
+            → take place list ≡ take place held.now → IsPacked result (insert list place extent) }
     {
         if place >= self.until {
             return self;

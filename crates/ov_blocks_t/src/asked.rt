@@ -1,27 +1,56 @@
 //! The calls of extents behind a test that they may be made.
-ghost use Rattle.std.specs.Prelude.{◌≡◌, All, Contains, IsTrue};
+ghost use Rattle.std.specs.Prelude.{◌≡◌, ◌≤◌, All, Contains, IsTrue};
 ghost use Rattle.std.specs.List.Sorted.{IsStrictlyIncreasing};
 ghost use Rattle.ov_blocks.specs.Extents.{BeginsOne, HasPlace, IsInside};
 ghost use Rattle.ov_blocks.specs.Writes.{place_in_blobs};
+ghost use Rattle.ov_blocks.specs.declared.extents.Extent.{Extent};
+ghost use Rattle.ov_blocks.specs.declared.extents.TheConstants.{MAX_EXTENT_BLOCKS};
 
 use ov_blocks::{BLOCK_BYTES, Extent, Extents, MAX_EXTENT_BLOCKS, MAX_HELD};
 use ov_disk::{DiskFault, MemDisk};
 use std::process::Abort;
 
+// Whether each of these extents is short enough beside a new one.
+fn are_short(extents: &[Extent]) -> bool
+    ensures { IsTrue result → All (λ (e : Extent). e.length ≤ MAX_EXTENT_BLOCKS) extents.now }
+{
+    extents
+        .iter()
+        .all(|extent| extent.length <= MAX_EXTENT_BLOCKS)
+}
+
 // Whether a place is found for so many blocks.
 fn has_place(extents: &Extents, length: u32) -> bool
     ensures { IsTrue result → HasPlace length extents.now }
 {
-    let held = extents.held();
-    let fits = length > 0 && length <= MAX_EXTENT_BLOCKS && held.len() <= MAX_HELD as usize;
-    fits && held.iter().all(|extent| extent.length <= MAX_EXTENT_BLOCKS)
+    let (front, back) = extents.held();
+    let room = (MAX_HELD as usize).saturating_sub(back.len());
+    let fits = length > 0 && length <= MAX_EXTENT_BLOCKS && front.len() <= room;
+    fits && are_short(front) && are_short(back) && back.len() <= MAX_HELD as usize
 }
 
 // Whether the extent is held.
 fn is_held(extents: &Extents, extent: Extent) -> bool
     ensures { IsTrue result → Contains extents.now extent }
 {
-    extents.held().iter().any(|other| *other == extent)
+    let (front, back) = extents.held();
+    front.iter().any(|other| *other == extent) || back.iter().any(|other| *other == extent)
+}
+
+/// How many extents are held.
+pub fn count(extents: &Extents) -> usize {
+    let (front, back) = extents.held();
+    front.len().saturating_add(back.len())
+}
+
+/// Whether just these extents are held, each with its first block and its length.
+pub fn are_held(extents: &Extents, rows: &[(u32, u32)]) -> bool {
+    let (front, back) = extents.held();
+    let held = front
+        .iter()
+        .chain(back)
+        .map(|extent| (extent.first, extent.length));
+    held.eq(rows.iter().copied())
 }
 
 /// The place for so many blocks.
@@ -55,7 +84,8 @@ fn rise(blocks: &[u32]) -> bool
 fn begins_one(extents: &Extents, block: &u32) -> bool
     ensures { IsTrue result → BeginsOne extents.now block.now }
 {
-    extents.held().iter().any(|extent| extent.first == *block)
+    let (front, back) = extents.held();
+    front.iter().any(|one| one.first == *block) || back.iter().any(|one| one.first == *block)
 }
 
 // Whether an extent that is held begins at each of these blocks.

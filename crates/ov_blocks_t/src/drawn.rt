@@ -1,7 +1,7 @@
 //! A run of calls that was drawn, beside what another program answers.
 mod vectors;
 
-use crate::asked::{place, release};
+use crate::asked::{are_held, place, release};
 use ov_blocks::{Extents, MAX_BLOCKS};
 use std::process::Abort;
 use std::test::Fail;
@@ -41,9 +41,6 @@ fn a_drawn_run(rt: HostRuntime) -> Result<(), Fail> {
     for step in &STEPS {
         make(&rt, &mut extents, *step);
     }
-    assert_eq!(rt; extents.held().len(), LEFT.len());
-    for (extent, left) in extents.held().iter().zip(&LEFT) {
-        assert_eq!(rt; (extent.first, extent.length), *left);
-    }
+    assert!(rt; are_held(&extents, &LEFT));
     Ok(())
 }

@@ -1,7 +1,7 @@
 //! Which blocks are taken: rows by hand.
-use crate::asked::{place, place_from, release, release_all};
+use crate::asked::{are_held, count, place, place_from, release, release_all};
 use ov_base::Memory;
-use ov_blocks::{BLOCK_BYTES, Extent, Extents, MAX_BLOCKS};
+use ov_blocks::{BLOCK_BYTES, Extents, MAX_BLOCKS};
 use std::alloc::{AllocError, Global};
 use std::process::Abort;
 use std::test::Fail;
@@ -67,7 +67,7 @@ fn many_extents(rt: HostRuntime) -> Result<(), Fail> {
     for k in 0..16_384_u32 {
         assert_eq!(rt; extents.hold(2 * k, 1), Ok(true));
     }
-    assert_eq!(rt; extents.held().len(), 16_384);
+    assert_eq!(rt; count(&extents), 16_384);
     assert_eq!(rt; place(&rt, &extents, 1), 1);
     assert_eq!(rt; place(&rt, &extents, 2), 32_767);
     Ok(())
@@ -94,14 +94,14 @@ const HOLDS: [(&[(u32, u32)], u32, u32, bool); 12] = [
 fn ranges_that_are_held_or_free(rt: HostRuntime) -> Result<(), Fail> {
     for (held, first, length, free) in &HOLDS {
         let mut extents = holding(&rt, rt.alloc(), *held)?;
-        let before = extents.held().len();
+        let before = count(&extents);
         assert!(rt; *length > 0 && *first < MAX_BLOCKS && *length <= MAX_BLOCKS - *first);
         assert_eq!(rt;
             extents.hold(*first, *length),
             Ok(*free),
             "{first} beside {held:?}"
         );
-        assert_eq!(rt; extents.held().len(), before + usize::from(*free));
+        assert_eq!(rt; count(&extents), before + usize::from(*free));
     }
     Ok(())
 }
@@ -134,10 +134,7 @@ fn extents_given_up_at_once(rt: HostRuntime) -> Result<(), Fail> {
     for (gone, left) in &GIVEN_UP {
         let mut extents = holding(&rt, rt.alloc(), &TEN)?;
         release_all(&rt, &mut extents, *gone);
-        assert_eq!(rt; extents.held().len(), left.len(), "{gone:?}");
-        for (extent, one) in extents.held().iter().zip(*left) {
-            assert_eq!(rt; (extent.first, extent.length), *one, "{gone:?}");
-        }
+        assert!(rt; are_held(&extents, *left), "{gone:?}");
     }
     Ok(())
 }
@@ -159,13 +156,63 @@ fn blocks_are_used_again(rt: HostRuntime) -> Result<(), Fail> {
     assert_eq!(rt; place(&rt, &extents, THREE + 1), 6);
     assert_eq!(rt; extents.hold(0, THREE), Ok(true));
     release(&rt, &mut extents, 3, THREE);
-    assert_eq!(rt;
-        extents.held(),
-        [Extent {
-            first: 0,
-            length: 3
-        }]
-        .as_slice()
-    );
+    assert!(rt; are_held(&extents, &[(0, 3)]));
+    Ok(())
+}
+
+// What is held, which of them is given up, a length that is wanted then, and its place: in the gap
+// that was left, with what was free on both its sides, or elsewhere.
+const BESIDE_ONE_GIVEN_UP: [(&[(u32, u32)], (u32, u32), u32, u32); 9] = [
+    (&[(0, 2)], (0, 2), 4_096, 0),
+    (&[(0, 2), (2, 3), (5, 1)], (2, 3), 3, 2),
+    (&[(0, 2), (2, 3), (5, 1)], (2, 3), 4, 6),
+    (&[(0, 2), (3, 2), (6, 1)], (3, 2), 4, 2),
+    (&[(0, 2), (3, 2), (6, 1)], (3, 2), 5, 7),
+    (&[(0, 2), (2, 3)], (2, 3), 9, 2),
+    (&[(0, 2), (2, 3), (5, 1)], (0, 2), 2, 0),
+    // A gap in front of it is long enough.
+    (&[(3, 2), (5, 3)], (5, 3), 3, 0),
+    (&[(1, 2), (5, 3), (9, 1)], (5, 3), 2, 3),
+];
+
+#[test]
+fn places_beside_one_given_up(rt: HostRuntime) -> Result<(), Fail> {
+    for (held, gone, length, first) in &BESIDE_ONE_GIVEN_UP {
+        let mut extents = holding(&rt, rt.alloc(), *held)?;
+        release(&rt, &mut extents, gone.0, gone.1);
+        assert_eq!(rt;
+            place(&rt, &extents, *length),
+            *first,
+            "{length} without {gone:?}"
+        );
+        assert_eq!(rt; place_from(&rt, &extents, *length, *first), *first);
+        assert!(rt; *length > 0 && *first < MAX_BLOCKS && *length <= MAX_BLOCKS - *first);
+        assert_eq!(rt; extents.hold(*first, *length), Ok(true));
+        assert_eq!(rt; count(&extents), held.len());
+    }
+    Ok(())
+}
+
+// Whether a range is held, where the second of three extents was given up.
+const HOLDS_BESIDE: [(u32, u32, bool, &[(u32, u32)]); 7] = [
+    (2, 3, true, &[(0, 2), (2, 3), (6, 1)]),
+    (3, 2, true, &[(0, 2), (3, 2), (6, 1)]),
+    (2, 4, true, &[(0, 2), (2, 4), (6, 1)]),
+    (2, 5, false, &[(0, 2), (6, 1)]),
+    (1, 2, false, &[(0, 2), (6, 1)]),
+    (7, 1, true, &[(0, 2), (6, 1), (7, 1)]),
+    (6, 1, false, &[(0, 2), (6, 1)]),
+];
+
+#[test]
+fn ranges_beside_one_given_up(rt: HostRuntime) -> Result<(), Fail> {
+    for (first, length, free, left) in &HOLDS_BESIDE {
+        let mut extents = holding(&rt, rt.alloc(), &[(0, 2), (2, 3), (6, 1)])?;
+        release(&rt, &mut extents, 2, 3);
+        assert!(rt; are_held(&extents, &[(0, 2), (6, 1)]));
+        assert!(rt; *length > 0 && *first < MAX_BLOCKS && *length <= MAX_BLOCKS - *first);
+        assert_eq!(rt; extents.hold(*first, *length), Ok(*free), "{first}");
+        assert!(rt; are_held(&extents, *left), "{first}");
+    }
     Ok(())
 }

@@ -28,8 +28,9 @@
 //!
 //! Which peer it is doesn't matter. Of one that tells its history, each call says what the result
 //! is worth (`told`): bytes and refusals are the machine's, by the law [`reads_are_the_machines`].
-//! Where nobody changes the history meanwhile a read ends so unless it is cut off: by the server's
-//! disk, by the link or by a lack of memory (`complete` of each call, and [`reads_are_answered`]).
+//! Where nobody changes a right history meanwhile, a read by the keys of the user's own roots ends
+//! so unless it is cut off: by the server's disk, by the link or by a lack of memory (`complete` of
+//! each call, and [`reads_are_answered`]).
 //! The nine generations rise ([`moved_generations_rise`]).
 //!
 //! | file in `specs/` | says |

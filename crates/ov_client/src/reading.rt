@@ -115,8 +115,9 @@ impl Client {
     /// Asks for the chains from the user's two roots to the file's nodes, and then for its stored
     /// bytes, chunk after chunk. Where the file's surface changes meanwhile it begins again, nine
     /// times in all. The bytes are given only if the file's tag is theirs. A file without bytes
-    /// asks for no chunk. A peer that serves a right history, and that nobody else updates, cuts a
-    /// read off only by a fault of its disk or of the link, or where memory is refused.
+    /// asks for no chunk. Where the reader's keys are those of the user's roots, a peer that serves a
+    /// right history, and that nobody else updates, cuts a read off only by a fault of its disk or of
+    /// the link, or where memory is refused.
     pub fn fetch<P: Peer>(
         &self,
         alloc: Global,

@@ -11,7 +11,7 @@
 //! rose.
 //!
 //! * [`MemDisk`] keeps its calls and replays them. It fails at the calls that it is told to, a
-//!   write after as many of its bytes as it is told, and gives the image that a stop after any of
+//!   write after as many of its bytes as it is told, or after none, where memory is refused, and gives the image that a stop after any of
 //!   its calls may leave, torn by a [`Tear`]. A contract sees which calls fail and what each did. A
 //!   write for which memory is refused fails too, and puts nothing.
 //! * [`FileDisk`] is over two files. It tells nothing: that files keep what was synced is trusted.

@@ -1,9 +1,11 @@
 //! The call of an update behind a test that it may be made.
-ghost use Rattle.std.specs.Prelude.{◌≡◌, ◌<◌, ◌+◌, All, Contains, IfOk, IsTrue, OnOk, length, false, [], ◌∷◌};
+ghost use Rattle.std.specs.Prelude.{◌≡◌, ◌<◌, ◌≤◌, ◌+◌, All, Contains, IfOk, IsTrue, OnOk, length, false, [], ◌∷◌};
 ghost use Rattle.ov_disk.specs.Disk.{Only, Told};
 ghost use Rattle.ov_journal.specs.Log.{Stands};
 ghost use Rattle.ov_journal.specs.Standing.{IsUnborn};
 ghost use Rattle.ov_moves.specs.Placing.{HasNewText, HasPlaces, IsFiled, LiesIn};
+ghost use Rattle.ov_blocks.specs.declared.extents.Extent.{Extent};
+ghost use Rattle.ov_blocks.specs.declared.extents.TheConstants.{MAX_EXTENT_BLOCKS};
 
 use crate::turns::Record;
 use ov_base::Mode;
@@ -39,7 +41,8 @@ pub fn born<D: Disk>(alloc: Global, disk: &mut D) -> Result<Journal, CheckFault>
 fn is_held(extents: &Extents, extent: Extent) -> bool
     ensures { IsTrue result → Contains extents.now extent }
 {
-    extents.held().iter().any(|other| *other == extent)
+    let (front, back) = extents.held();
+    front.iter().any(|other| *other == extent) || back.iter().any(|other| *other == extent)
 }
 
 // Whether the file has its extent, if it has one.
@@ -70,12 +73,29 @@ fn has_new_text(text: &[u8], file: &Placed) -> bool
     file.first.is_some() || text.len() == file.length as usize
 }
 
+// Whether each of these extents is short enough beside a new one.
+fn are_short(extents: &[Extent]) -> bool
+    ensures { IsTrue result → All (λ (e : Extent). e.length ≤ MAX_EXTENT_BLOCKS) extents.now }
+{
+    extents
+        .iter()
+        .all(|extent| extent.length <= MAX_EXTENT_BLOCKS)
+}
+
 // Whether one more extent may be held.
 fn has_places(extents: &Extents) -> bool
     ensures { IsTrue result → HasPlaces 1 extents.now }
 {
-    let held = extents.held();
-    held.len() <= MAX_HELD as usize && held.iter().all(|e| e.length <= MAX_EXTENT_BLOCKS)
+    let (front, back) = extents.held();
+    let room = (MAX_HELD as usize).saturating_sub(back.len());
+    let fits = front.len() <= room && back.len() <= MAX_HELD as usize;
+    fits && are_short(front) && are_short(back)
+}
+
+/// Whether just this extent is held.
+pub fn is_alone(extents: &Extents, extent: Extent) -> bool {
+    let (front, back) = extents.held();
+    front.iter().chain(back).eq([extent].iter())
 }
 
 /// Moves one file.

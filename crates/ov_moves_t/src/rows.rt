@@ -3,7 +3,7 @@ ghost use Rattle.std.specs.Prelude.{◌≡◌, []};
 ghost use Rattle.ov_disk.specs.Disk.{Only, Told};
 ghost use Rattle.ov_journal.specs.Standing.{IsUnborn};
 
-use crate::asked::{born, rewrite_one};
+use crate::asked::{born, is_alone, rewrite_one};
 use crate::turns::{Each, Same};
 use ov_blocks::{Extent, Extents};
 use ov_disk::{Disk, MemDisk};
@@ -104,11 +104,11 @@ fn blocks_are_used_again(rt: HostRuntime) -> Result<(), Fail> {
         let mut extents = Extents::new(rt.alloc());
         let mut disk = MemDisk::new(rt.alloc());
         write(&rt, rt.alloc(), &mut extents, &mut disk, *times)?;
-        let held = [Extent {
+        let held = Extent {
             first: *first,
             length: 3,
-        }];
-        assert_eq!(rt; extents.held(), held.as_slice());
+        };
+        assert!(rt; is_alone(&extents, held));
         assert_eq!(rt; disk.blobs().len(), *length);
         expect_runs(&rt, disk.blobs(), *runs);
     }
@@ -125,11 +125,11 @@ fn faults_give_back_what_was_held(rt: HostRuntime) -> Result<(), Fail> {
         disk.fail_at(call)?;
         let done = write(&rt, rt.alloc(), &mut extents, &mut disk, 2);
         assert!(rt; done.is_err(), "{call}");
-        let held = [Extent {
+        let held = Extent {
             first: 0,
             length: 3,
-        }];
-        assert_eq!(rt; extents.held(), held.as_slice());
+        };
+        assert!(rt; is_alone(&extents, held));
         let (front, _) = disk.blobs().split_at(12_288.min(disk.blobs().len()));
         expect_runs(&rt, front, &[(8_193, 7), (4_095, 0)]);
     }

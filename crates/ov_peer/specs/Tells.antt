@@ -75,7 +75,7 @@ pub record AnswererTells (A : Type 0) : Type 1 where
   pub replies : A → List (List ℕ) → List ℕ → List ℕ → Type 0
   -- the epoch of a value
   pub epoch_of : A → ℕ
-  -- the value accepts no update any more, since its disk failed in one
+  -- the value accepts no update any more, as after one in which its disk failed
   pub stuck : A → Type 0
 
 -- An Update that is answered by this, that the disk failed in one, leaves the value stuck. A value

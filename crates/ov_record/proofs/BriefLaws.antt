@@ -25,10 +25,10 @@ use Rattle.ov_record.proofs.UpdateLaws.{grant_fields, grant_reads, GrantFits, re
 
 -- ---- briefs
 
-abbrev creation_fields : Form → (((List ℕ × ℕ) × List Token) × List ℕ) × ℕ → List ℕ
+abbrev pub creation_fields : Form → (((List ℕ × ℕ) × List Token) × List ℕ) × ℕ → List ℕ
 creation_fields form f = name_field f.0.0.0.0 ++ bytes_of (set_bytes form) f.0.0.0.1 ++ counted token_field f.0.0.1 ++ f.0.1 ++ u32 f.1
 
-abbrev CreationFits : Form → (((List ℕ × ℕ) × List Token) × List ℕ) × ℕ → Type 0
+abbrev pub CreationFits : Form → (((List ℕ × ℕ) × List Token) × List ℕ) × ℕ → Type 0
 CreationFits form f =
     (((IsName f.0.0.0.0 × IsBelow (8 * set_bytes form) f.0.0.0.1) × (IsCount (2 ^ 16) form.most_tokens (length f.0.0.1) × AllByRecursion IsToken f.0.0.1)) × (length f.0.1 ≡ 32))
     × IsCount (2 ^ 32) form.longest f.1
@@ -36,19 +36,19 @@ CreationFits form f =
 creation_reads : (form : Form) → Reads (creation_brief_at form) (creation_fields form) (CreationFits form) (longest_name + set_bytes form + (2 + form.most_tokens * 32) + 32 + 4)
 creation_reads form = then_reads (then_reads (then_reads (then_reads name_reads (set_reads (set_bytes form))) (counted_reads form.most_tokens token_reads)) (bytes_reads 32)) (that_reads wide32 (at_most form.longest))
 
-creation_kind : (form : Form) → IsKind (creation_fields form) (CreationFits form) (brief_spelling form) (HasBriefForm form) 2 creation_brief
+pub creation_kind : (form : Form) → IsKind (creation_fields form) (CreationFits form) (brief_spelling form) (HasBriefForm form) 2 creation_brief
 creation_kind form = record {
   form = λ f fits. (fits.0.0.0.0, fits.0.0.0.1, count_is (2 ^ 16) form.most_tokens (length f.0.0.1) fits.0.0.1.0, fits.0.0.1.1, fits.0.1, count_is (2 ^ 32) form.longest f.1 fits.1);
   spelled = λ f. refl;
 }
 
-grant_kind : (form : Form) → IsKind grant_fields GrantFits (brief_spelling form) (HasBriefForm form) 3 grant_brief
+pub grant_kind : (form : Form) → IsKind grant_fields GrantFits (brief_spelling form) (HasBriefForm form) 3 grant_brief
 grant_kind form = record { form = λ f fits. (fits.0.0, fits.0.1, fits.1); spelled = λ f. refl }
 
-revocation_kind : (form : Form) → IsKind revocation_fields RevocationFits (brief_spelling form) (HasBriefForm form) 4 revocation_brief
+pub revocation_kind : (form : Form) → IsKind revocation_fields RevocationFits (brief_spelling form) (HasBriefForm form) 4 revocation_brief
 revocation_kind form = record { form = λ f fits. fits; spelled = λ f. refl }
 
-enrolment_kind : (form : Form) → IsKind name_field IsName (brief_spelling form) (HasBriefForm form) 1 BriefEnrol
+pub enrolment_kind : (form : Form) → IsKind name_field IsName (brief_spelling form) (HasBriefForm form) 1 BriefEnrol
 enrolment_kind form = record { form = λ name is. is; spelled = λ name. refl }
 
 brief_takes : (form : Form) (bytes : List ℕ) (x : Brief × List ℕ) → AreBytes bytes → brief_at form bytes ≡ Ok x → HasBriefForm form x.0 × (bytes ≡ brief_spelling form x.0 ++ x.1)

@@ -1,2 +1,4 @@
 pub mod BriefLaws
+pub mod BriefPlaces
 pub mod UpdateLaws
+pub mod UpdatePlaces

@@ -19,10 +19,10 @@ use Rattle.ov_record.specs.Updates.{SealedUpdate, SealedEnrol, SealedCreate, Sea
 use Rattle.ov_record.specs.Spelling.{spelling, HasForm, IsWithinLimits}
 use Rattle.ov_record.specs.Reading.{creation, creation_at, grant, grant_at, revocation, revocation_at, update_at}
 
-abbrev creation_fields : Form → (((List ℕ × ℕ) × List Token) × List ℕ) × List ℕ → List ℕ
+abbrev pub creation_fields : Form → (((List ℕ × ℕ) × List Token) × List ℕ) × List ℕ → List ℕ
 creation_fields form f = name_field f.0.0.0.0 ++ bytes_of (set_bytes form) f.0.0.0.1 ++ counted token_field f.0.0.1 ++ f.0.1 ++ sized f.1
 
-abbrev CreationFits : Form → (((List ℕ × ℕ) × List Token) × List ℕ) × List ℕ → Type 0
+abbrev pub CreationFits : Form → (((List ℕ × ℕ) × List Token) × List ℕ) × List ℕ → Type 0
 CreationFits form f =
     (((IsName f.0.0.0.0 × IsBelow (8 * set_bytes form) f.0.0.0.1) × (IsCount (2 ^ 16) form.most_tokens (length f.0.0.1) × AllByRecursion IsToken f.0.0.1)) × (length f.0.1 ≡ 32))
     × (IsCount (2 ^ 32) form.longest (length f.1) × Unit {0})
@@ -30,7 +30,7 @@ CreationFits form f =
 creation_reads : (form : Form) → Reads (creation_at form) (creation_fields form) (CreationFits form) (longest_name + set_bytes form + (2 + form.most_tokens * 32) + 32 + (4 + form.longest))
 creation_reads form = then_reads (then_reads (then_reads (then_reads name_reads (set_reads (set_bytes form))) (counted_reads form.most_tokens token_reads)) (bytes_reads 32)) (sized_reads form.longest)
 
-creation_kind : (form : Form) → IsKind (creation_fields form) (CreationFits form) (spelling form) (HasForm form) 2 creation
+pub creation_kind : (form : Form) → IsKind (creation_fields form) (CreationFits form) (spelling form) (HasForm form) 2 creation
 creation_kind form = record {
   form = λ f fits. (fits.0.0.0.0, fits.0.0.0.1, count_is (2 ^ 16) form.most_tokens (length f.0.0.1) fits.0.0.1.0, fits.0.0.1.1, fits.0.1, count_is (2 ^ 32) form.longest (length f.1) fits.1.0);
   spelled = λ f. refl;
@@ -45,7 +45,7 @@ GrantFits f = ((f.0.0 < 2 ^ 32) × (f.0.1 < 2 ^ 32)) × IfSome f.1 IsToken
 pub grant_reads : Reads grant_at grant_fields GrantFits (4 + 4 + (1 + 32))
 grant_reads = then_reads (then_reads (number_reads wide32) (number_reads wide32)) (optional_reads token_reads)
 
-grant_kind : (form : Form) → IsKind grant_fields GrantFits (spelling form) (HasForm form) 3 grant
+pub grant_kind : (form : Form) → IsKind grant_fields GrantFits (spelling form) (HasForm form) 3 grant
 grant_kind form = record { form = λ f fits. (fits.0.0, fits.0.1, fits.1); spelled = λ f. refl }
 
 abbrev pub revocation_fields : ℕ × ℕ → List ℕ
@@ -57,10 +57,10 @@ RevocationFits f = (f.0 < 2 ^ 32) × (f.1 < 2 ^ 32)
 pub revocation_reads : Reads revocation_at revocation_fields RevocationFits (4 + 4)
 revocation_reads = then_reads (number_reads wide32) (number_reads wide32)
 
-revocation_kind : (form : Form) → IsKind revocation_fields RevocationFits (spelling form) (HasForm form) 4 revocation
+pub revocation_kind : (form : Form) → IsKind revocation_fields RevocationFits (spelling form) (HasForm form) 4 revocation
 revocation_kind form = record { form = λ f fits. fits; spelled = λ f. refl }
 
-enrolment_kind : (form : Form) → IsKind name_field IsName (spelling form) (HasForm form) 1 SealedEnrol
+pub enrolment_kind : (form : Form) → IsKind name_field IsName (spelling form) (HasForm form) 1 SealedEnrol
 enrolment_kind form = record { form = λ name is. is; spelled = λ name. refl }
 
 update_takes : (form : Form) (bytes : List ℕ) (x : SealedUpdate × List ℕ) → AreBytes bytes → update_at form bytes ≡ Ok x → HasForm form x.0 × (bytes ≡ spelling form x.0 ++ x.1)

@@ -1,6 +1,7 @@
--- What holds of all spellings.
-use Rattle.std.specs.Prelude.{ℕ, ◌≡◌, ◌≤◌, List, ◌++◌, length, Ok}
+-- What holds of all spellings, and of the places at which bytes are none.
+use Rattle.std.specs.Prelude.{ℕ, ◌≡◌, ◌≤◌, List, ◌++◌, length, Ok, Err}
 use Rattle.ov_base.specs.declared.limits.TheConstants.{MAX_FILES, MAX_RECORD_BYTES}
+use Rattle.ov_fields.specs.Fronts.{AreAllBytes, IsWrongPlace}
 use Rattle.ov_record.specs.Briefs.{Brief, brief}
 use Rattle.ov_record.specs.Forms.{Form, HasRoom, longest_spelling}
 use Rattle.ov_record.specs.Updates.{SealedUpdate}
@@ -74,3 +75,29 @@ RecordsFit =
     → HasStoredForm form count s
     → (1 ≤ length (stored_spelling form s))
     × (length (stored_spelling form s) ≤ MAX_RECORD_BYTES)
+
+-- ---- wrong places
+
+-- Where bytes spell no update, the place that is named is that of the first field that no spelling
+-- goes on with, or their end.
+abbrev pub BadUpdatesArePlaced : Type 0
+BadUpdatesArePlaced =
+    (form : Form) (bytes : List ℕ) (place : ℕ)
+    → HasRoom form → AreAllBytes bytes → update_of form bytes ≡ Err place
+    → IsWrongPlace (spelling form) (HasForm form) ⊥ bytes place
+
+-- Where no brief's spelling is at the front of bytes, the place that is named is that of the first
+-- field that none goes on with, or their end.
+abbrev pub BadFrontsArePlaced : Type 0
+BadFrontsArePlaced =
+    (form : Form) (bytes : List ℕ) (place : ℕ)
+    → HasRoom form → AreAllBytes bytes → brief_of form bytes ≡ Err place
+    → IsWrongPlace (brief_spelling form) (HasBriefForm form) ⊥ bytes place
+
+-- Where bytes spell no record with so many first blocks, the place that is named is that of the
+-- first field that no spelling of one goes on with, or their end.
+abbrev pub BadRecordsArePlaced : Type 0
+BadRecordsArePlaced =
+    (form : Form) (count : ℕ) (bytes : List ℕ) (place : ℕ)
+    → HasRoom form → AreAllBytes bytes → stored_of form count bytes ≡ Err place
+    → IsWrongPlace (stored_spelling form) (HasStoredForm form count) ⊥ bytes place

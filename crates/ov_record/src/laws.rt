@@ -1,5 +1,7 @@
-//! What holds of all spellings.
+//! What holds of all spellings, and of the places at which bytes are none.
 
+ghost use Rattle.ov_record.specs.Laws.{BadFrontsArePlaced, BadRecordsArePlaced};
+ghost use Rattle.ov_record.specs.Laws.{BadUpdatesArePlaced};
 ghost use Rattle.ov_record.specs.Laws.{BriefsAreRead, BriefsAreSpelledApart, BriefsBeginSpellings};
 ghost use Rattle.ov_record.specs.Laws.{RecordsAreRead, RecordsAreSpelledApart, RecordsFit};
 ghost use Rattle.ov_record.specs.Laws.{SpellingsAreRead, SpellingsFitRecords, UpdatesAreSpelledApart};
@@ -49,4 +51,22 @@ pub fn records_are_read()
 /// In each form of which the longest record fits, each does.
 pub fn records_fit()
     ensures { RecordsFit }
+{}
+
+/// The law of wrong places: where bytes spell no update, what stands before the place that is named
+/// goes on to a spelling, and with the field at it none does.
+pub fn bad_updates_are_placed()
+    ensures { BadUpdatesArePlaced }
+{}
+
+/// Where no brief is at the front of bytes, what stands before the place that is named goes on to
+/// the spelling of one, and with the field at it to none.
+pub fn bad_fronts_are_placed()
+    ensures { BadFrontsArePlaced }
+{}
+
+/// Where bytes are no record with so many first blocks, what stands before the place that is named
+/// goes on to the spelling of one, and with the field at it to none.
+pub fn bad_records_are_placed()
+    ensures { BadRecordsArePlaced }
 {}

@@ -6,17 +6,20 @@
 //! and with which limits of a creation; that of records and of frames is [`Form::FIRST`]. In each
 //! form an update has one spelling (`spelling` in `specs/Spelling`), [`write`] appends it, and
 //! [`read`] gives the update exactly where the bytes are its spelling. Elsewhere `read` names the
-//! place of the first field that no spelling continues, or the end, as `specs/Reading` says. No
-//! spelling is the front of another's ([`updates_are_spelled_apart`]), and each fits a record
-//! ([`spellings_fit_records`]).
+//! place of the first field that no spelling continues, or the end, as `specs/Reading` says: what
+//! stands before the place goes on to a spelling, and with the field at it none does
+//! ([`bad_updates_are_placed`]). No spelling is the front of another's
+//! ([`updates_are_spelled_apart`]), and each fits a record ([`spellings_fit_records`]).
 //!
 //! A store that keeps the bytes of its files apart from its records spells an update as a
 //! [`Brief`], which ends before those bytes, and then the first block of each file whose stored
 //! bytes are new: [`Stored`], by `specs/Stored`. [`read_brief`] gives the update at the front and
 //! how many bytes spell it, by which a caller learns how many first blocks follow; [`read_stored`]
-//! gives the record with as many, and [`write_stored`] appends it. An update's spelling is that of
-//! its brief, and then the bytes of its file ([`briefs_begin_spellings`]). The laws of these
-//! spellings are as those above. `ov_updating` writes such records, and `ov_placed` reads them.
+//! gives the record with as many, and [`write_stored`] appends it. Both readers name the place of
+//! the first field that no such spelling continues, or the end ([`bad_fronts_are_placed`],
+//! [`bad_records_are_placed`]). An update's spelling is that of its brief, and then the bytes of
+//! its file ([`briefs_begin_spellings`]). The laws of these spellings are as those above.
+//! `ov_updating` writes such records, and `ov_placed` reads them.
 //!
 //! [`user_entry`], [`node_entry`], [`access_entry`] and [`file_entry`] append entries of the public
 //! catalogue, by `specs/Entries` of ov_fields.
@@ -43,9 +46,9 @@ pub use entries::{access_entry, file_entry, node_entry, user_entry};
 pub use fault::RecordFault;
 pub use forms::Form;
 pub use laws::{
-    briefs_are_read, briefs_are_spelled_apart, briefs_begin_spellings, records_are_read,
-    records_are_spelled_apart, records_fit, spellings_are_read, spellings_fit_records,
-    updates_are_spelled_apart,
+    bad_fronts_are_placed, bad_records_are_placed, bad_updates_are_placed, briefs_are_read,
+    briefs_are_spelled_apart, briefs_begin_spellings, records_are_read, records_are_spelled_apart,
+    records_fit, spellings_are_read, spellings_fit_records, updates_are_spelled_apart,
 };
 pub use reading::read;
 pub use stored::Stored;

@@ -34,8 +34,9 @@
 //! once and no other, and those of one pass in the order in which it asked
 //! ([`the_log_is_what_sessions_accepted`]). Each reply of each session is the value's after a first
 //! part of the list, which goes on by the request's own update where that was accepted, and is the
-//! whole list where the reply says that the disk failed in an update: so no session's update is
-//! accepted after that ([`sessions_are_told_one_history`]). [`sessions_leave_values`] says both of a
+//! whole list where the reply says that the disk failed in an update. So, where replies tell after
+//! which updates they are, as a server's do by the epoch, no session's update is accepted after it
+//! ([`sessions_are_told_one_history`]). [`sessions_leave_values`] says both of a
 //! value that came back.
 //!
 //! `start`, `finish` and `serve` are functions and no methods of a trait: the kit proves a function

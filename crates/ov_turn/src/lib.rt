@@ -29,7 +29,7 @@
 //!   update at its end exactly where the reply is an Accepted. So a pass's own updates in what it
 //!   has seen are those of its accepted calls, each once.
 //! * Once an update was answered by this, that the disk failed, none is accepted any more, whichever
-//!   pass asks it: the list stays what the pass that was told so had seen then.
+//!   pass asks it (of its own each call says so, and of the others `close`): the list stays what the pass that was told so had seen then.
 //! * Where memory is refused nothing is accepted; the call counts, and the pass has seen the list.
 //! * A pass that has asked 4,294,967,295 times is spent: it asks nothing and stays as it is.
 //! * [`Shared::epoch`] takes no `Wait`. The epoch that it gives is no less than the one told

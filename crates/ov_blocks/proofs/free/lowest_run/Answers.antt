@@ -1,6 +1,6 @@
 use Rattle.std.proofs.Common.{◌≡◌, drop, sym, subst, arith}
 use Rattle.ov_blocks.specs.Extents.{AreApart, IsFree}
-use Rattle.ov_blocks.proofs.Lowest.{lowest_in, free, lowest, near, bound, early}
+use Rattle.ov_blocks.proofs.Lowest.{lowest_in, free, lowest}
 use Rattle.ov_blocks.proofs.Fronts.{found_behind, none_before, rest_apart, rest_whole}
 use Rattle.ov_blocks.proofs.free.lowest_run.Goals as goal
 
@@ -23,24 +23,8 @@ at_lowest c =
     (λ first ge lt is. c.lowest_behind.ensures.lowest first (omega (arith, ge, c.end_before.ensures)) lt
     (subst (λ l. IsFree first c.args.blocks l) (sym (rest_whole c.args.held.now start)) is))
 
-pub returns-clause-free : goal.returns-clause-free
-returns-clause-free c = subst (λ n. IsFree n c.args.blocks c.args.held.now) (sym (at_lowest c)) (free 0 c.args.blocks c.args.held.now c.requires.apart)
-
-pub returns-clause-lowest : goal.returns-clause-lowest
-returns-clause-lowest c first lt = lowest 0 c.args.blocks c.args.held.now first (omega arith) (omega (arith, lt, at_lowest c))
-
-pub returns-clause-end : goal.returns-clause-end
-returns-clause-end c =
-    let first = at_lowest c in
-    let begins = early 0 c.args.blocks c.args.held.now c.requires.short.new_short c.requires.short.short in
-    omega (arith, first, begins, c.requires.short.few, c.requires.short.new_short)
-
-pub returns-clause-near : goal.returns-clause-near
-returns-clause-near c =
-    let first = at_lowest c in
-    omega (arith, first, near 0 c.args.blocks c.args.held.now c.requires.apart)
-
-pub returns-clause-bound : goal.returns-clause-bound
-returns-clause-bound c =
-    let first = at_lowest c in
-    omega (arith, first, bound 0 c.args.blocks c.args.held.now c.requires.apart)
+pub returns : goal.returns
+returns c = record {
+  free = subst (λ n. IsFree n c.args.blocks c.args.held.now) (sym (at_lowest c)) (free 0 c.args.blocks c.args.held.now c.requires.apart);
+  lower = λ other lt. lowest 0 c.args.blocks c.args.held.now other (omega arith) (omega (arith, lt, at_lowest c));
+}

@@ -1,36 +1,18 @@
-use Rattle.std.proofs.Common.{◌≡◌, ◌+◌, ◌≤◌, ℕ, List, sym, ◌∙◌, subst, arith}
-use Rattle.std.specs.List.{insert}
-use Rattle.ov_blocks.specs.declared.extents.Extent.{Extent}
-use Rattle.ov_blocks.specs.declared.extents.TheConstants.{MAX_BLOCKS}
-use Rattle.ov_blocks.specs.Extents.{AreApart, IsFree, IsWith}
-use Rattle.ov_blocks.specs.Gaps.{IsPacked}
+use Rattle.std.proofs.Common.{◌≡◌, sym, ◌∙◌, ap, subst}
+use Rattle.std.specs.List.{remove}
+use Rattle.ov_blocks.specs.Extents.{IsFree, IsWith}
 use Rattle.ov_blocks.specs.Places.{IsBetween}
-use Rattle.ov_blocks.proofs.Places.{is_free, inserted, is_with}
+use Rattle.ov_blocks.specs.Slots.{without}
+use Rattle.ov_blocks.proofs.Places.{is_free, is_with, removed}
 use Rattle.ov_blocks.proofs.extents.Extents.hold.Goals as goal
 
-now_apart : (old new : List Extent) (place first count : ℕ) → AreApart 0 old → 1 ≤ count → first + count ≤ MAX_BLOCKS → IsBetween place first count old
-    → new ≡ insert old place (record { first = first; length = count }) → AreApart 0 new
-now_apart old new place first count apart some ends between is =
-    subst (AreApart 0) (sym is) (inserted 0 old place (record { first = first; length = count }) apart (omega arith) some ends between)
-
-pub further-self-inside-requires-clause-apart : goal.further-self-inside-requires-clause-apart
-further-self-inside-requires-clause-apart c =
-    now_apart c.self.inside.held.items c.deref-4.result.now c.count_before-place.result c.args.first c.args.length c.self.invariant.0 c.requires.some c.requires.within
-    (subst (λ l. IsBetween c.count_before-place.result c.args.first c.args.length l) c.deref-2.ensures.value c.if-not-is_free.ensures)
-    (c.deref-4.ensures.value ∙ c.in_ok-insert.ensures.items)
-
-pub invariant_of-self-2 : goal.invariant_of-self-2
-invariant_of-self-2 c = (
-  now_apart c.self.inside.held.items c.insert.new.self.items c.count_before-place.result c.args.first c.args.length c.self.invariant.0 c.requires.some c.requires.within
-      (subst (λ l. IsBetween c.count_before-place.result c.args.first c.args.length l) c.deref-2.ensures.value c.if-not-is_free.ensures)
-      c.in_ok-insert.ensures.items,
-  subst (λ l. IsPacked c.further-self-inside.result l) c.deref-4.ensures.value c.further-self-inside.ensures,
-)
-
-pub returns-clause-ok : goal.returns-clause-ok
-returns-clause-ok c =
-    subst (λ l. IsFree c.args.first c.args.length l × IsWith (record { first = c.args.first; length = c.args.length }) l c.insert.new.self.items) c.self.view_is (
-      is_free 0 c.self.inside.held.items c.count_before-place.result c.args.first c.args.length c.self.invariant.0
-          (subst (λ l. IsBetween c.count_before-place.result c.args.first c.args.length l) c.deref-2.ensures.value c.if-not-is_free.ensures),
-      is_with (record { first = c.args.first; length = c.args.length }) c.self.inside.held.items c.insert.new.self.items c.count_before-place.result c.in_ok-insert.ensures.items,
+pub returns-then-fits-clause-ok : goal.returns-then-fits-clause-ok
+returns-then-fits-clause-ok c =
+    let slots = c.self.inside.slots in
+    let place = c.in-Some.place in
+    let view : remove slots place ≡ c.args.self.now = sym (ap (λ g. without g slots) c.in-Some.is) ∙ c.self.view_is in
+    let between = subst (λ l. IsBetween place c.args.first c.args.length (remove l place)) c.as_slice.ensures.same c.if-fits.ensures in
+    subst (λ l. IsFree c.args.first c.args.length l × IsWith (record { first = c.args.first; length = c.args.length }) l c.replace.new.self) view (
+      is_free 0 (remove slots place) place c.args.first c.args.length (removed 0 slots place c.as_slice.ensures.apart) between,
+      is_with (record { first = c.args.first; length = c.args.length }) (remove slots place) c.replace.new.self place c.replace.ensures,
     )

@@ -1,7 +1,7 @@
 use Rattle.std.proofs.Common.{sym, subst}
 use Rattle.ov_blocks.specs.Places.{TellsNone}
 use Rattle.ov_blocks.proofs.GivenUp.{found}
-use Rattle.ov_blocks.proofs.extents.is_none_of.Goals as goal
+use Rattle.ov_blocks.proofs.slots.is_none_of.Goals as goal
 
 pub returns : goal.returns
 returns c =
