@@ -34,7 +34,7 @@ fn is_held(extents: &Extents, extent: Extent) -> bool
     ensures { IsTrue result → Contains extents.now extent }
 {
     let (front, back) = extents.held();
-    front.iter().any(|other| *other == extent) || back.iter().any(|other| *other == extent)
+    front.iter().chain(back).any(|other| *other == extent)
 }
 
 /// How many extents are held.
@@ -85,7 +85,7 @@ fn begins_one(extents: &Extents, block: &u32) -> bool
     ensures { IsTrue result → BeginsOne extents.now block.now }
 {
     let (front, back) = extents.held();
-    front.iter().any(|one| one.first == *block) || back.iter().any(|one| one.first == *block)
+    front.iter().chain(back).any(|one| one.first == *block)
 }
 
 // Whether an extent that is held begins at each of these blocks.

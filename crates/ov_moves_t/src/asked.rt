@@ -42,7 +42,7 @@ fn is_held(extents: &Extents, extent: Extent) -> bool
     ensures { IsTrue result → Contains extents.now extent }
 {
     let (front, back) = extents.held();
-    front.iter().any(|other| *other == extent) || back.iter().any(|other| *other == extent)
+    front.iter().chain(back).any(|other| *other == extent)
 }
 
 // Whether the file has its extent, if it has one.
