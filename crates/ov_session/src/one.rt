@@ -34,8 +34,8 @@ enum Stop {
     Spent,
 }
 
-/// What a session keeps between two pieces. The frames are empty then: their list stays for its
-/// memory alone.
+/// What a session keeps between two pieces. The list of frames is empty then, since a session that
+/// waits shouldn't hold a frame, but it keeps its memory.
 #[derive(Drop)]
 struct Reading {
     decoder: Decoder,

@@ -4,7 +4,7 @@ use Rattle.std.specs.List.{flat_map, AllByRecursion}
 use Rattle.std.proofs.lemmas.List.{append-nil}
 use Rattle.std.proofs.lemmas.Grind.{flat_map-append}
 use Rattle.std.proofs.Math.ListN.{set}
-use Rattle.std.proofs.Math.Seq.{set-append_seam, take-append_seam}
+use Rattle.std.proofs.Math.Seq.{set-append_seam}
 use Rattle.ov_fields.specs.Spelling.{u32}
 use Rattle.ov_wire.specs.declared.state.State.{State}
 use Rattle.ov_wire.specs.declared.state.State.TheVariants as states
@@ -46,18 +46,6 @@ cuts_on bytes before now count filled head rest frame after head' here is c =
       little = omega arith;
       room = omega (arith, ap length parts, length-append (flat_map framed (frames ++ frame ∷ [])) after, sum, c.counted);
     }
-
--- where no whole frame is left, the rest is what the state keeps
-pub cut_off : (bytes : List ℕ) (before after : List (List ℕ)) (count filled : ℕ) (head rest : List ℕ) (state : State)
-    → CutsOn bytes before after count filled head rest
-    → ((frames : List (List ℕ)) → IsCut bytes frames (take filled head ++ rest) → StateCut bytes frames state)
-    → CutsOff bytes before after count state
-cut_off bytes before after count filled head rest state c ends =
-    record { frames = c.frames; appended = c.appended; cutting = record { cut = ends c.frames c.cut; counted = c.counted } }
-
--- what stood in the list at first stands there still
-pub front_stands : (before after frames : List (List ℕ)) → after ≡ before ++ frames → take (length before) after ≡ before
-front_stands before after frames is = rw is (take-append_seam before frames)
 
 -- bytes and frames that were cut, behind one frame more
 cut_behind : (frame bytes : List ℕ) (frames : List (List ℕ)) (rest : List ℕ) → IsFrame frame → IsCut bytes frames rest → IsCut (framed frame ++ bytes) (frame ∷ frames) rest

@@ -49,9 +49,9 @@ fn complete(
     let mut body = body;
     let (len, at) = (body.len(), frames.len());
     match append_all(alloc, &mut body, front, rest, frames) {
-        Ok(Cut { len: used, state }) => {
+        Ok(cut) => {
             frames[at] = Octets::from_vec(body);
-            (state, Ok(used + 4 + wanted as u64))
+            (cut.state, Ok(cut.len + 4 + wanted as u64))
         }
         Err(memory) => {
             body.truncate(len);
@@ -103,7 +103,7 @@ fn advance_length(
 {
     let len = frames.len();
     match cut_all(alloc, head, filled, piece, frames) {
-        Ok(Cut { len: used, state }) => (state, Ok(used)),
+        Ok(cut) => (cut.state, Ok(cut.len)),
         Err(memory) => {
             frames.truncate(len);
             (State::Length { head, filled }, Err(memory))

@@ -67,6 +67,7 @@ fn find_behind(head: [u8; 4], bytes: &[u8]) -> Found<'_>
 }
 
 /// How many bytes frames and their length fields have, and what comes after them.
+#[derive(Drop)]
 pub struct Cut {
     pub len: u64,
     pub state: State,
