@@ -15,10 +15,12 @@ pub fn reply_with(answer: Result<Answer, Memory>, reply: &mut Vec<u8>) -> Result
         ((a : Answer) × (answer ≡ Ok a) × (reply.new.items ≡ answer_bytes a)) }
     ensures err { OnErr result (reply.new.items ≡ []) }
 {
-    reply.clear();
     match answer {
         Ok(answer) => write_answer(&answer, reply),
-        Err(Memory) => Err(Memory),
+        Err(Memory) => {
+            reply.clear();
+            Err(Memory)
+        }
     }
 }
 

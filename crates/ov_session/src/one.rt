@@ -1,5 +1,5 @@
 //! One session: frames that are answered in order.
-ghost use Rattle.std.specs.Prelude.{◌≡◌, ◌≤◌, ℕ, [], false, IfOk};
+ghost use Rattle.std.specs.Prelude.{◌≡◌, ◌≤◌, ℕ, [], false, IfOk, OnOk};
 ghost use Rattle.std.specs.List.{AllByRecursion};
 ghost use Rattle.ov_wire.specs.Frames.{IsFrame};
 ghost use Rattle.ov_session.specs.Ends.{Serves};
@@ -34,12 +34,13 @@ enum Stop {
     Spent,
 }
 
-/// What a session keeps between two pieces.
+/// What a session keeps between two pieces. The list of frames is empty then, since a session that
+/// waits shouldn't hold a frame, but it keeps its memory.
 #[derive(Drop)]
 struct Reading {
-    alloc: Global,
     decoder: Decoder,
     room: [u8; PIECE],
+    frames: Vec<Octets>,
     reply: Vec<u8>,
     taken: u64,
     asked: u32,
@@ -49,13 +50,13 @@ impl Reading {
     fn new(alloc: Global) -> Result<Reading, Memory>
         ensures { IfOk result (λ r.
             (r.decoder ≡ record { start = 0; rest = []; bad = false }) × (r.taken ≡ 0)
-            × (r.asked ≡ 0)) }
+            × (r.asked ≡ 0) × (r.frames.items ≡ [])) }
     {
         let decoder = Decoder::new(alloc)?;
         Ok(Reading {
-            alloc,
             decoder,
             room: [0; PIECE],
+            frames: Vec::new(alloc),
             reply: Vec::new(alloc),
             taken: 0,
             asked: 0,
@@ -172,7 +173,8 @@ fn read_on<R: Wait, L: Stream, A: Asker, G: Gate>(
     asker: &mut A,
     reading: &mut Reading,
 ) -> Result<(), SessionEnd>
-    requires { A.tells.ready asker.old }
+    requires ready { A.tells.ready asker.old }
+    requires empty { reading.old.frames.items ≡ [] }
     ensures goes { (a : A × ℕ) (old : Link)
         → Going (gated A.tells (G.was_told desk.now.gate.now desk.now.session A))
         a (asker.old, reading.old.asked) old (link L.Source.tells L.Sink.tells stream.old)
@@ -186,6 +188,7 @@ fn read_on<R: Wait, L: Stream, A: Asker, G: Gate>(
     ensures same { IsSameLoan L.Source.tells L.Sink.tells stream.old stream.new }
     ensures ready { A.tells.ready asker.new }
     ensures asker { A.tells.borrow asker.new ≡ A.tells.borrow asker.old }
+    ensures empty { OnOk result (reading.new.frames.items ≡ []) }
 {
     let count = match stream.take(&mut reading.room) {
         Ok(count) => count,
@@ -195,12 +198,14 @@ fn read_on<R: Wait, L: Stream, A: Asker, G: Gate>(
         return Err(reading.at_end());
     }
     reading.taken = reading.taken.saturating_add(count as u64);
-    let mut frames = Vec::new(reading.alloc);
     let (piece, _) = reading.room.split_at(count);
-    let fed = reading.decoder.feed(piece, &mut frames);
+    let fed = reading.decoder.feed(piece, &mut reading.frames);
     let (reply, asked) = (&mut reading.reply, &mut reading.asked);
-    match answer_each(desk, stream, asker, &frames, reply, asked) {
-        Ok(()) => go_on(fed),
+    match answer_each(desk, stream, asker, &reading.frames, reply, asked) {
+        Ok(()) => {
+            reading.frames.clear();
+            go_on(fed)
+        }
         Err(stop) => Err(end_of(stop)),
     }
 }

@@ -9,7 +9,7 @@ use Rattle.ov_fields.specs.Spelling.{u32}
 use Rattle.ov_wire.specs.declared.state.State.{State}
 use Rattle.ov_wire.specs.declared.state.State.TheVariants as states
 use Rattle.ov_wire.specs.Frames.{framed, IsFrame, IsFrameLength, IsCut, in_length, in_frame, Decoding, Feeds, state_rest, is_bad, verdict}
-use Rattle.ov_wire.specs.Cutting.{StateCut, IsCutting, Advances}
+use Rattle.ov_wire.specs.Cutting.{StateCut, IsCutting, CutsOff, Advances}
 
 -- one frame more
 all_more : (frames : List (List ℕ)) (frame : List ℕ) → AllByRecursion IsFrame frames → IsFrame frame → AllByRecursion IsFrame (frames ++ frame ∷ [])
@@ -19,23 +19,28 @@ all_more (f ∷ frames) frame all is = (all.0, all_more frames frame all.1 is)
 joined_more : (frames : List (List ℕ)) (frame : List ℕ) → flat_map framed (frames ++ frame ∷ []) ≡ flat_map framed frames ++ framed frame
 joined_more frames frame = flat_map-append framed frames (frame ∷ []) ∙ ap (λ (l : List ℕ). flat_map framed frames ++ l) (append-nil (framed frame))
 
--- what is kept while bytes are cut
-pub record CutsOn (bytes : List ℕ) (frames : List (List ℕ)) (count filled : ℕ) (head rest : List ℕ) : Type 0 where
+-- what is kept while bytes are cut: before stood in the list at first, and after stands there now
+pub record CutsOn (bytes : List ℕ) (before after : List (List ℕ)) (count filled : ℕ) (head rest : List ℕ) : Type 0 where
+  pub frames : List (List ℕ)
+  pub appended : after ≡ before ++ frames
   pub cut : IsCut bytes frames (take filled head ++ rest)
   pub counted : count ≡ length (flat_map framed frames)
   pub little : filled < 4
   pub room : count + filled + length rest ≡ length bytes
 
-pub cuts_on : (bytes : List ℕ) (frames : List (List ℕ)) (count filled : ℕ) (head rest frame after head' : List ℕ)
-    → take filled head ++ rest ≡ framed frame ++ after → IsFrame frame → CutsOn bytes frames count filled head rest
-    → CutsOn bytes (frames ++ frame ∷ []) (count + (4 + length frame)) 0 head' after
-cuts_on bytes frames count filled head rest frame after head' here is c =
+pub cuts_on : (bytes : List ℕ) (before now : List (List ℕ)) (count filled : ℕ) (head rest frame after head' : List ℕ)
+    → take filled head ++ rest ≡ framed frame ++ after → IsFrame frame → CutsOn bytes before now count filled head rest
+    → CutsOn bytes before (now ++ frame ∷ []) (count + (4 + length frame)) 0 head' after
+cuts_on bytes before now count filled head rest frame after head' here is c =
+    let frames = c.frames in
     let more = joined_more frames frame in
     let parts : bytes ≡ flat_map framed (frames ++ frame ∷ []) ++ after =
     c.cut.parts ∙ ap (λ (l : List ℕ). flat_map framed frames ++ l) here ∙ sym (append_assoc (flat_map framed frames) (framed frame) after) ∙ ap (λ (l : List ℕ). l ++ after) (sym more) in
     let sum : length (flat_map framed (frames ++ frame ∷ [])) ≡ length (flat_map framed frames) + (4 + length frame) =
     ap length more ∙ length-append (flat_map framed frames) (framed frame) ∙ ap (λ (n : ℕ). length (flat_map framed frames) + n) (omega arith) in
     record {
+      frames = frames ++ frame ∷ [];
+      appended = ap (λ (l : List (List ℕ)). l ++ frame ∷ []) c.appended ∙ append_assoc before frames (frame ∷ []);
       cut = record { parts = parts; each = all_more frames frame c.cut.each is };
       counted = omega (arith, c.counted, sum);
       little = omega arith;
@@ -55,7 +60,7 @@ state_behind frame bytes frames (states.Frame wanted body) is c = (cut_behind fr
 state_behind frame bytes frames states.Bad is c = (c.0, cut_behind frame bytes frames c.0 is c.1, c.2)
 
 -- a frame that is whole now, and what was cut behind it
-pub completed : (wanted : ℕ) (body front rest : List ℕ) (fresh : List (List ℕ)) (count : ℕ) (state : State)
+completed : (wanted : ℕ) (body front rest : List ℕ) (fresh : List (List ℕ)) (count : ℕ) (state : State)
     → IsFrameLength wanted → length body + length front ≡ wanted → IsCutting rest fresh count state
     → IsCutting ((u32 wanted ++ body) ++ (front ++ rest)) ((body ++ front) ∷ fresh) (count + 4 + wanted) state
 completed wanted body front rest fresh count state fits whole c =
@@ -107,6 +112,18 @@ has_fed start next used old states.Bad piece before after good is a =
     })
 
 -- the first frame in its place
-pub first_put : (frames after fresh : List (List ℕ)) (place : ℕ) (put first : List ℕ) → after ≡ frames ++ ([] ∷ fresh) → place ≡ length frames → put ≡ first
+first_put : (frames after fresh : List (List ℕ)) (place : ℕ) (put first : List ℕ) → after ≡ frames ++ ([] ∷ fresh) → place ≡ length frames → put ≡ first
     → set after place put ≡ frames ++ (first ∷ fresh)
 first_put frames after fresh place put first p q r = rw (p, q, r) (set-append_seam frames [] fresh first)
+
+-- the frame that is whole now in its place, and what was cut behind it
+pub completes : (wanted : ℕ) (body front rest : List ℕ) (before now : List (List ℕ)) (place count : ℕ) (put : List ℕ) (state : State)
+    → IsFrameLength wanted → length body + length front ≡ wanted → CutsOff rest (before ++ [] ∷ []) now count state
+    → place ≡ length before → put ≡ body ++ front
+    → CutsOff ((u32 wanted ++ body) ++ (front ++ rest)) before (set now place put) (count + 4 + wanted) state
+completes wanted body front rest before now place count put state fits whole c at is =
+    record {
+      frames = (body ++ front) ∷ c.frames;
+      appended = first_put before now c.frames place put (body ++ front) (c.appended ∙ append_assoc before ([] ∷ []) c.frames) at is;
+      cutting = completed wanted body front rest c.frames count state fits whole c.cutting;
+    }

@@ -32,12 +32,17 @@ pub record IsCutting (bytes : List ℕ) (frames : List (List ℕ)) (count : ℕ)
   pub cut : StateCut bytes frames state
   pub counted : count ≡ length (flat_map framed frames)
 
--- new frames were appended
-pub record Advances (old new : State) (piece : List ℕ) (before after : List (List ℕ))
-    (used : ℕ) : Type 0 where
+-- the frames that bytes hold were appended
+pub record CutsOff (bytes : List ℕ) (before after : List (List ℕ)) (count : ℕ)
+    (state : State) : Type 0 where
   pub frames : List (List ℕ)
   pub appended : after ≡ before ++ frames
-  pub cutting : IsCutting (state_rest old ++ piece) frames used new
+  pub cutting : IsCutting bytes frames count state
+
+-- a piece was taken, and the frames that are whole then were appended
+abbrev pub Advances : State → State → List ℕ → List (List ℕ) → List (List ℕ) → ℕ → Type 0
+Advances old new piece before after used =
+    CutsOff (state_rest old ++ piece) before after used new
 
 -- nothing was taken
 pub record Keeps (old new : State) (before after : List (List ℕ)) : Type 0 where

@@ -1,7 +1,7 @@
 //! What a piece of a stream does to the frame that isn't whole.
 
-ghost use Rattle.std.specs.Prelude.{◌≡◌, ◌+◌, ◌≤◌, ◌++◌, ◌∷◌, [], false, length, OnErr, OnOk, MatchResult};
-ghost use Rattle.ov_wire.specs.Cutting.{Advances, IsCutting, Keeps};
+ghost use Rattle.std.specs.Prelude.{◌≡◌, ◌+◌, ◌≤◌, ◌++◌, ◌∷◌, [], false, length, take, IfOk, OnOk, MatchResult};
+ghost use Rattle.ov_wire.specs.Cutting.{Advances, CutsOff, Keeps};
 ghost use Rattle.ov_wire.specs.Frames.{IsState, is_bad};
 
 use crate::cutting::{Cut, cut_all};
@@ -9,65 +9,55 @@ use crate::state::State;
 use ov_base::{Memory, Octets};
 use std::alloc::Global;
 
-/// Appends an empty frame and these, or nothing.
-fn append_behind(
+/// Appends the front to the body, an empty frame in the place of the body, and the frames that the
+/// rest holds. Where memory was refused, a part of this may have been appended.
+fn append_all(
     alloc: Global,
+    body: &mut Vec<u8>,
+    front: &[u8],
+    rest: &[u8],
     frames: &mut Vec<Octets>,
-    fresh: &mut Vec<Octets>,
-) -> Result<(), Memory>
-    ensures ok { OnOk result (frames.new.items ≡ frames.old.items ++ ([] ∷ fresh.old.items)) }
-    ensures err { OnErr result (frames.new.items ≡ frames.old.items) }
+) -> Result<Cut, Memory>
+    ensures whole { OnOk result (body.new.items ≡ body.old.items ++ front.now) }
+    ensures ok { IfOk result (λ cut. CutsOff rest.now (frames.old.items ++ ([] ∷ []))
+        frames.new.items cut.len cut.state) }
+    ensures room { IfOk result (λ cut. cut.len ≤ length rest.now + 3) }
+    ensures body { take (length body.old.items) body.new.items ≡ body.old.items }
+    ensures frames { take (length frames.old.items) frames.new.items ≡ frames.old.items }
 {
-    let len = frames.len();
+    body.extend_from_slice(front)?;
     frames.push(Octets::new(alloc))?;
-    match frames.append(fresh) {
-        Ok(()) => Ok(()),
-        Err(_) => {
-            frames.truncate(len);
-            Err(Memory)
-        }
-    }
+    cut_all(alloc, [0; 4], 0, rest, frames)
 }
 
-/// The frame that is whole now, and those behind it: `cut` is what `rest` holds.
+/// The frame that is whole now, and those behind it.
 fn complete(
     alloc: Global,
     wanted: usize,
     body: Vec<u8>,
     front: &[u8],
     rest: &[u8],
-    cut: Cut,
     frames: &mut Vec<Octets>,
 ) -> (State, Result<u64, Memory>)
     requires state { IsState (State.Frame wanted body) }
     requires whole { length body.items + length front.now ≡ wanted }
-    requires cut { IsCutting rest.now cut.frames.items cut.len cut.state }
-    requires room { cut.len ≤ length rest.now + 3 }
     ensures { MatchResult result.1
         (λ used. Advances (State.Frame wanted body) result.0 (front.now ++ rest.now)
         frames.old.items frames.new.items used)
         (λ _. Keeps (State.Frame wanted body) result.0 frames.old.items frames.new.items) }
 {
     let mut body = body;
-    let len = body.len();
-    let at = frames.len();
-    let Cut {
-        frames: mut fresh,
-        len: used,
-        state,
-    } = cut;
-    match body.extend_from_slice(front) {
-        Err(_) => (State::Frame { wanted, body }, Err(Memory)),
-        Ok(()) => match append_behind(alloc, frames, &mut fresh) {
-            Err(_) => {
-                body.truncate(len);
-                (State::Frame { wanted, body }, Err(Memory))
-            }
-            Ok(()) => {
-                frames[at] = Octets::from_vec(body);
-                (state, Ok(used + 4 + wanted as u64))
-            }
-        },
+    let (len, at) = (body.len(), frames.len());
+    match append_all(alloc, &mut body, front, rest, frames) {
+        Ok(cut) => {
+            frames[at] = Octets::from_vec(body);
+            (cut.state, Ok(cut.len + 4 + wanted as u64))
+        }
+        Err(memory) => {
+            body.truncate(len);
+            frames.truncate(at);
+            (State::Frame { wanted, body }, Err(memory))
+        }
     }
 }
 
@@ -94,10 +84,7 @@ fn advance_frame(
         };
     }
     let (front, rest) = piece.split_at(missing);
-    match cut_all(alloc, [0; 4], 0, rest) {
-        Ok(cut) => complete(alloc, wanted, body, front, rest, cut, frames),
-        Err(memory) => (State::Frame { wanted, body }, Err(memory)),
-    }
+    complete(alloc, wanted, body, front, rest, frames)
 }
 
 /// More of a length field, and what is behind it.
@@ -114,19 +101,13 @@ fn advance_length(
         frames.old.items frames.new.items used)
         (λ _. Keeps (State.Length head filled) result.0 frames.old.items frames.new.items) }
 {
-    match cut_all(alloc, head, filled, piece) {
-        Ok(cut) => {
-            let Cut {
-                frames: mut fresh,
-                len: used,
-                state,
-            } = cut;
-            match frames.append(&mut fresh) {
-                Ok(()) => (state, Ok(used)),
-                Err(_) => (State::Length { head, filled }, Err(Memory)),
-            }
+    let len = frames.len();
+    match cut_all(alloc, head, filled, piece, frames) {
+        Ok(cut) => (cut.state, Ok(cut.len)),
+        Err(memory) => {
+            frames.truncate(len);
+            (State::Length { head, filled }, Err(memory))
         }
-        Err(memory) => (State::Length { head, filled }, Err(memory)),
     }
 }
 

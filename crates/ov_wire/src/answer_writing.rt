@@ -1,6 +1,6 @@
 //! Writing answers.
 
-ghost use Rattle.std.specs.Prelude.{◌≡◌, ◌≤◌, ◌∷◌, ◌++◌, length, OnErr, OnOk, IfSome};
+ghost use Rattle.std.specs.Prelude.{◌≡◌, ◌≤◌, ◌∷◌, ◌++◌, [], length, OnErr, OnOk, IfSome};
 ghost use Rattle.std.specs.List.{flat_map};
 ghost use Rattle.ov_fields.specs.Spelling.{counted, flag, u32};
 ghost use Rattle.ov_wire.specs.AnswerBytes.{answer_body, answer_bytes, chained_bytes, known_bytes, plan_bytes, welcome_bytes, HasAnswerCounts};
@@ -9,11 +9,11 @@ use crate::chains::{put_chain, put_chain_or_none};
 use crate::names::put_names;
 use crate::{Answer, Chained, Known, Plan, Welcome, kinds};
 use ov_base::Memory;
-use ov_fields::{append, put_set, put_u16, put_u32};
+use ov_fields::{put_set, put_u16, put_u32};
 use ov_tokens::Numbers;
 
-/// How many bytes are taken at first for what stands in front of an answer's body: enough for most
-/// answers, so that they take memory once.
+/// For how many bytes there is room before an answer is written: enough for most answers without
+/// their body, so that those take memory once.
 const FRONT: usize = 64;
 
 /// The flag of a truth.
@@ -157,14 +157,30 @@ fn put_front(answer: &Answer, out: &mut Vec<u8>) -> Result<(), Memory>
     Ok(())
 }
 
-/// Appends the answer's one spelling, without its length field.
+/// Appends the spelling. Where memory was refused, a part of it may have been appended.
+fn put_answer(answer: &Answer, out: &mut Vec<u8>) -> Result<(), Memory>
+    requires { HasAnswerCounts answer.now }
+    ensures { OnOk result (out.new.items ≡ out.old.items ++ answer_bytes answer.now) }
+{
+    out.reserve(FRONT)?;
+    put_front(answer, out)?;
+    out.extend_from_slice(body(answer))?;
+    Ok(())
+}
+
+/// Puts the answer's one spelling, without its length field, in place of what was in `out`; where
+/// memory was refused, `out` is empty then.
 pub fn write_answer(answer: &Answer, out: &mut Vec<u8>) -> Result<(), Memory>
     requires { HasAnswerCounts answer.now }
-    ensures ok { OnOk result (out.new.items ≡ out.old.items ++ answer_bytes answer.now) }
-    ensures err { OnErr result (out.new.items ≡ out.old.items) }
+    ensures ok { OnOk result (out.new.items ≡ answer_bytes answer.now) }
+    ensures err { OnErr result (out.new.items ≡ []) }
 {
-    let mut front = Vec::new(*out.allocator());
-    front.reserve(FRONT)?;
-    put_front(answer, &mut front)?;
-    append(&front, body(answer), &[], out)
+    out.clear();
+    match put_answer(answer, out) {
+        Ok(()) => Ok(()),
+        Err(Memory) => {
+            out.clear();
+            Err(Memory)
+        }
+    }
 }

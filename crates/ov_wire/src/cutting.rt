@@ -1,7 +1,7 @@
 //! Cutting bytes into frames.
 
 ghost use Rattle.std.specs.Prelude.{◌≡◌, ◌+◌, ◌≤◌, ◌<◌, ◌++◌, length, take, IfOk};
-ghost use Rattle.ov_wire.specs.Cutting.{IsFound, IsCutting};
+ghost use Rattle.ov_wire.specs.Cutting.{CutsOff, IsFound};
 
 use crate::state::State;
 use ov_base::limits::MAX_FRAME_BYTES;
@@ -66,20 +66,28 @@ fn find_behind(head: [u8; 4], bytes: &[u8]) -> Found<'_>
     }
 }
 
-/// Frames, how many bytes they and their length fields have, and what comes after them.
+/// How many bytes frames and their length fields have, and what comes after them.
+#[derive(Drop)]
 pub struct Cut {
-    pub frames: Vec<Octets>,
     pub len: u64,
     pub state: State,
 }
 
-/// All that the bytes hold, of which this many of a length field came before.
-pub fn cut_all(alloc: Global, head: [u8; 4], filled: usize, bytes: &[u8]) -> Result<Cut, Memory>
+/// Appends the frames that the bytes hold, of which this many of a length field came before. Where
+/// memory was refused, some of them may have been appended.
+pub fn cut_all(
+    alloc: Global,
+    head: [u8; 4],
+    filled: usize,
+    bytes: &[u8],
+    frames: &mut Vec<Octets>,
+) -> Result<Cut, Memory>
     requires { filled < 4 }
-    ensures { IfOk result (λ cut. IsCutting (take filled head ++ bytes.now) cut.frames.items
-        cut.len cut.state) }
+    ensures ok { IfOk result (λ cut. CutsOff (take filled head ++ bytes.now)
+        frames.old.items frames.new.items cut.len cut.state) }
+    ensures room { IfOk result (λ cut. cut.len ≤ length bytes.now + 3) }
+    ensures front { take (length frames.old.items) frames.new.items ≡ frames.old.items }
 {
-    let mut frames = Vec::new(alloc);
     let mut len = 0u64;
     let mut head = head;
     let mut filled = filled;
@@ -95,16 +103,16 @@ pub fn cut_all(alloc: Global, head: [u8; 4], filled: usize, bytes: &[u8]) -> Res
             }
             Found::InLength { head, filled } => {
                 let state = State::Length { head, filled };
-                return Ok(Cut { frames, len, state });
+                return Ok(Cut { len, state });
             }
             Found::InFrame { wanted, body } => {
                 let body = body.to_vec(alloc)?;
                 let state = State::Frame { wanted, body };
-                return Ok(Cut { frames, len, state });
+                return Ok(Cut { len, state });
             }
             Found::BadLength => {
                 let state = State::Bad;
-                return Ok(Cut { frames, len, state });
+                return Ok(Cut { len, state });
             }
         }
     }

@@ -63,7 +63,7 @@ returns-in-Ok-answer_each-clause-goes g c a old so_far =
     let most : length piece ≤ 8192 = grind (arith, common_steps) in
     let none : Feeds d d' piece [] c.feed-fed.new.frames.items c.feed-fed.result =
     subst (λ (l : List (List ℕ)). Feeds d d' piece l c.feed-fed.new.frames.items c.feed-fed.result)
-    c.new-frames.ensures.items c.feed-fed.ensures in
+    c.requires.empty c.feed-fed.ensures in
     let feeds : Feeds d d' piece [] c.deref.result.now c.feed-fed.result =
     subst (λ (l : List (List ℕ)). Feeds d d' piece [] l c.feed-fed.result) (sym c.deref.ensures.value) none in
     let counts : c.saturating_add-reading.result ≡ min (c.args.reading.now.taken + length piece) 18446744073709551615 =
@@ -97,7 +97,7 @@ returns-clause-goes g c a old so_far =
     let most : length piece ≤ 8192 = grind (arith, common_steps) in
     let none : Feeds d d' piece [] c.feed-fed.new.frames.items c.feed-fed.result =
     subst (λ (l : List (List ℕ)). Feeds d d' piece l c.feed-fed.new.frames.items c.feed-fed.result)
-    c.new-frames.ensures.items c.feed-fed.ensures in
+    c.requires.empty c.feed-fed.ensures in
     let feeds : Feeds d d' piece [] c.deref.result.now c.feed-fed.result =
     subst (λ (l : List (List ℕ)). Feeds d d' piece [] l c.feed-fed.result) (sym c.deref.ensures.value) none in
     subst (Serves asks a after old

@@ -66,4 +66,5 @@ pieces-init g c =
       same = record { reads = refl; writes = refl };
       ready = c.requires;
       asker = refl;
+      empty = made.3;
     }

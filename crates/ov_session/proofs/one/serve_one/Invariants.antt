@@ -1,4 +1,4 @@
-use Rattle.std.proofs.Common.{◌≡◌}
+use Rattle.std.proofs.Common.{◌≡◌, []}
 use Rattle.ov_session.specs.Gates.{gated}
 use Rattle.ov_session.specs.Links.{IsSameLoan, link}
 use Rattle.ov_session.specs.Steps.{Going}
@@ -15,4 +15,5 @@ invariant-pieces g l = record {
   same : IsSameLoan g.L.Source.tells g.L.Sink.tells l.fn.stream l.stream;
   ready : g.A.Asker.tells.ready l.asker;
   asker : g.A.Asker.tells.borrow l.asker ≡ g.A.Asker.tells.borrow l.fn.asker;
+  empty : l.reading.frames.items ≡ [];
 }

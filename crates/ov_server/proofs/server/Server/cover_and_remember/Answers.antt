@@ -39,7 +39,7 @@ returns-in_err-write_answer g c =
     λ request is.
     forgot_by g.D.Disk.tells c.args.self.now request c.write_answer.new.out.items
     c.from_residual-in_err-write_answer.result c.from_residual-in_err-write_answer.ensures.0
-    (c.in_err-write_answer.ensures.err ∙ c.clear.ensures.items)
+    c.in_err-write_answer.ensures.err
 
 pub remember-requires : goal.remember-requires
 remember-requires g c =
@@ -58,7 +58,7 @@ returns-in-Some g c =
     (sym (c.remember.ensures ∙ c.self.view_is))
     (covered g s c.state.result.now.catalogue same c.args.file.now c.args.size c.args.names.now
     c.in_ok-answer.answer c.write_answer.new.out.items c.in_ok-answer.ensures.answer c.in_ok-answer.ensures.form
-    (c.in_ok-write_answer.ensures.ok ∙ ap (λ front. front ++ answer_bytes c.in_ok-answer.answer) c.clear.ensures.items)
+    c.in_ok-write_answer.ensures.ok
     request is)
 
 pub returns-in_default : goal.returns-in_default
@@ -68,4 +68,4 @@ returns-in_default g c =
     c.state.ensures ∙ ap (λ (o : Opened g.row.D.Denot). o.catalogue) c.self.view_is in
     covered g s c.state.result.now.catalogue same c.args.file.now c.args.size c.args.names.now
     c.in_ok-answer.answer c.write_answer.new.out.items c.in_ok-answer.ensures.answer c.in_ok-answer.ensures.form
-    (c.in_ok-write_answer.ensures.ok ∙ ap (λ front. front ++ answer_bytes c.in_ok-answer.answer) c.clear.ensures.items)
+    c.in_ok-write_answer.ensures.ok
