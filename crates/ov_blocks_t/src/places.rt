@@ -101,7 +101,7 @@ fn ranges_that_are_held_or_free(rt: HostRuntime) -> Result<(), Fail> {
             Ok(*free),
             "{first} beside {held:?}"
         );
-        assert_eq!(rt; count(&extents), before + usize::from(*free));
+        assert_eq!(rt; count(&extents), before.saturating_add(usize::from(*free)));
     }
     Ok(())
 }
