@@ -1,4 +1,4 @@
-use Rattle.std.proofs.Common.{◌≡◌, ◌∙◌, ◌++◌, ℕ, List, Ok, refl, subst, sym, ap}
+use Rattle.std.proofs.Common.{◌≡◌, ◌∙◌, ℕ, List, Ok, refl, subst, sym, ap}
 use Rattle.ov_history.specs.Catalogue.{Catalogue}
 use Rattle.ov_history.specs.Lists.{set_named}
 use Rattle.ov_state.specs.Remembering.{IsPlannedIn}
