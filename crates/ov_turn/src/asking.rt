@@ -11,22 +11,41 @@ use crate::shared::{Place, Shared};
 use crate::steps::EPOCH;
 use ov_base::Memory;
 use ov_peer::{Answerer, AskFault, is_accepted};
+use std::hint::spin_loop;
 use std::marker::Brand;
 use std::sync::{MutexGuard, Wait};
 use std::thread;
 
-/// How often a thread looks whether it may go on, and lets others run, before it sleeps. A turn is mostly
-/// over by then, and to sleep and be woken takes longer than a turn.
-const LOOKS: u32 = 20;
+/// How often a thread looks whether it may go on before it sleeps. A turn is mostly over by then, and
+/// to sleep and be woken takes longer than a turn.
+const LOOKS: u32 = 60;
+
+/// Behind so many of these looks the thread only idles, some hundred cycles each time: a turn in which
+/// nothing is written takes few of them. Behind the others it lets other threads run.
+const IDLE_LOOKS: u32 = 50;
+
+/// How often a thread tells its processor behind a look that it idles.
+const IDLE_HINTS: u32 = 4;
+
+/// Passes the time behind this look.
+fn pass_time(look: u32) {
+    if look >= IDLE_LOOKS {
+        thread::yield_now();
+        return;
+    }
+    for _ in 0..IDLE_HINTS {
+        spin_loop();
+    }
+}
 
 impl<A: Answerer> Shared<A> {
     /// Waits until no other thread is at its steps.
     fn enter<R: Wait>(&self, rt: &R) -> MutexGuard<'_, ()> {
-        for _ in 0..LOOKS {
+        for look in 0..LOOKS {
             if let Some(guard) = self.entry.try_lock() {
                 return guard;
             }
-            thread::yield_now();
+            pass_time(look);
         }
         self.entry.lock(rt)
     }
