@@ -14,8 +14,8 @@
 //!
 //! It is a ticket lock over one table of the kit (`atomic_table`): three words, which are the next
 //! ticket, the ticket that is served and the epoch, and one slot, in which the value is answered.
-//! Threads wait for their turns at a plain lock before they draw a ticket. There they first let others
-//! run, some twenty times, and then sleep.
+//! Threads wait for their turns at a plain lock before they draw a ticket. There they idle for some
+//! thousand cycles first, then let others run a few times, and then sleep.
 //!
 //! **What a contract sees** of a pass is its number, the count of its calls, the accepted updates
 //! that it has *seen*, in order, the epoch that it was last *told*, and whether the disk *failed* in
