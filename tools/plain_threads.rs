@@ -3,7 +3,8 @@
 // and answers Hello, the question whether a user may be taken off a file, and updates, in the frames
 // of docs/FORMATS.md. An update is put into the file BOOK first, by the calls of the system that a
 // store makes for one: a write, a sync, a write of one byte, a sync. It checks no tag, and reads what
-// the tools send: a wrong frame ends its session. It never ends itself. Rust with no proofs.
+// the tools send: a wrong frame ends its session, and so does a client that sends or takes nothing for
+// five minutes. It never ends itself. Rust with no proofs.
 //
 //     rustc -O tools/plain_threads.rs -o out/plain_threads
 //     out/plain_threads BOOK
@@ -15,8 +16,11 @@ use std::net::{TcpListener, TcpStream};
 use std::os::unix::fs::FileExt;
 use std::sync::{Arc, Mutex};
 use std::thread;
+use std::time::Duration;
 
 const HEAD: usize = 4;
+// How long a call waits for a client, as in the server that this one stands beside.
+const SILENCE: Duration = Duration::from_secs(300);
 
 // A set of 256 users.
 type Set = [u64; 4];
@@ -171,6 +175,8 @@ impl Store {
 
 fn serve(mut stream: TcpStream, store: &Mutex<Store>) -> io::Result<()> {
     stream.set_nodelay(true)?;
+    stream.set_read_timeout(Some(SILENCE))?;
+    stream.set_write_timeout(Some(SILENCE))?;
     let mut source = BufReader::new(stream.try_clone()?);
     let (mut request, mut reply) = (vec![0; HEAD], Vec::new());
     loop {
