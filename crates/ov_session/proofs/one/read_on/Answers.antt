@@ -76,8 +76,8 @@ returns-in-Ok-answer_each-clause-goes g c a old so_far =
     c.in-Ok-answer_each.ensures.later c.in-Ok-answer_each.ensures.answers
     c.saturating_add-reading.result counts c.feed-fed.result feeds)
 
-pub returns-clause-goes : goal.returns-clause-goes
-returns-clause-goes g c a old so_far =
+pub returns-in-Err-answer_each-clause-goes : goal.returns-in-Err-answer_each-clause-goes
+returns-in-Err-answer_each-clause-goes g c a old so_far =
     let desk = c.args.desk.now in
     let asks = gated g.A.Asker.tells (g.G.Gate.was_told desk.gate.now desk.session g.row.A.Denot) in
     let here : g.row.A.Denot × ℕ = (c.args.asker.now, c.args.reading.now.asked) in
