@@ -58,7 +58,7 @@ def run(library, program, test, growth):
         done = subprocess.run(
             [program, test], cwd=folder, env=os.environ | words, capture_output=True, text=True, timeout=SECONDS
         )
-        growths = int(count.read_text()) if count.exists() else 0
+        growths = int.from_bytes(count.read_bytes(), sys.byteorder)
         return done.returncode, done.stdout + done.stderr, growths
     except subprocess.TimeoutExpired:
         return None, "more than %d seconds" % SECONDS, 0
