@@ -1,6 +1,6 @@
 -- The users of a set that is kept as words.
 use Rattle.std.proofs.Common.{suc, zero, ℕ, ◌≡◌, ◌≢◌, ◌<◌, ◌≤◌, ◌+◌, ◌-◌, ◌*◌, ◌/◌, ◌%◌, ◌^◌, min, List, [], ◌∷◌, length, get_or, set, replicate, refl, sym, ◌∙◌, ap, arith, bit_and, bit_or, w64, ◌==◌, eq-eqb, inl, inr, get_or-set_same, get_or-set_other}
-use Rattle.std.proofs.lemmas.List.{get_or_past}
+use Rattle.std.proofs.lemmas.List.{get_or-replicate, get_or_past, length-replicate}
 use Rattle.std.proofs.lemmas.List.Sums.{sum_by-cons}
 use Rattle.std.proofs.lemmas.Bool.{cases_eq, cases_lt, ne_eqb}
 use Rattle.std.proofs.lemmas.Nat.{ones_cat, ones_le_self, or_lt, and_le_l}
@@ -126,6 +126,20 @@ clear_bit ws fit u h =
     let p = bit_at_xor s (bit_and s (2 ^ u)) n in let a = bit_at_and s (2 ^ u) n in let q = bit_at-pow_other u n other in let r = bit_at-lt s n in omega arith)
 
 -- ---- word by word
+
+-- lists with the same words are one set, also where the one goes on with zeros
+pub same_words : (ws vs : List ℕ) → AllFit ws → ((k : ℕ) → get_or vs k 0 ≡ get_or ws k 0)
+    → set_of_words vs ≡ set_of_words ws
+same_words ws vs fit each =
+    same_set vs (λ k. rw (each k) (fit k)) _ (λ n.
+    ap (λ w. bit_at w (n % 64)) (each (n / 64)) ∙ sym (bit_of_word ws fit n))
+
+-- a list of zeros has none but zeros
+pub zero_at : (count k : ℕ) → get_or (replicate {A = ℕ} count 0) k 0 ≡ 0
+zero_at count k = elim (cases_lt k count) [
+  | inl below ↦ get_or-replicate count k 0 0 below
+  | inr above ↦ get_or_past (replicate {A = ℕ} count 0) k 0 (omega (arith, length-replicate {A = ℕ} count 0))
+]
 
 -- the words of a union
 pub union_words : (ws vs us : List ℕ) → AllFit ws → AllFit vs → ((k : ℕ) → get_or us k 0 ≡ bit_or (get_or ws k 0) (get_or vs k 0)) → set_of_words us ≡ union (set_of_words ws) (set_of_words vs)

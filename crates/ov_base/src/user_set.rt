@@ -48,6 +48,16 @@ impl<const W: usize> UserSet<W> {
         UserSet { words: self.words }
     }
 
+    /// The same set, in a width that holds more users.
+    pub fn widen<const V: usize>(&self) -> UserSet<V>
+        requires { (W ≤ V) × (V ≤ MAX_SET_WORDS) }
+        ensures { result ≡ self.now }
+    {
+        UserSet {
+            words: words::widen(&self.words),
+        }
+    }
+
     /// Whether the user is in the set; no user of `64 * W` or more is.
     pub fn contains(&self, user: u32) -> bool
         ensures member { result ≡ has self.now user }

@@ -17,10 +17,11 @@
 //!   for it. So no more blocks lie before the run than all held extents have and, for each of these,
 //!   one block less than the run has, which bounds how far Blobs grows. `place` takes no memory and
 //!   walks over the held extents at most once: at 16,384 of them that is 16,384 steps. Those that
-//!   follow one another from block 0 on, with one gap at most, it passes in one step. So where
-//!   all files have as many blocks and lie close together, and one is replaced at a time, a search takes no more
-//!   steps beside 10,000 files than beside ten. Where two gaps are too short for the run, it walks
-//!   over what stands behind the second.
+//!   follow one another from block 0 on, with one gap at most, it passes in one step, as far as the
+//!   last `hold` looked. So where all files have as many blocks and lie close together, and one is
+//!   replaced at a time, a search takes no more steps beside 10,000 files than beside ten. Where two
+//!   gaps are too short for the run, or were joined by an extent that was given up, it walks over
+//!   what stands behind the second until the next `hold`.
 //! * [`Extents::place_from`] takes up where an earlier search ended: where a caller knows a block
 //!   before which no run of so many free blocks begins, it walks over the extents behind that block
 //!   alone. Until an extent is given up no such run comes to be there, nor a longer one. So to hold
@@ -38,8 +39,8 @@
 //! * [`Extents::release_all`] gives up the extents that begin at these blocks, which rise, and takes
 //!   no memory. Up to eight cost as much as so many calls of `release`. More of them take one walk
 //!   over all that is held, however many they are, and each extent is looked up among the blocks by
-//!   halves: at 10,000 held extents that costs as much as ten calls of `release` or more. The next
-//!   `place` and the next `hold` after such a walk may take one more.
+//!   halves: at 10,000 held extents that costs as much as ten calls of `release` or more. After such
+//!   a walk each `place` may take one more, until the next `hold` that doesn't take a slot back.
 //! * [`Extents::held`] gives the list, in two parts. [`Extents::known`] does nothing; its contract is
 //!   what holds of every such list: a block is in the extent at one place of it at most, so that no
 //!   two extents share one and none stands there twice.

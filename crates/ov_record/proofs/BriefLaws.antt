@@ -17,6 +17,7 @@ use Rattle.ov_fields.proofs.TestLaws.{IsCount, count_is, is_count}
 use Rattle.ov_fields.proofs.KindLaws.{IsKind, kind_takes, kind_again, kind_near, kind_none}
 use Rattle.ov_record.specs.Briefs.{Brief, BriefEnrol, BriefCreate, BriefGrant, BriefRevoke, brief}
 use Rattle.ov_record.specs.Forms.{Form, HasRoom, set_bytes}
+use Rattle.ov_record.specs.Laws.{WiderFormsHaveAll}
 use Rattle.ov_record.specs.Updates.{SealedUpdate, SealedEnrol, SealedCreate, SealedGrant, SealedRevoke}
 use Rattle.ov_record.specs.Spelling.{spelling, body_of}
 use Rattle.ov_record.specs.Stored.{Stored, brief_spelling, longest_brief, longest_stored, stored_spelling, HasBriefForm, HasStoredForm, IsBriefWithinLimits}
@@ -182,3 +183,12 @@ some_bytes form s = brief_has_bytes form s.update (flat_map u32 s.places)
 pub few_bytes : (form : Form) (count : ℕ) (s : Stored) → HasRoom form → longest_stored form ≤ MAX_RECORD_BYTES → count ≤ MAX_FILES → HasStoredForm form count s
     → length (stored_spelling form s) ≤ MAX_RECORD_BYTES
 few_bytes form count s room few files fits = omega (arith, (stored_reads form room count).short s fits)
+
+-- ---- wider forms
+
+pub wider_has_all : WiderFormsHaveAll
+wider_has_all wide form (BriefEnrol name) wider fits = fits
+wider_has_all wide form (BriefCreate name list tokens tag size) wider fits =
+    (fits.0, (λ user has. omega (arith, fits.1 user has, wider.0)), omega (arith, fits.2, wider.1), fits.3, fits.4, omega (arith, fits.5, wider.2))
+wider_has_all wide form (BriefGrant user file token) wider fits = fits
+wider_has_all wide form (BriefRevoke user file) wider fits = fits

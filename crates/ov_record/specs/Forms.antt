@@ -1,6 +1,6 @@
 -- How updates are spelled: the words of a set, and the limits of a creation.
-use Rattle.std.specs.Prelude.{ℕ, ◌<◌, ◌+◌, ◌*◌, ◌^◌}
-use Rattle.ov_base.specs.declared.limits.TheConstants.{MAX_FILE_BYTES, MAX_NAME_BYTES, MAX_USERS, SET_WORDS}
+use Rattle.std.specs.Prelude.{ℕ, ◌<◌, ◌≤◌, ◌+◌, ◌*◌, ◌^◌}
+use Rattle.ov_base.specs.declared.limits.TheConstants.{MAX_NAME_BYTES}
 use Rattle.ov_record.specs.declared.forms.Form.{Form as FormOf}
 
 -- A form of spellings: how many words a set has, how many tokens a creation has at most, and how
@@ -10,9 +10,19 @@ pub record Form : Type 0 where
   pub most_tokens : ℕ
   pub longest : ℕ
 
--- the form of records and of frames
+-- the form of the first format, in which all records and frames are
 abbrev pub first_form : Form
-first_form = record { words = SET_WORDS; most_tokens = MAX_USERS; longest = MAX_FILE_BYTES }
+first_form = record { words = 4; most_tokens = 256; longest = 1048576 }
+
+-- the form of the second format
+abbrev pub second_form : Form
+second_form = record { words = 16; most_tokens = 1024; longest = 16777216 }
+
+-- whatever the one form has room for, the other has too
+abbrev pub IsWider : Form → Form → Type 0
+IsWider wide form =
+    (form.words ≤ wide.words) × (form.most_tokens ≤ wide.most_tokens)
+    × (form.longest ≤ wide.longest)
 
 -- the form for sets of W words with these limits
 abbrev pub form_of : {W : ℕ} → FormOf W → Form

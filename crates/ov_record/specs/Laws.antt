@@ -1,13 +1,24 @@
 -- What holds of all spellings, and of the places at which bytes are none.
-use Rattle.std.specs.Prelude.{ℕ, ◌≡◌, ◌≤◌, List, ◌++◌, length, Ok, Err}
+use Rattle.std.specs.Prelude.{ℕ, ◌≡◌, ◌≤◌, ◌<◌, List, ◌++◌, length, Ok, Err}
 use Rattle.ov_base.specs.declared.limits.TheConstants.{MAX_FILES, MAX_RECORD_BYTES}
 use Rattle.ov_fields.specs.Fronts.{AreAllBytes, IsWrongPlace}
 use Rattle.ov_record.specs.Briefs.{Brief, brief}
-use Rattle.ov_record.specs.Forms.{Form, HasRoom, longest_spelling}
+use Rattle.ov_record.specs.Forms.{Form, HasRoom, IsWider, first_form, second_form, longest_spelling}
 use Rattle.ov_record.specs.Updates.{SealedUpdate}
 use Rattle.ov_record.specs.Spelling.{spelling, body_of, HasForm}
 use Rattle.ov_record.specs.Stored.{Stored, brief_spelling, longest_stored, stored_spelling, HasBriefForm, HasStoredForm}
 use Rattle.ov_record.specs.Reading.{brief_of, stored_of, update_of}
+
+-- Both forms have room, and in both the longest record fits. With the bytes of its file an update
+-- of the second form has more than a record may have.
+pub record FormsHaveRoom : Type 0 where
+  pub first : HasRoom first_form
+  pub second : HasRoom second_form
+  pub second_is_wider : IsWider second_form first_form
+  pub first_records_fit : longest_stored first_form ≤ MAX_RECORD_BYTES
+  pub second_records_fit : longest_stored second_form ≤ MAX_RECORD_BYTES
+  pub first_updates_fit : longest_spelling first_form ≤ MAX_RECORD_BYTES
+  pub second_updates_do_not : MAX_RECORD_BYTES < longest_spelling second_form
 
 -- no update's spelling is the front of another's, and none spells two updates
 abbrev pub UpdatesAreSpelledApart : Type 0
@@ -75,6 +86,12 @@ RecordsFit =
     → HasStoredForm form count s
     → (1 ≤ length (stored_spelling form s))
     × (length (stored_spelling form s) ≤ MAX_RECORD_BYTES)
+
+-- a brief with form has one in each wider form too
+abbrev pub WiderFormsHaveAll : Type 0
+WiderFormsHaveAll =
+    (wide form : Form) (b : Brief)
+    → IsWider wide form → HasBriefForm form b → HasBriefForm wide b
 
 -- ---- wrong places
 

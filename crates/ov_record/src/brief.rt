@@ -1,5 +1,6 @@
 //! Updates without the bytes of their files.
-ghost use Rattle.std.specs.Prelude.{◌≡◌};
+ghost use Rattle.std.specs.Prelude.{◌≡◌, ◌≤◌};
+ghost use Rattle.ov_base.specs.declared.limits.TheConstants.{MAX_SET_WORDS};
 ghost use Rattle.ov_record.specs.Briefs.{brief, plain_brief, text_of, IsFitting};
 ghost use Rattle.ov_record.specs.Updates.{sealed_update};
 
@@ -65,6 +66,31 @@ impl<const W: usize> Brief<W> {
             }
             Update::Grant { user, file, token } => (Brief::Grant { user, file, token }, None),
             Update::Revoke { user, file } => (Brief::Revoke { user, file }, None),
+        }
+    }
+
+    /// The same update, with its set in a width that holds more users.
+    pub fn widen<const V: usize>(self) -> Brief<V>
+        requires { (W ≤ V) × (V ≤ MAX_SET_WORDS) }
+        ensures { plain_brief result ≡ plain_brief self.entry }
+    {
+        match self {
+            Brief::Enrol { name } => Brief::Enrol { name },
+            Brief::Create {
+                name,
+                list,
+                tokens,
+                tag,
+                length,
+            } => Brief::Create {
+                name,
+                list: list.widen(),
+                tokens,
+                tag,
+                length,
+            },
+            Brief::Grant { user, file, token } => Brief::Grant { user, file, token },
+            Brief::Revoke { user, file } => Brief::Revoke { user, file },
         }
     }
 }

@@ -1,7 +1,5 @@
 //! Forms of spellings.
 
-use ov_base::limits::{MAX_FILE_BYTES, MAX_USERS, SET_WORDS};
-
 /// How updates are spelled: with sets of W words, and with these limits of a creation.
 #[derive(Clone, Copy)]
 pub struct Form<const W: usize> {
@@ -11,10 +9,18 @@ pub struct Form<const W: usize> {
     pub longest: u32,
 }
 
-impl Form<SET_WORDS> {
-    /// The form of records and of frames.
-    pub const FIRST: Form<SET_WORDS> = Form {
-        most_tokens: MAX_USERS as u16,
-        longest: MAX_FILE_BYTES,
+impl Form<4> {
+    /// The form of the first format, in which all records and frames are.
+    pub const FIRST: Form<4> = Form {
+        most_tokens: 256,
+        longest: 1_048_576,
+    };
+}
+
+impl Form<16> {
+    /// The form of the second format.
+    pub const SECOND: Form<16> = Form {
+        most_tokens: 1_024,
+        longest: 16_777_216,
     };
 }

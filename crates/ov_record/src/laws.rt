@@ -5,6 +5,24 @@ ghost use Rattle.ov_record.specs.Laws.{BadUpdatesArePlaced};
 ghost use Rattle.ov_record.specs.Laws.{BriefsAreRead, BriefsAreSpelledApart, BriefsBeginSpellings};
 ghost use Rattle.ov_record.specs.Laws.{RecordsAreRead, RecordsAreSpelledApart, RecordsFit};
 ghost use Rattle.ov_record.specs.Laws.{SpellingsAreRead, SpellingsFitRecords, UpdatesAreSpelledApart};
+ghost use Rattle.ov_record.specs.Laws.{FormsHaveRoom, WiderFormsHaveAll};
+ghost use Rattle.ov_record.specs.Forms.{first_form, form_of, second_form};
+ghost use Rattle.std.specs.Prelude.{◌≡◌};
+
+use crate::Form;
+
+/// The forms of the two formats.
+pub fn forms_are_known() -> (Form<4>, Form<16>)
+    ensures first { form_of result.0 ≡ first_form }
+    ensures second { form_of result.1 ≡ second_form }
+{
+    (Form::FIRST, Form::SECOND)
+}
+
+/// Both forms have room, and the records of both fit.
+pub fn forms_have_room()
+    ensures { FormsHaveRoom }
+{}
 
 /// The law of spellings: no update's spelling is the front of another's, and none spells two
 /// updates.
@@ -51,6 +69,11 @@ pub fn records_are_read()
 /// In each form of which the longest record fits, each does.
 pub fn records_fit()
     ensures { RecordsFit }
+{}
+
+/// Each brief with form has one in each wider form too.
+pub fn wider_forms_have_all()
+    ensures { WiderFormsHaveAll }
 {}
 
 /// The law of wrong places: where bytes spell no update, what stands before the place that is named

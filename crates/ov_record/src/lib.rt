@@ -3,8 +3,9 @@
 //! An [`Update`] is one change of a store: what its owner sends, and what its journal keeps. A
 //! contract sees it by `sealed_update` of `specs/Updates`, as a value that knows nothing of the
 //! width of the set in it. A [`Form`] says how updates are spelled: with how many words in a set,
-//! and with which limits of a creation; that of records and of frames is [`Form::FIRST`]. In each
-//! form an update has one spelling (`spelling` in `specs/Spelling`), [`write`] appends it, and
+//! and with which limits of a creation. Records and frames are in the form of the first format,
+//! [`Form::FIRST`]; [`Form::SECOND`] is that of the second, which has room for all that the first
+//! has ([`forms_have_room`]). In each form an update has one spelling (`spelling` in `specs/Spelling`), [`write`] appends it, and
 //! [`read`] gives the update exactly where the bytes are its spelling. Elsewhere `read` names the
 //! place of the first field that no spelling continues, or the end, as `specs/Reading` says: what
 //! stands before the place goes on to a spelling, and with the field at it none does
@@ -19,7 +20,8 @@
 //! the first field that no such spelling continues, or the end ([`bad_fronts_are_placed`],
 //! [`bad_records_are_placed`]). An update's spelling is that of its brief, and then the bytes of
 //! its file ([`briefs_begin_spellings`]). The laws of these spellings are as those above.
-//! `ov_updating` writes such records, and `ov_placed` reads them.
+//! `ov_updating` writes such records, and `ov_placed` reads them. A brief that was read in the one
+//! form is, after [`Brief::widen`], the same update in a wider one ([`wider_forms_have_all`]).
 //!
 //! [`user_entry`], [`node_entry`], [`access_entry`] and [`file_entry`] append entries of the public
 //! catalogue, by `specs/Entries` of ov_fields.
@@ -47,8 +49,9 @@ pub use fault::RecordFault;
 pub use forms::Form;
 pub use laws::{
     bad_fronts_are_placed, bad_records_are_placed, bad_updates_are_placed, briefs_are_read,
-    briefs_are_spelled_apart, briefs_begin_spellings, records_are_read, records_are_spelled_apart,
-    records_fit, spellings_are_read, spellings_fit_records, updates_are_spelled_apart,
+    briefs_are_spelled_apart, briefs_begin_spellings, forms_are_known, forms_have_room,
+    records_are_read, records_are_spelled_apart, records_fit, spellings_are_read,
+    spellings_fit_records, updates_are_spelled_apart, wider_forms_have_all,
 };
 pub use reading::read;
 pub use stored::Stored;

@@ -143,6 +143,12 @@ fn limits_of_the_first_form(rt: HostRuntime) {
     );
 }
 
+#[test]
+fn limits_of_the_second_form(rt: HostRuntime) {
+    let (_, form): (_, Form<16>) = forms_are_known();
+    assert_eq!(rt; (form.most_tokens, form.longest), (1_024, 16_777_216));
+}
+
 /// The place of the first wrong byte of the creation, in a form with these limits.
 fn creation_wrong_at(alloc: Global, most_tokens: u16, longest: u16) -> Option<u32> {
     let form = Form::<SET_WORDS> {

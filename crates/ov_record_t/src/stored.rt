@@ -2,10 +2,14 @@
 //! bytes.
 
 ghost use Rattle.std.specs.Prelude.{IfOk};
-ghost use Rattle.ov_record.specs.Briefs.{plain_brief};
+ghost use Rattle.ov_fields.specs.Answers.{Gives};
+ghost use Rattle.ov_record.specs.Briefs.{plain_brief, plain_front};
 ghost use Rattle.ov_record.specs.Forms.{first_form};
+ghost use Rattle.ov_record.specs.Places.{place_of};
+ghost use Rattle.ov_record.specs.Reading.{brief_of};
 ghost use Rattle.ov_record.specs.Stored.{IsBriefWithinLimits};
 
+use ov_base::UserSet;
 use ov_base::limits::{MAX_FILES, SET_WORDS};
 use ov_record::*;
 use std::alloc::Global;
@@ -150,4 +154,38 @@ fn the_first_wrong_byte_of_a_record_is_named(rt: HostRuntime) {
     assert_eq!(rt; wrong_at(rt.alloc(), &long, 1), Some(134));
     let longest = joined(&rt, rt.alloc(), &CREATION[..134], b"\0\x10\0\0\0\0\0\0");
     assert_eq!(rt; wrong_at(rt.alloc(), &longest, 1), None);
+}
+
+/// The update at the front of the bytes, which are in the first form, with a set of 16 words.
+fn widened(alloc: Global, bytes: &[u8]) -> Result<(Brief<16>, u32), RecordFault>
+    ensures { Gives place_of plain_front result (brief_of first_form bytes.now) }
+{
+    let (brief, size) = read_brief(alloc, Form::FIRST, bytes)?;
+    Ok((brief.widen(), size))
+}
+
+/// The list of a creation, the number of its tokens, and its length.
+fn list_of(brief: &Brief<16>) -> Option<(UserSet<16>, usize, u32)> {
+    match brief {
+        Brief::Create {
+            list,
+            tokens,
+            length,
+            ..
+        } => Some((list.copy(), tokens.as_slice().len(), *length)),
+        _ => None,
+    }
+}
+
+#[test]
+fn a_creation_of_the_first_form_in_the_width_of_the_second(rt: HostRuntime) {
+    let list = UserSet::empty().with(0).with(3);
+    match widened(rt.alloc(), CREATION) {
+        Ok((brief, size)) => {
+            assert_eq!(rt; size, 138);
+            assert!(rt; list_of(&brief) == Some((list, 2, 5)));
+        }
+        Err(_) => assert!(rt; false),
+    }
+    assert!(rt; read_brief(rt.alloc(), Form::SECOND, CREATION).is_err());
 }

@@ -16,12 +16,12 @@ use std::marker::Brand;
 use std::sync::{MutexGuard, Wait};
 use std::thread;
 
-/// How often a thread looks whether it may go on before it sleeps. A turn is mostly over by then, and
-/// to sleep and be woken takes longer than a turn.
+/// How often a thread looks whether it may go on before it sleeps. The turn of a Hello or an Ask is
+/// mostly over by then, and to sleep and be woken takes longer than such a turn.
 const LOOKS: u32 = 60;
 
-/// Behind so many of these looks the thread only idles, some hundred cycles each time: a turn in which
-/// nothing is written takes few of them. Behind the others it lets other threads run.
+/// Behind so many of these looks the thread only idles, some dozens to hundreds of cycles each time, by
+/// the processor. Behind the others it lets other threads run.
 const IDLE_LOOKS: u32 = 50;
 
 /// How often a thread tells its processor behind a look that it idles.

@@ -40,6 +40,19 @@ pub fn without<const W: usize>(words: &[u64; W], user: u32) -> [u64; W]
     result
 }
 
+/// The words in front of zeros.
+pub fn widen<const V: usize>(words: &[u64]) -> [u64; V]
+    requires { length words.now ≤ V }
+    ensures { set_of_words result ≡ set_of_words words.now }
+{
+    fit(words);
+    let mut wide = [0; V];
+    for i in 0..words.len() {
+        wide[i] = words[i];
+    }
+    wide
+}
+
 pub fn unite(words: &mut [u64], other: &[u64])
     requires { length words.old ≡ length other.now }
     ensures { set_of_words words.new ≡ union (set_of_words words.old) (set_of_words other.now) }

@@ -59,6 +59,21 @@ fn users_as_bits_of_bytes(rt: HostRuntime) {
 }
 
 #[test]
+fn a_set_in_a_greater_width(rt: HostRuntime) {
+    let set = UserSet::<4>::empty().with(0).with(63).with(255);
+    let wide = set.widen::<16>();
+    assert!(rt; wide.contains(0) && wide.contains(63) && wide.contains(255));
+    assert_eq!(rt; wide.count(), 3);
+    assert!(rt; wide.with(1_023).contains(1_023) && set.widen() == set);
+    let mut bytes = [0xff; 128];
+    wide.write(&mut bytes);
+    assert_eq!(rt; (bytes[0], bytes[7], bytes[31]), (1, 0x80, 0x80));
+    for i in 0..128_usize {
+        assert!(rt; i == 0 || i == 7 || i == 31 || bytes[i] == 0);
+    }
+}
+
+#[test]
 fn sets_in_the_order_of_their_bytes(rt: HostRuntime) {
     let eight = UserSet::<4>::empty().with(8);
     let zero = UserSet::<4>::empty().with(0);
