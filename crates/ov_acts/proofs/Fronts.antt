@@ -114,7 +114,7 @@ no_line (Some line) none = λ has. none has.0 has.1
 -- bytes that aren't too many are all of the file
 pub body_found : (old new : Option (List ℕ)) (front : List ℕ) (count : ℕ)
     → length front ≡ count → count ≤ MAX_FILE_BYTES → Consumes old new front
-    → (count ≡ 1048577) ⊎ IsAtEnd new → IsBodyOf old front
+    → (count ≡ MAX_FILE_BYTES + 1) ⊎ IsAtEnd new → IsBodyOf old front
 body_found old new front count long few had (inl full) = absurd (omega arith)
 body_found None new front count long few had (inr none) = record { few = omega arith; all = tt }
 body_found (Some file) None front count long few had (inr none) = absurd had
@@ -147,7 +147,7 @@ written_back buffer items bytes size count long e =
 
 -- what is given of a buffer that isn't full is all of the file
 pub filled_all : (old new : Option (List ℕ)) (buffer bytes : List ℕ) (size count : ℕ)
-    → size ≡ 1048577 → length buffer ≡ size → count ≤ size → count ≤ MAX_FILE_BYTES
+    → size ≡ MAX_FILE_BYTES + 1 → length buffer ≡ size → count ≤ size → count ≤ MAX_FILE_BYTES
     → Consumes old new (take count buffer) → (count ≡ size) ⊎ IsAtEnd new
     → bytes ≡ take count buffer → IsBodyOf old bytes
 filled_all old new buffer bytes size count big long within few had (inl full) e =

@@ -20,7 +20,7 @@ use std::alloc::Global;
 const ENOUGH: usize = 206;
 
 // One byte more than the longest file has.
-const TOO_MANY: usize = 1_048_577;
+const TOO_MANY: usize = MAX_FILE_BYTES as usize + 1;
 
 /// The masters of the key file.
 pub fn masters_of<K: Source>(keys: &mut K) -> Result<Masters, Stop>

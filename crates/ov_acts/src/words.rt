@@ -18,7 +18,7 @@ use ov_script::list_of;
 use std::alloc::Global;
 
 /// Bytes of LIST, at most.
-pub const MAX_WRITTEN_LIST: usize = 20_000;
+pub const MAX_WRITTEN_LIST: usize = 70_000;
 
 /// The names of the list that a word is.
 pub fn names_of(alloc: Global, word: &str) -> Result<Option<Names>, Memory>

@@ -15,6 +15,7 @@ use std::process::Abort;
 use std::test::Fail;
 
 const HEADER: Header = Header {
+    format: 2,
     mode: Mode::Delta,
     first: 0x01020304,
     base_check: [0x11; 32],

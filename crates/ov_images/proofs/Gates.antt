@@ -2,7 +2,7 @@
 use Rattle.std.proofs.Common.{◌≡◌, ℕ, ◌+◌, ◌*◌, List, [], ◌∷◌, length, length-append, refl, sym, ap, subst, ◌∙◌, arith}
 use Rattle.ov_fields.specs.Spelling.{u32}
 use Rattle.ov_fields.proofs.FieldLaws.{wide32}
-use Rattle.ov_record.specs.Forms.{first_form}
+use Rattle.ov_record.specs.Forms.{second_form}
 use Rattle.ov_record.specs.Stored.{brief_spelling}
 use Rattle.ov_history.specs.Briefs.{Brief}
 use Rattle.ov_history.specs.Catalogue.{Catalogue, catalogue_after, empty_catalogue}
@@ -32,9 +32,9 @@ as_long : (u v : PlacedUpdate) → u.update ≡ v.update → length u.firsts ≡
 as_long u v same many =
     omega (
       arith,
-      length-append (brief_spelling first_form u.update) (firsts_spelling u.firsts),
-      length-append (brief_spelling first_form v.update) (firsts_spelling v.firsts),
-      ap (λ (b : Brief). length (brief_spelling first_form b)) same,
+      length-append (brief_spelling second_form u.update) (firsts_spelling u.firsts),
+      length-append (brief_spelling second_form v.update) (firsts_spelling v.firsts),
+      ap (λ (b : Brief). length (brief_spelling second_form b)) same,
       firsts_length u.firsts,
       firsts_length v.firsts,
       many,

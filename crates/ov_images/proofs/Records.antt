@@ -5,7 +5,7 @@ use Rattle.ov_fields.specs.Spelling.{u32}
 use Rattle.ov_fields.specs.Reading.{placed}
 use Rattle.ov_fields.proofs.FieldLaws.{number_reads, wide32}
 use Rattle.ov_fields.proofs.WholeLaws.{all_again, no_front}
-use Rattle.ov_record.specs.Forms.{first_form}
+use Rattle.ov_record.specs.Forms.{second_form}
 use Rattle.ov_record.specs.Reading.{brief_of, stored_of}
 use Rattle.ov_record.specs.Stored.{HasBriefForm, IsNumber, brief_spelling}
 use Rattle.ov_record.proofs.BriefLaws.{brief_again_of, brief_reads, stored_reads}
@@ -18,18 +18,18 @@ use Rattle.ov_images.specs.Records.{bodies_of, record_spelling, stored}
 -- ---- an update at the front
 
 -- no update's spelling is the front of another's
-pub fronts_apart : (u v : Brief) (x y : List ℕ) → HasBriefForm first_form u
-    → HasBriefForm first_form v
-    → brief_spelling first_form u ++ x ≡ brief_spelling first_form v ++ y → (u ≡ v) × (x ≡ y)
+pub fronts_apart : (u v : Brief) (x y : List ℕ) → HasBriefForm second_form u
+    → HasBriefForm second_form v
+    → brief_spelling second_form u ++ x ≡ brief_spelling second_form v ++ y → (u ≡ v) × (x ≡ y)
 fronts_apart u v x y fu fv same =
-    no_front (brief_reads first_form first_has_room) u v x y fu fv same
+    no_front (brief_reads second_form first_has_room) u v x y fu fv same
 
 -- reading an update stops nowhere where one is at the front
-pub never_stops : (u : Brief) (body rest : List ℕ) (at_byte : ℕ) → HasBriefForm first_form u
-    → body ≡ brief_spelling first_form u ++ rest → StopsInUpdate body at_byte → ⊥
+pub never_stops : (u : Brief) (body rest : List ℕ) (at_byte : ℕ) → HasBriefForm second_form u
+    → body ≡ brief_spelling second_form u ++ rest → StopsInUpdate body at_byte → ⊥
 never_stops u body rest at_byte form bytes stops =
-    absurd (cc (sym stops ∙ ap (brief_of first_form) bytes
-    ∙ brief_again_of first_form first_has_room u rest form))
+    absurd (cc (sym stops ∙ ap (brief_of second_form) bytes
+    ∙ brief_again_of second_form first_has_room u rest form))
 
 -- ---- records
 
@@ -62,11 +62,11 @@ pub record_never_stops : (u : PlacedUpdate) (body : List ℕ) (count at_byte : �
     → HasRecordForm u → body ≡ record_spelling u → length u.firsts ≡ count
     → StopsInRecord count body at_byte → ⊥
 record_never_stops u body count at_byte form bytes is stops =
-    let read : stored_of first_form count (record_spelling u) ≡ Ok (stored u) =
+    let read : stored_of second_form count (record_spelling u) ≡ Ok (stored u) =
     ap (placed (length (record_spelling u)))
-    (all_again (stored_reads first_form first_has_room count) (stored u)
+    (all_again (stored_reads second_form first_has_room count) (stored u)
     (form.0, (form.1.0, is))) in
-    absurd (cc (sym stops ∙ ap (stored_of first_form count) bytes ∙ read))
+    absurd (cc (sym stops ∙ ap (stored_of second_form count) bytes ∙ read))
 
 -- ---- bodies
 

@@ -4,7 +4,7 @@ use Rattle.std.specs.Prelude.{◌≡◌, ◌⊎◌, ℕ, ◌+◌, ◌*◌, ◌<�
 use Rattle.ov_base.specs.declared.mode.Mode.{Mode}
 use Rattle.ov_tokens.specs.Keys.{check_value_of}
 use Rattle.ov_blocks.specs.declared.extents.TheConstants.{BLOCK_BYTES}
-use Rattle.ov_record.specs.Forms.{first_form}
+use Rattle.ov_record.specs.Forms.{second_form}
 use Rattle.ov_record.specs.Stored.{HasBriefForm, brief_spelling}
 use Rattle.ov_history.specs.Briefs.{Brief}
 use Rattle.ov_history.specs.Rewrites.{rewrites_of}
@@ -61,9 +61,9 @@ pub record IsMisspelled (body : List ℕ) (gate : ℕ) (spot : Spot) : Type 0 wh
 
 -- the body begins with the spelling of this update, and some bytes are behind it
 pub record BeginsWith (u : Brief) (body : List ℕ) : Type 0 where
-  pub form : HasBriefForm first_form u
+  pub form : HasBriefForm second_form u
   pub rest : List ℕ
-  pub bytes : body ≡ brief_spelling first_form u ++ rest
+  pub bytes : body ≡ brief_spelling second_form u ++ rest
 
 -- The body begins with an update with which this history doesn't go on, whatever is behind it. The
 -- place is that of the gate.

@@ -4,10 +4,11 @@ use Rattle.std.proofs.Common.{refl, ap, arith, lit<, lit≤}
 use Rattle.std.proofs.Common.{false, Ok}
 use Rattle.std.specs.Int.{w32}
 use Rattle.ov_base.specs.Sets.{bytes_of}
+use Rattle.ov_base.specs.declared.limits.TheConstants.{SET_WORDS}
 use Rattle.ov_base.proofs.SetLaws.{small-IsBelow}
 use Rattle.ov_fields.specs.Reading.{Read, ◌>>=◌, all_of, bytes_at, made, many_at, number_at}
 use Rattle.ov_fields.specs.Reading.{placed}
-use Rattle.ov_record.specs.Forms.{first_form}
+use Rattle.ov_record.specs.Forms.{second_form}
 use Rattle.ov_record.specs.Reading.{brief_at, stored}
 use Rattle.ov_record.specs.Stored.{Stored}
 use Rattle.ov_record.proofs.BriefLaws.{brief_reads}
@@ -57,7 +58,7 @@ end_of_blobs_is_damage k blobs long is =
 
 last_form : HasRecordForm (create_small 110 (2147483648 ∷ []))
 last_form =
-    ((refl, small-IsBelow 256 1 (lit< tt), lit≤ tt, tt, refl, lit≤ tt), ((lit< tt, tt), refl))
+    ((refl, small-IsBelow (64 * SET_WORDS) 1 (lit< tt), lit≤ tt, tt, refl, lit≤ tt), ((lit< tt, tt), refl))
 
 pub last_block_counts : LastBlockCounts
 unfolding bytes_of
@@ -98,7 +99,7 @@ blocks_in_use_are_damage k blobs long is =
       bad = inr (inr (inr (record {
         update = create_small 109 (2 ∷ []);
         form = (
-          (refl, small-IsBelow 256 1 (lit< tt), lit≤ tt, tt, refl, lit≤ tt),
+          (refl, small-IsBelow (64 * SET_WORDS) 1 (lit< tt), lit≤ tt, tt, refl, lit≤ tt),
           ((lit< tt, tt), refl),
         );
         bytes = refl;
@@ -129,9 +130,9 @@ abbrev create_with : List ℕ → List ℕ
 create_with firsts = create_body 1 (0 ∷ 0 ∷ []) firsts
 
 -- the creation is read from the front
-created_first : (firsts : List ℕ) → brief_at first_form (create_with firsts) ≡ Ok (created, firsts)
+created_first : (firsts : List ℕ) → brief_at second_form (create_with firsts) ≡ Ok (created, firsts)
 unfolding bytes_of
-created_first firsts = (brief_reads first_form first_has_room).again created firsts create_form.0
+created_first firsts = (brief_reads second_form first_has_room).again created firsts create_form.0
 
 missing_stops : StopsInRecord 1 (create_with []) 73
 unfolding bytes_at many_at
@@ -204,7 +205,7 @@ enrolled_stops : StopsInRecord 0 (enrol_body 98 ++ block 0) 3
 unfolding bytes_at many_at
 enrolled_stops =
     ap (λ (r : Read Brief). placed 7 (all_of (and_firsts 0 r)))
-    ((brief_reads first_form first_has_room).again (BriefEnrol (98 ∷ [])) (block 0) refl)
+    ((brief_reads second_form first_has_room).again (BriefEnrol (98 ∷ [])) (block 0) refl)
 
 pub gate_comes_first : GateComesFirst
 gate_comes_first k blobs long is = (

@@ -4,6 +4,7 @@ use Rattle.std.proofs.Common.{refl, sym, ◌∙◌, ap, subst, arith, lit<, lit�
 use Rattle.std.proofs.lemmas.List.{take_at}
 use Rattle.ov_base.specs.Sets.{bytes_of}
 use Rattle.ov_base.specs.declared.mode.Mode.TheVariants.{Full}
+use Rattle.ov_base.specs.declared.limits.TheConstants.{SET_WORDS}
 use Rattle.ov_base.proofs.SetLaws.{small-IsBelow}
 use Rattle.ov_history.specs.Placed.{PlacedHistory}
 use Rattle.ov_images.specs.Records.{AllHaveForm, HasRecordForm}
@@ -41,7 +42,7 @@ one_file = history (enrol 97 ∷ create 1 [] 8193 (0 ∷ []) ∷ [])
 
 pub create_form : HasRecordForm (create 1 [] 8193 (0 ∷ []))
 create_form =
-    ((refl, small-IsBelow 256 1 (lit< tt), lit≤ tt, tt, refl, lit≤ tt), ((lit< tt, tt), refl))
+    ((refl, small-IsBelow (64 * SET_WORDS) 1 (lit< tt), lit≤ tt, tt, refl, lit≤ tt), ((lit< tt, tt), refl))
 
 pub one_file_form : AllHaveForm one_file.updates
 one_file_form = ((refl, (tt, refl)), (create_form, tt))
@@ -93,7 +94,7 @@ empty_file_has_no_block k long = (
     first = lit< tt;
     form = (
       (refl, (tt, refl)),
-      (((refl, small-IsBelow 256 1 (lit< tt), lit≤ tt, tt, refl, lit≤ tt), (tt, refl)), tt),
+      (((refl, small-IsBelow (64 * SET_WORDS) 1 (lit< tt), lit≤ tt, tt, refl, lit≤ tt), (tt, refl)), tt),
     );
     laid_out = record {
       replayed = record {

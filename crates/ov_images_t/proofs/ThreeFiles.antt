@@ -5,6 +5,7 @@ use Rattle.std.specs.List.{AllByRecursion}
 use Rattle.ov_base.specs.Names.{IsName}
 use Rattle.ov_base.specs.Sets.{bytes_of}
 use Rattle.ov_base.specs.declared.mode.Mode.TheVariants.{Delta}
+use Rattle.ov_base.specs.declared.limits.TheConstants.{SET_WORDS}
 use Rattle.ov_base.proofs.SetLaws.{small-IsBelow}
 use Rattle.ov_record.specs.Stored.{IsNumber}
 use Rattle.ov_history.specs.Placed.{PlacedHistory}
@@ -27,7 +28,7 @@ three_files =
 small_form : (letter : ℕ) (firsts : List ℕ) → IsName (letter ∷ [])
     → AllByRecursion IsNumber firsts → HasRecordForm (create_small letter firsts)
 small_form letter firsts name all =
-    ((name, small-IsBelow 256 1 (lit< tt), lit≤ tt, tt, refl, lit≤ tt), (all, refl))
+    ((name, small-IsBelow (64 * SET_WORDS) 1 (lit< tt), lit≤ tt, tt, refl, lit≤ tt), (all, refl))
 
 three_files_form : AllHaveForm three_files.updates
 three_files_form = (

@@ -3,6 +3,7 @@ use Rattle.std.proofs.Common.{inl, inr, ⊎_elim, ℕ, List, [], ◌∷◌, ◌+
 use Rattle.std.proofs.Common.{refl, sym, subst, arith, lit<, lit≤}
 use Rattle.ov_base.specs.Sets.{bytes_of}
 use Rattle.ov_base.specs.declared.mode.Mode.TheVariants.{Full}
+use Rattle.ov_base.specs.declared.limits.TheConstants.{SET_WORDS}
 use Rattle.ov_base.proofs.SetLaws.{small-IsBelow}
 use Rattle.ov_history.specs.Placed.{PlacedHistory}
 use Rattle.ov_images.specs.Records.{AllHaveForm, HasRecordForm}
@@ -23,7 +24,7 @@ two_users =
 
 shared_form : HasRecordForm (create 3 (zero_token ∷ zero_token ∷ []) 8193 (0 ∷ []))
 shared_form = (
-  (refl, small-IsBelow 256 3 (lit< tt), lit≤ tt, (refl, (refl, tt)), refl, lit≤ tt),
+  (refl, small-IsBelow (64 * SET_WORDS) 3 (lit< tt), lit≤ tt, (refl, (refl, tt)), refl, lit≤ tt),
   ((lit< tt, tt), refl),
 )
 

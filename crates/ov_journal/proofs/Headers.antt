@@ -1,5 +1,5 @@
 -- Headers and their bytes.
-use Rattle.std.proofs.Common.{◌≡◌, ℕ, ◌++◌, List, take, drop, get_or, refl, sym, ◌∙◌, ap}
+use Rattle.std.proofs.Common.{◌≡◌, ℕ, ◌++◌, List, take, drop, get_or, refl, sym, ◌∙◌, ap, arith, ◌+◌}
 use Rattle.std.specs.Int.{w32, to_be_bytes, from_be_bytes}
 use Rattle.std.proofs.lemmas.List.{take_at, drop_at}
 use Rattle.std.proofs.lemmas.Nat.{from_be_bytes-to_be_bytes_4}
@@ -22,4 +22,6 @@ spelled_apart a b p q e =
     let surface : a.surface_check ≡ b.surface_check =
     sym (drop_at a.base_check a.surface_check 32 p.base) ∙ ap (λ (l : List ℕ). drop 32 (drop 13 l)) e
     ∙ drop_at b.base_check b.surface_check 32 q.base in
-    λ i. record { mode = mode i; first = first i; base_check = base i; surface_check = surface i }
+    let digit : 48 + a.format ≡ 48 + b.format = ap (λ (l : List ℕ). get_or l 7 0) e in
+    let format : a.format ≡ b.format = omega (arith, digit) in
+    λ i. record { format = format i; mode = mode i; first = first i; base_check = base i; surface_check = surface i }

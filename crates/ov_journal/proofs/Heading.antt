@@ -19,7 +19,7 @@ part_fits l fits n k i = elim (cases_lt i k) [
 ]
 
 -- a header, part by part
-pub header_whole : (front : List ℕ) (h : Header) → length front ≡ 78 → ((i : ℕ) → get_or front i 0 < 256) → get_or front 0 0 ≡ 1 → take 8 (drop 1 front) ≡ magic → get_or front 9 0 ≡ mode_byte h.mode
+pub header_whole : (front : List ℕ) (h : Header) → length front ≡ 78 → ((i : ℕ) → get_or front i 0 < 256) → get_or front 0 0 ≡ 1 → take 8 (drop 1 front) ≡ magic h.format → get_or front 9 0 ≡ mode_byte h.mode
     → h.first ≡ from_be_bytes w32 (take 4 (drop 10 front)) → h.base_check ≡ take 32 (drop 4 (drop 10 front)) → h.surface_check ≡ drop 32 (drop 4 (drop 10 front)) → front ≡ spelled h
 header_whole front h long fits gate is_magic mode first base surface =
     let rest = drop 10 front in
@@ -29,8 +29,8 @@ header_whole front h long fits gate is_magic mode first base surface =
     sym (take-append-drop 4 rest) ∙ (λ i. sym field i ++ sym (take-append-drop 32 (drop 4 rest)) i) ∙ (λ i. to_be_bytes w32 h.first ++ (sym base i ++ sym surface i)) in
     let behind : drop 9 front ≡ mode_byte h.mode ∷ (to_be_bytes w32 h.first ++ (h.base_check ++ h.surface_check)) =
     drop_more front 9 0 (omega (arith, long)) ∙ (λ i. mode i ∷ tail i) in
-    let more : drop 1 front ≡ magic ++ (mode_byte h.mode ∷ (to_be_bytes w32 h.first ++ (h.base_check ++ h.surface_check))) =
-    sym (take-append-drop 8 (drop 1 front)) ∙ (λ i. is_magic i ++ drop-drop 8 1 front i) ∙ ap (λ (l : List ℕ). magic ++ l) behind in
+    let more : drop 1 front ≡ magic h.format ++ (mode_byte h.mode ∷ (to_be_bytes w32 h.first ++ (h.base_check ++ h.surface_check))) =
+    sym (take-append-drop 8 (drop 1 front)) ∙ (λ i. is_magic i ++ drop-drop 8 1 front i) ∙ ap (λ (l : List ℕ). magic h.format ++ l) behind in
     drop_more front 0 0 (omega (arith, long)) ∙ (λ i. gate i ∷ more i)
 
 -- a record, gate and length

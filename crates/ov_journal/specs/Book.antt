@@ -1,22 +1,26 @@
 -- What a Book says, read from the whole of it: a header of 78 bytes, and then records. A record is
 -- a gate of one byte, the length of its body in four bytes, and the body. The first gate that isn't
 -- open ends the records, and what follows it doesn't count.
-use Rattle.std.specs.Prelude.{◌≡◌, ◌<◌, ◌^◌, ℕ, zero, suc, ◌+◌, List, [], ◌∷◌, ◌++◌, length, take, drop}
+use Rattle.std.specs.Prelude.{◌≡◌, ◌⊎◌, ◌<◌, ◌^◌, ℕ, zero, suc, ◌+◌, List, [], ◌∷◌, ◌++◌, length, take, drop}
 use Rattle.std.specs.Prelude.{Bool, true, false, ◌==◌, ◌&&◌, leb, codes}
 use Rattle.ov_base.specs.declared.limits.TheConstants.{MAX_RECORD_BYTES}
 use Rattle.std.specs.Int.{w32, to_be_bytes, from_be_bytes}
 use Rattle.ov_base.specs.Modes.{mode_byte}
 use Rattle.ov_journal.specs.declared.header.Header.{Header}
 
--- the eight bytes behind the header's gate
-abbrev pub magic : List ℕ
-magic = codes "OVERENC1"
+-- the formats of stores
+abbrev pub IsFormat : ℕ → Type 0
+IsFormat format = (format ≡ 1) ⊎ (format ≡ 2)
 
--- a header behind its gate: the magic, the mode, the epoch at which the store began, and the check
+-- the eight bytes behind the header's gate: a word, and the format as a digit
+abbrev pub magic : ℕ → List ℕ
+magic format = codes "OVERENC" ++ (48 + format) ∷ []
+
+-- a header behind its gate: the magic of its format, the mode, the epoch at which the store began, and the check
 -- values of the base master and of the surface master
 abbrev pub header_bytes : Header → List ℕ
 header_bytes h =
-    magic ++ mode_byte h.mode ∷ to_be_bytes w32 h.first ++ h.base_check ++ h.surface_check
+    magic h.format ++ mode_byte h.mode ∷ to_be_bytes w32 h.first ++ h.base_check ++ h.surface_check
 
 -- a whole header with its gate open, 78 bytes
 abbrev pub spelled : Header → List ℕ

@@ -1,8 +1,8 @@
 //! The header of a Book.
-ghost use Rattle.std.specs.Prelude.{◌≡◌, ◌≤◌, ◌↔◌, length, take, drop, slice_index, IsTrue, IfOk};
+ghost use Rattle.std.specs.Prelude.{◌≡◌, ◌≤◌, ℕ, length, take, drop, slice_index, IfNone, IfOk, IfSome};
 ghost use Rattle.ov_base.specs.Modes.{mode_byte};
 ghost use Rattle.ov_journal.specs.Birth.{IsHeaderFrame};
-ghost use Rattle.ov_journal.specs.Book.{magic, spelled};
+ghost use Rattle.ov_journal.specs.Book.{IsFormat, magic, spelled};
 
 use ov_base::{Memory, Mode};
 use std::alloc::Global;
@@ -10,6 +10,8 @@ use std::alloc::Global;
 /// What the header of a store holds.
 #[derive(Clone, Copy, Debug, PartialEq, Eq)]
 pub struct Header {
+    /// The format of the store, 1 or 2: the last digit of its magic as a number.
+    pub format: u8,
     /// When a file has a surface layer.
     pub mode: Mode,
     /// The epoch at which the store began.
@@ -23,15 +25,19 @@ pub struct Header {
 /// How many bytes a header has, its gate among them.
 pub(crate) const HEADER: u64 = 78;
 
-// What follows the header's gate.
-const MAGIC: [u8; 8] = *b"OVERENC1";
+// What follows the gate of a header of the first format.
+const FIRST_MAGIC: [u8; 8] = *b"OVERENC1";
 
-// The header behind its gate, and the closed gate of a record that isn't there.
+// What follows the gate of a header of the second format.
+const SECOND_MAGIC: [u8; 8] = *b"OVERENC2";
+
+// The header of a new store behind its gate, and the closed gate of a record that isn't there.
 pub(crate) fn frame_of(alloc: Global, header: &Header) -> Result<Vec<u8>, Memory>
+    requires { header.now.format ≡ 2 }
     ensures { IfOk result (λ frame. IsHeaderFrame header.now frame.items) }
 {
     let mut frame = Vec::new(alloc);
-    frame.extend_from_slice(&MAGIC)?;
+    frame.extend_from_slice(&SECOND_MAGIC)?;
     frame.push(header.mode.byte())?;
     frame.extend_from_slice(&header.first.to_be_bytes())?;
     frame.extend_from_slice(&header.base_check)?;
@@ -40,21 +46,30 @@ pub(crate) fn frame_of(alloc: Global, header: &Header) -> Result<Vec<u8>, Memory
     Ok(frame)
 }
 
-// Whether the magic follows the gate.
-pub(crate) fn is_magic(front: &[u8]) -> bool
+// The format whose magic follows the gate, where one does.
+pub(crate) fn format_in(front: &[u8]) -> Option<u8>
     requires { 9 ≤ length front.now }
-    ensures { IsTrue result ↔ (take 8 (drop 1 front.now) ≡ magic) }
+    ensures some { IfSome result (λ format.
+        IsFormat format × (take 8 (drop 1 front.now) ≡ magic format)) }
+    ensures none { IfNone result ((format : ℕ) → IsFormat format
+        → take 8 (drop 1 front.now) ≡ magic format → ⊥) }
 {
     let (_, rest) = front.split_at(1);
     let (found, _) = rest.split_at(8);
-    found == MAGIC.as_slice()
+    if found == FIRST_MAGIC.as_slice() {
+        Some(1)
+    } else if found == SECOND_MAGIC.as_slice() {
+        Some(2)
+    } else {
+        None
+    }
 }
 
-// The header of these 78 bytes, which begin with an open gate and the magic.
-pub(crate) fn header_in(front: &[u8], mode: Mode) -> Header
+// The header of these 78 bytes, which begin with an open gate and the magic of this format.
+pub(crate) fn header_in(front: &[u8], format: u8, mode: Mode) -> Header
     requires long { length front.now ≡ 78 }
     requires gate { slice_index front.now 0 ≡ 1 }
-    requires magic { take 8 (drop 1 front.now) ≡ magic }
+    requires magic { take 8 (drop 1 front.now) ≡ magic format }
     requires mode { slice_index front.now 9 ≡ mode_byte mode }
     ensures { front.now ≡ spelled result }
 {
@@ -62,6 +77,7 @@ pub(crate) fn header_in(front: &[u8], mode: Mode) -> Header
     let (first, rest) = rest.split_at(4);
     let (base, surface) = rest.split_at(32);
     Header {
+        format,
         mode,
         first: u32::from_be_bytes(array4(first)),
         base_check: array32(base),

@@ -6,7 +6,7 @@ use Rattle.ov_base.specs.declared.refusal.Refusal.{Refusal}
 use Rattle.ov_disk.specs.Tells.{DiskTells}
 use Rattle.ov_record.specs.Spelling.{HasForm, spelling}
 use Rattle.ov_record.specs.Updates.{SealedUpdate}
-use Rattle.ov_record.specs.Forms.{first_form}
+use Rattle.ov_record.specs.Forms.{second_form}
 use Rattle.ov_history.specs.Briefs.{brief}
 use Rattle.ov_history.specs.Catalogue.{Catalogue}
 use Rattle.ov_history.specs.Sealed.{refusal_shown}
@@ -48,8 +48,8 @@ taken c epoch u (answers.BadRequest place) ready (none, lacks, at_place) form =
 taken c epoch u a ready is form = absurd is
 
 pub update_taken : (surface : List ℕ) (c : Catalogue) (epoch : ℕ) (u : SealedUpdate) (a : Answer)
-    → IsMakeable c epoch u → HasForm first_form u
-    → AnswersUpdate surface c epoch (spelling first_form u) (owner_tag surface epoch (spelling first_form u)) a
+    → IsMakeable c epoch u → HasForm second_form u
+    → AnswersUpdate surface c epoch (spelling second_form u) (owner_tag surface epoch (spelling second_form u)) a
     → HasAnswerForm a
     → (n : ℕ) × (a ≡ answers.Accepted n) × (n ≡ epoch + 1) × (n < 2 ^ 32)
 update_taken surface c epoch u answers.BadTag ready spelled wrong form = absurd (wrong refl)
@@ -144,10 +144,10 @@ module _ {D : Type 0} (tells : DiskTells D) (surface : List ℕ) (e : Errand)
     accepted is =
         let (a, said, makes) = says (serving_of s) (update_request surface epoch u) reply
         is.frame.made form.1 is.frame.replies in
-        let at_surface : AnswersUpdate surface s.catalogue epoch (spelling first_form u)
-        (owner_tag surface epoch (spelling first_form u)) a =
-        subst (λ (x : List ℕ). AnswersUpdate x s.catalogue epoch (spelling first_form u)
-        (owner_tag surface epoch (spelling first_form u)) a) same said.answers in
+        let at_surface : AnswersUpdate surface s.catalogue epoch (spelling second_form u)
+        (owner_tag surface epoch (spelling second_form u)) a =
+        subst (λ (x : List ℕ). AnswersUpdate x s.catalogue epoch (spelling second_form u)
+        (owner_tag surface epoch (spelling second_form u)) a) same said.answers in
         let (n, as_accepted, next, low) = update_taken surface s.catalogue epoch u a ready form.0
         at_surface said.form in (
           makes ∙ ap (made_by (update_request surface epoch u)) as_accepted

@@ -7,7 +7,7 @@ use Rattle.ov_base.specs.declared.limits.TheConstants.{MAX_USERS, MAX_FILE_BYTES
 use Rattle.ov_base.specs.Sets.{set_of_bytes}
 use Rattle.ov_fields.specs.Reading.{Read, ◌>>=◌, ◌>>◌, made, spanned, rest_of, at_most, bytes_at, number_that, many_at, counted_at, flag_at, some_at, optional_at, set_at, token_at, token_of, name_at, sized_at}
 use Rattle.ov_record.specs.Reading as record_reading
-use Rattle.ov_record.specs.Forms.{first_form}
+use Rattle.ov_record.specs.Forms.{second_form}
 use Rattle.ov_wire.specs.Updates as wire_reading
 use Rattle.ov_wire.specs.RequestReading.{spelling_at}
 
@@ -115,7 +115,7 @@ token_alike : AreAlike (optional_at (bytes_at 32)) (optional_at token_at)
 unfolding optional_at
 token_alike bytes = behind_flag (flag_at bytes)
 
-creation_alike : AreAlike wire_reading.creation_at (record_reading.creation_at first_form)
+creation_alike : AreAlike wire_reading.creation_at (record_reading.creation_at second_form)
 creation_alike =
     then_alike _ _ (sized_at MAX_FILE_BYTES) (sized_at MAX_FILE_BYTES)
     (then_alike _ _ (bytes_at 32) (bytes_at 32)
@@ -125,13 +125,13 @@ creation_alike =
 grant_alike : AreAlike wire_reading.grant_at record_reading.grant_at
 grant_alike = then_alike _ _ (optional_at (bytes_at 32)) (optional_at token_at) (same wire_reading.revocation_at) token_alike
 
-updates_alike : AreAlike wire_reading.fields_at (record_reading.update_at first_form)
+updates_alike : AreAlike wire_reading.fields_at (record_reading.update_at second_form)
 unfolding wire_reading.fields_at record_reading.update_at
 updates_alike [] = refl
 updates_alike (zero ∷ bytes) = refl
 updates_alike (suc zero ∷ bytes) = rest-made _ (name_at bytes) ∙ sym (rest-made _ (name_at bytes))
 updates_alike (suc (suc zero) ∷ bytes) =
-    rest-made wire_reading.creation (wire_reading.creation_at bytes) ∙ creation_alike bytes ∙ sym (rest-made record_reading.creation (record_reading.creation_at first_form bytes))
+    rest-made wire_reading.creation (wire_reading.creation_at bytes) ∙ creation_alike bytes ∙ sym (rest-made record_reading.creation (record_reading.creation_at second_form bytes))
 updates_alike (suc (suc (suc zero)) ∷ bytes) =
     rest-made wire_reading.grant (wire_reading.grant_at bytes) ∙ grant_alike bytes ∙ sym (rest-made record_reading.grant (record_reading.grant_at bytes))
 updates_alike (suc (suc (suc (suc zero))) ∷ bytes) =
@@ -146,6 +146,6 @@ span-rest : {A : Type 0} (bytes : List ℕ) (read : Read A) → (read >>= λ a. 
 span-rest bytes (Ok a) = refl
 span-rest bytes (Err left) = refl
 
-pub spellings_agree : (bytes : List ℕ) → spelling_at bytes ≡ spanned (record_reading.update_at first_form) bytes
+pub spellings_agree : (bytes : List ℕ) → spelling_at bytes ≡ spanned (record_reading.update_at second_form) bytes
 spellings_agree bytes =
-    span-rest bytes (wire_reading.fields_at bytes) ∙ ap (span_to bytes) (updates_alike bytes) ∙ sym (span-rest bytes (record_reading.update_at first_form bytes))
+    span-rest bytes (wire_reading.fields_at bytes) ∙ ap (span_to bytes) (updates_alike bytes) ∙ sym (span-rest bytes (record_reading.update_at second_form bytes))

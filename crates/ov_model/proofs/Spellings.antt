@@ -8,7 +8,7 @@ use Rattle.ov_tokens.specs.declared.token.Token.{Token}
 use Rattle.ov_fields.specs.Spelling.{u16, name_field, token_field, sized, IsToken}
 use Rattle.ov_record.specs.Updates.{SealedUpdate, SealedEnrol, SealedCreate, SealedGrant, SealedRevoke}
 use Rattle.ov_record.specs.Spelling.{spelling, HasForm}
-use Rattle.ov_record.specs.Forms.{first_form}
+use Rattle.ov_record.specs.Forms.{second_form}
 use Rattle.ov_wire.specs.Updates.{Enrolment, Creation, Grant, Revocation, IsSpelling}
 
 tokens_len : (tokens : List Token) → AllByRecursion IsToken tokens → length (flat_map token_field tokens) ≡ 32 * length tokens
@@ -21,7 +21,7 @@ tokens_len (token ∷ tokens) all =
 blocks : (len n : ℕ) → len ≡ 32 * n → len / 32 ≡ n
 blocks len n is = omega (arith, is)
 
-pub is_spelling : (u : SealedUpdate) → HasForm first_form u → IsSpelling (spelling first_form u)
+pub is_spelling : (u : SealedUpdate) → HasForm second_form u → IsSpelling (spelling second_form u)
 is_spelling (SealedEnrol name) fits = record { fields = Enrolment name; form = fits; spelled = refl }
 is_spelling (SealedCreate name list tokens tag bytes) fits =
     let len = tokens_len tokens fits.3 in

@@ -4,15 +4,15 @@ use Rattle.ov_fields.specs.Reading.{spanned}
 use Rattle.ov_record.specs.Reading.{update_at}
 use Rattle.ov_record.specs.Updates.{SealedUpdate}
 use Rattle.ov_record.specs.Spelling.{spelling, HasForm}
-use Rattle.ov_record.specs.Forms.{first_form}
+use Rattle.ov_record.specs.Forms.{second_form}
 use Rattle.ov_wire.specs.RequestReading.{spelling_at}
 use Rattle.ov_wire.specs.Updates.{IsSpelling}
 
 -- a frame's reader takes just the bytes from which an update of the first form is read, or fails at
 -- the same byte
 abbrev pub FramesHoldSpellings : Type 0
-FramesHoldSpellings = (bytes : List ℕ) → spelling_at bytes ≡ spanned (update_at first_form) bytes
+FramesHoldSpellings = (bytes : List ℕ) → spelling_at bytes ≡ spanned (update_at second_form) bytes
 
 -- a frame can have the spelling of each update that has the first form
 abbrev pub FramesTakeUpdates : Type 0
-FramesTakeUpdates = (u : SealedUpdate) → HasForm first_form u → IsSpelling (spelling first_form u)
+FramesTakeUpdates = (u : SealedUpdate) → HasForm second_form u → IsSpelling (spelling second_form u)

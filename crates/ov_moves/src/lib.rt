@@ -13,7 +13,7 @@
 //! * [`place_all`] finds and holds a new extent for each file, each in the lowest free run that is
 //!   long enough. Where memory ends, what is held is the very same as before. The search for a file
 //!   goes on where the last one for as many blocks ended. So one walk over the held extents places all
-//!   files that take the same number of blocks, and there are at most 256 such numbers.
+//!   files that take the same number of blocks, and there are at most 4,096 such numbers.
 //! * [`move_all`] moves files, one after the other, through one buffer of [`PIECE_BYTES`]: a piece is
 //!   read from the old extent, turned, and put into the new one, with zeros to the end of its last
 //!   block, so that no byte of another file stays behind it. A file that has no old extent gets the
@@ -56,7 +56,7 @@
 //!
 //! **What it asks for.** Before an update a crash leaves just what the disk reads, Book is the
 //! journal's, and all that is held lies in Blobs, where the disk tells its bytes; then the same holds
-//! at `Ok`. A file has from 1 to 1,048,576 bytes, no two begin at the same block, and no more than
+//! at `Ok`. A file has from 1 to 16,777,216 bytes, no two begin at the same block, and no more than
 //! 65,536 extents are held with the new ones.
 //!
 //! **Errors.** Memory is refused before the first call of the disk, and nothing has changed then. A

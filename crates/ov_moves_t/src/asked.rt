@@ -18,6 +18,7 @@ use std::alloc::Global;
 use std::process::Abort;
 
 const HEADER: Header = Header {
+    format: 2,
     mode: Mode::Full,
     first: 0,
     base_check: [0x11; 32],

@@ -29,7 +29,7 @@ use Rattle.ov_protocol.specs.Updating.{AnswersSpelled}
 use Rattle.ov_record.specs.Reading.{update_of}
 use Rattle.ov_record.specs.Spelling.{spelling}
 use Rattle.ov_record.specs.Updates.{SealedUpdate}
-use Rattle.ov_record.specs.Forms.{first_form}
+use Rattle.ov_record.specs.Forms.{second_form}
 use Rattle.ov_script.specs.declared.command.Command.{Command}
 use Rattle.ov_script.specs.declared.command.Command.TheVariants as commands
 use Rattle.ov_wire.specs.AnswerReading.{answer_of}
@@ -111,7 +111,7 @@ update_other s surface tries epoch u (answers.Stale now) is =
     again_other (length (tries ++ epoch ∷ []) == MAX_TRIES) (tries ++ epoch ∷ []) now
 update_other s surface tries epoch u answers.BadTag is = tt
 update_other s surface tries epoch u answers.DeviceFault (tagged, now, is) =
-    absurd (spelled_other s.catalogue (update_of first_form (spelling first_form u)) is)
+    absurd (spelled_other s.catalogue (update_of second_form (spelling second_form u)) is)
 update_other s surface tries epoch u answers.NoMemory is = tt
 update_other s surface tries epoch u a is = tt
 

@@ -5,7 +5,7 @@ use Rattle.std.specs.Prelude.{◌⊎◌, nat_lt, ◌==◌, Bool, true, false, le
 use Rattle.ov_fields.specs.Fronts.{AreAllBytes}
 use Rattle.ov_record.specs.Spelling.{HasForm}
 use Rattle.ov_record.specs.Updates.{SealedUpdate}
-use Rattle.ov_record.specs.Forms.{first_form}
+use Rattle.ov_record.specs.Forms.{second_form}
 use Rattle.ov_wire.specs.declared.request.Request.{Request}
 use Rattle.ov_wire.specs.declared.answer.Answer.{Answer}
 use Rattle.ov_wire.specs.declared.answer.Answer.TheVariants as answers
@@ -81,7 +81,7 @@ module _ (surface : List ℕ) (e : Errand) (no_update : updates_asked (Ok e.firs
 
   -- an update makes nothing, or itself
   update_makes : (w : Service) (epoch : ℕ) (u : SealedUpdate) (made : List SealedUpdate)
-      → w ≡ v → Ready epoch u → HasForm first_form u
+      → w ≡ v → Ready epoch u → HasForm second_form u
       → HasRequestForm (update_request surface epoch u)
       → MayMake (request_bytes (update_request surface epoch u)) made → Left (later w made)
   update_makes w epoch u made same is form sendable may =

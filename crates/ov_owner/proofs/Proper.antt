@@ -4,7 +4,7 @@ use Rattle.std.specs.Prelude.{nat_lt, Bool, true, false}
 use Rattle.ov_base.proofs.Tests.{lt_is_false}
 use Rattle.ov_record.specs.Spelling.{HasForm, spelling}
 use Rattle.ov_record.specs.Updates.{SealedUpdate}
-use Rattle.ov_record.specs.Forms.{first_form}
+use Rattle.ov_record.specs.Forms.{second_form}
 use Rattle.ov_script.specs.declared.command.Command.{Command}
 use Rattle.ov_script.specs.declared.command.Command.TheVariants as commands
 use Rattle.ov_history.specs.Briefs.{brief}
@@ -86,8 +86,8 @@ module _ (k : Masters) (command : Command) (e : Errand) (d : Does k command e) (
       absurd (lacks (subst (λ (x : SealedUpdate). HasParts (outline c) (brief x)) (sym ready.is_sealed) refusals.1))
   taken epoch u a ready is form now = absurd is
 
-  update_taken : (epoch : ℕ) (u : SealedUpdate) (a : Answer) → Ready epoch u → HasForm first_form u
-      → AnswersUpdate k.surface c epoch (spelling first_form u) (owner_tag k.surface epoch (spelling first_form u)) a
+  update_taken : (epoch : ℕ) (u : SealedUpdate) (a : Answer) → Ready epoch u → HasForm second_form u
+      → AnswersUpdate k.surface c epoch (spelling second_form u) (owner_tag k.surface epoch (spelling second_form u)) a
       → HasAnswerForm a → (n : ℕ) × (a ≡ answers.Accepted n) × (n ≡ epoch + 1) × (n < 2 ^ 32)
   update_taken epoch u answers.BadTag ready spelled wrong form = absurd (wrong refl)
   update_taken epoch u (answers.Stale now) ready spelled (tagged, other, is) form =

@@ -4,7 +4,7 @@ use Rattle.std.specs.Prelude.{nat_lt, ◌==◌, Bool, true, false, length}
 use Rattle.ov_fields.specs.Fronts.{AreAllBytes}
 use Rattle.ov_record.specs.Spelling.{HasForm}
 use Rattle.ov_record.specs.Updates.{SealedUpdate}
-use Rattle.ov_record.specs.Forms.{first_form}
+use Rattle.ov_record.specs.Forms.{second_form}
 use Rattle.ov_script.specs.declared.command.Command.{Command}
 use Rattle.ov_script.specs.declared.reply.Reply.TheVariants as replies
 use Rattle.ov_history.specs.Masters.{Masters}
@@ -187,7 +187,7 @@ module _ (k : Masters) (command : Command) (e : Errand) (d : Does k command e) (
 
       -- ---- after an update
       module _ (g : SealedHistory) (others : List SealedUpdate) (at_h : h ≡ followed g others)
-          (tries : List ℕ) (epoch : ℕ) (u : SealedUpdate) (t : IsSealedAt k command e d base_check g epoch u) (form : HasForm first_form u) where
+          (tries : List ℕ) (epoch : ℕ) (u : SealedUpdate) (t : IsSealedAt k command e d base_check g epoch u) (form : HasForm second_form u) where
         stale_next : (b : Bool) (tried : List ℕ) (now : ℕ)
             → Goes k.surface e (again_if b tried now) rest final
             → IsMachines k command (h ∷ more) last.history result

@@ -1,12 +1,13 @@
 -- The frames of a call to a server that nobody else updates are short.
 use Rattle.std.proofs.Common.{◌≡◌, ℕ, ◌+◌, ◌*◌, ◌≤◌, ◌∙◌, List, [], ◌∷◌, ◌++◌, length, length-append, Option, Result, Ok, Err, refl, ap, subst, sym, inl, inr, arith}
 use Rattle.std.specs.Prelude.{nat_lt, Bool, true, false}
+use Rattle.ov_base.specs.declared.limits.TheConstants.{SET_BYTES}
 use Rattle.ov_fields.specs.Fronts.{AreAllBytes}
 use Rattle.ov_fields.specs.Spelling.{u32}
 use Rattle.ov_record.specs.Reading.{update_of}
 use Rattle.ov_record.specs.Spelling.{HasForm, spelling}
 use Rattle.ov_record.specs.Updates.{SealedUpdate}
-use Rattle.ov_record.specs.Forms.{first_form}
+use Rattle.ov_record.specs.Forms.{second_form}
 use Rattle.ov_script.specs.declared.command.Command.{Command}
 use Rattle.ov_script.specs.declared.command.Command.TheVariants as commands
 use Rattle.ov_history.specs.Catalogue.{Catalogue}
@@ -62,15 +63,15 @@ update_answer_short : (surface : List ℕ) (c : Catalogue) (epoch : ℕ) (spelle
 update_answer_short surface c epoch spelled tag answers.BadTag is = omega arith
 update_answer_short surface c epoch spelled tag (answers.Stale now) is = omega arith
 update_answer_short surface c epoch spelled tag a (tagged, now, is) =
-    spelled_answer_short c (update_of first_form spelled) a is
+    spelled_answer_short c (update_of second_form spelled) a is
 
 update_length : (surface : List ℕ) (epoch : ℕ) (u : SealedUpdate)
     → HasRequestForm (update_request surface epoch u)
-    → length (request_bytes (update_request surface epoch u)) ≡ 37 + length (spelling first_form u)
+    → length (request_bytes (update_request surface epoch u)) ≡ 37 + length (spelling second_form u)
 update_length surface epoch u form =
-    let tag = owner_tag surface epoch (spelling first_form u) in
+    let tag = owner_tag surface epoch (spelling second_form u) in
     let all : length tag ≡ 32 = form.is_request.2 in
-    omega (arith, all, length-append (u32 epoch ++ spelling first_form u) tag, length-append (u32 epoch) (spelling first_form u))
+    omega (arith, all, length-append (u32 epoch ++ spelling second_form u) tag, length-append (u32 epoch) (spelling second_form u))
 
 module _ (k : Masters) (command : Command) (e : Errand) (d : Does k command e) (base_check : List ℕ) (p : PlainHistory) (legal : IsLegal (history_of p))
     (first told sent : ℕ) (some : 1 ≤ told)
@@ -78,7 +79,7 @@ module _ (k : Masters) (command : Command) (e : Errand) (d : Does k command e) (
     (told_short : (a : Answer) → Answers (served (under k.surface base_check (sealed k p))) e.first a
     → length (answer_bytes a) ≤ told)
     (sent_short : let u = sealed_update k (layers_of (history_of p)) (d.plain p) in
-    HasForm first_form u → length (spelling first_form u) ≤ sent) where
+    HasForm second_form u → length (spelling second_form u) ≤ sent) where
   abbrev At : Stage → SealedHistory → Type 0
   At stage g = Serves k command e d base_check p legal stage g
 
@@ -174,15 +175,15 @@ module _ (k : Masters) (command : Command) (e : Errand) (d : Does k command e) (
       let frame : a.request ≡ request_bytes request = moves.asked.spelled ∙ ap request_bytes (sym ours) in
       let replied_so : IsReplyAt (here g) (request_bytes request) a.reply made =
       subst (λ (x : List ℕ). IsReplyAt (here g) x a.reply made) frame replied in
-      let one : length a.request ≡ 37 + length (spelling first_form u) =
+      let one : length a.request ≡ 37 + length (spelling second_form u) =
       ap length frame ∙ update_length k.surface epoch u moves.asked.form.1 in
-      let two : length (spelling first_form u) ≤ sent =
-      subst (λ (x : SealedUpdate). length (spelling first_form x) ≤ sent) (sym ready.is_sealed)
-      (sent_short (subst (HasForm first_form) ready.is_sealed moves.asked.form.0)) in
+      let two : length (spelling second_form u) ≤ sent =
+      subst (λ (x : SealedUpdate). length (spelling second_form x) ≤ sent) (sym ready.is_sealed)
+      (sent_short (subst (HasForm second_form) ready.is_sealed moves.asked.form.0)) in
       let three : length a.reply ≤ 5 =
       reply_short (here g) request a.reply made 5 moves.asked.form.1 (omega arith)
-      (λ x is. update_answer_short k.surface (catalogue_of k.surface g) epoch (spelling first_form u)
-      (owner_tag k.surface epoch (spelling first_form u)) x is)
+      (λ x is. update_answer_short k.surface (catalogue_of k.surface g) epoch (spelling second_form u)
+      (owner_tag k.surface epoch (spelling second_form u)) x is)
       replied_so in
       let four : most next ≡ 0 = by_next replied_so then in
       omega (arith, one, two, three, four) where
@@ -223,7 +224,7 @@ by_sizes : (k : Masters) (command : Command) (e : Errand) (d : Does k command e)
     → ((a : Answer) → Answers (served (under k.surface v.base_check (sealed k p))) e.first a
     → length (answer_bytes a) ≤ told)
     → (let u = sealed_update k (layers_of (history_of p)) (d.plain p) in
-    HasForm first_form u → length (spelling first_form u) ≤ sent)
+    HasForm second_form u → length (spelling second_form u) ≤ sent)
     → frame_bytes asks ≤ first + told + sent + 58
 by_sizes k command e d asks unanswered result v last p first told sent talks same legal right
     alone some first_short told_short sent_short =
@@ -247,8 +248,8 @@ talks_are_short k (commands.Create file names bytes) e asks unanswered result v 
     let list = list_few m.users names in
     let n = by_sizes k (commands.Create file names bytes) (creating k.base file names bytes)
     (create_does k file names bytes)
-    asks unanswered result v last p (72 + 65 * length names) (48 + 4 * length names)
-    (136 + 32 * length names + length bytes)
+    asks unanswered result v last p (72 + 65 * length names) (16 + SET_BYTES + 4 * length names)
+    (104 + SET_BYTES + 32 * length names + length bytes)
     (subst (λ (x : Errand). Talks k.surface x asks unanswered result) is talks) same legal right alone (omega arith)
     (cover_short file (length bytes) names)
     (λ a is. cover_answer_short c file (length bytes) (set_named c.users names) (length names) a is shown)

@@ -17,7 +17,7 @@ use Rattle.ov_graph.proofs.GraphLaws.{plan-few}
 use Rattle.ov_base_layer.specs.Seals.{cover_tokens}
 use Rattle.ov_record.specs.Spelling.{HasForm, spelling}
 use Rattle.ov_record.specs.Updates.{SealedCreate, SealedEnrol, SealedGrant, SealedRevoke, SealedUpdate}
-use Rattle.ov_record.specs.Forms.{first_form}
+use Rattle.ov_record.specs.Forms.{second_form}
 use Rattle.ov_surface.specs.Coats.{base_text}
 use Rattle.ov_surface.specs.Tags.{tag_of_file}
 use Rattle.ov_history.specs.Catalogue.{Catalogue}
@@ -91,7 +91,7 @@ cover_short file len names form =
     let all = names_short names form.is_request.3.0 in
     omega (arith, one, all, length-append (name_field file ++ u32 len) (counted name_field names), length-append (name_field file) (u32 len))
 
-plan_short : (plan : Plan) → length (answer_bytes (answers.Plan plan)) ≡ 48 + 4 * length plan.from
+plan_short : (plan : Plan) → length (answer_bytes (answers.Plan plan)) ≡ 16 + SET_BYTES + 4 * length plan.from
 plan_short plan =
     let set = bytes_of SET_BYTES plan.list in
     let fresh = u8 (flag plan.fresh) in
@@ -101,7 +101,7 @@ plan_short plan =
     omega (arith, numbers_short plan.from, length-bytes_of SET_BYTES plan.list, a, b, c)
 
 pub cover_answer_short : (c : Catalogue) (file : List ℕ) (len : ℕ) (list most : ℕ) (a : Answer)
-    → AnswersCover c file len list a → size list ≤ most → length (answer_bytes a) ≤ 48 + 4 * most
+    → AnswersCover c file len list a → size list ≤ most → length (answer_bytes a) ≤ 16 + SET_BYTES + 4 * most
 cover_answer_short c file len list most (answers.Plan plan) (none, is) few =
     let from : length plan.from ≡ length (plan_of c.base.sets list).from = ap (λ (x : Plan). length x.from) is in
     omega (arith, plan_short plan, from, plan-few c.base.sets list)
@@ -110,23 +110,23 @@ cover_answer_short c file len list most a is few = absurd is
 
 -- ---- updates, and their answers
 
-grant_short : (user file : ℕ) (token : Option _) → HasForm first_form (SealedGrant user file token)
-    → length (spelling first_form (SealedGrant user file token)) ≤ 66
+grant_short : (user file : ℕ) (token : Option _) → HasForm second_form (SealedGrant user file token)
+    → length (spelling second_form (SealedGrant user file token)) ≤ 66
 grant_short user file None form = omega arith
 grant_short user file (Some token) form = let is : length token.bytes ≡ 32 = form.2 in omega arith
 
-pub short_update : (u : SealedUpdate) → HasForm first_form u
+pub short_update : (u : SealedUpdate) → HasForm second_form u
     → ((name : List ℕ) (list : ℕ) (tokens : List _) (tag bytes : List ℕ) → u ≡ SealedCreate name list tokens tag bytes → ⊥)
-    → length (spelling first_form u) ≤ 66
+    → length (spelling second_form u) ≤ 66
 short_update (SealedEnrol name) form other = omega (arith, name_short name form)
 short_update (SealedCreate name list tokens tag bytes) form other = absurd (other name list tokens tag bytes refl)
 short_update (SealedGrant user file token) form other = grant_short user file token form
 short_update (SealedRevoke user file) form other = omega arith
 
 creation_length : (name : List ℕ) (list : ℕ) (tokens : List _) (tag bytes : List ℕ)
-    → HasForm first_form (SealedCreate name list tokens tag bytes)
-    → length (spelling first_form (SealedCreate name list tokens tag bytes))
-    ≤ 136 + 32 * length tokens + length bytes
+    → HasForm second_form (SealedCreate name list tokens tag bytes)
+    → length (spelling second_form (SealedCreate name list tokens tag bytes))
+    ≤ 104 + SET_BYTES + 32 * length tokens + length bytes
 creation_length name list tokens tag bytes form =
     let one = name_short name form.0 in
     let all = (many_reads token_reads (length tokens)).short tokens (form.3, refl) in
@@ -138,8 +138,8 @@ creation_length name list tokens tag bytes form =
 
 pub creation_short : (k : Masters) (y : Layers) (file : List ℕ) (list most : ℕ) (bytes : List ℕ)
     → size list ≤ most
-    → HasForm first_form (sealed_update k y (PlainCreate file list bytes))
-    → length (spelling first_form (sealed_update k y (PlainCreate file list bytes))) ≤ 136 + 32 * most + length bytes
+    → HasForm second_form (sealed_update k y (PlainCreate file list bytes))
+    → length (spelling second_form (sealed_update k y (PlainCreate file list bytes))) ≤ 104 + SET_BYTES + 32 * most + length bytes
 creation_short k y file list most bytes few form =
     let access = access_key k.base (node_for y.base list) in
     let number = length y.files in

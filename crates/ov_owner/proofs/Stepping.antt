@@ -8,7 +8,7 @@ use Rattle.ov_record.specs.Reading.{update_of}
 use Rattle.ov_record.specs.Spelling.{HasForm, spelling}
 use Rattle.ov_record.specs.Updates.{SealedUpdate}
 use Rattle.ov_record.proofs.UpdateLaws.{update_reads, first_has_room}
-use Rattle.ov_record.specs.Forms.{first_form}
+use Rattle.ov_record.specs.Forms.{second_form}
 use Rattle.ov_script.specs.declared.command.Command.{Command}
 use Rattle.ov_script.specs.declared.reply.Reply.{Reply}
 use Rattle.ov_script.specs.declared.reply.Reply.TheVariants as replies
@@ -36,8 +36,8 @@ use Rattle.ov_owner.proofs.Doing.{Does}
 use Rattle.ov_owner.proofs.Telling.{under}
 
 -- an update's spelling is read as it
-pub read_back : (u : SealedUpdate) → HasForm first_form u → update_of first_form (spelling first_form u) ≡ Ok u
-read_back u form = ap (placed (length (spelling first_form u))) (all_again (update_reads first_form first_has_room) u form)
+pub read_back : (u : SealedUpdate) → HasForm second_form u → update_of second_form (spelling second_form u) ≡ Ok u
+read_back u form = ap (placed (length (spelling second_form u))) (all_again (update_reads second_form first_has_room) u form)
 
 module _ (k : Masters) (command : Command) (e : Errand) (d : Does k command e) (base_check : List ℕ) where
   abbrev pub serving : SealedHistory → Service
@@ -99,7 +99,7 @@ module _ (k : Masters) (command : Command) (e : Errand) (d : Does k command e) (
 
   pub update_accepted : (g : SealedHistory) (others made : List SealedUpdate) (epoch n : ℕ)
       (u : SealedUpdate)
-      → IsSealedAt g epoch u → HasForm first_form u
+      → IsSealedAt g epoch u → HasForm second_form u
       → Answers (served (serving (followed g others))) (update_request k.surface epoch u) (answers.Accepted n)
       → made ≡ made_by (update_request k.surface epoch u) (answers.Accepted n)
       → IsStep k command (replies.Accepted n) (followed g others) (followed (followed g others) made)
@@ -120,7 +120,7 @@ module _ (k : Masters) (command : Command) (e : Errand) (d : Does k command e) (
 
   pub update_refused : (g : SealedHistory) (others made : List SealedUpdate) (epoch : ℕ)
       (why : Refusal) (u : SealedUpdate)
-      → IsSealedAt g epoch u → HasForm first_form u
+      → IsSealedAt g epoch u → HasForm second_form u
       → Answers (served (serving (followed g others))) (update_request k.surface epoch u) (answers.Refused why)
       → made ≡ made_by (update_request k.surface epoch u) (answers.Refused why)
       → IsStep k command (replies.Refused why) (followed g others) (followed (followed g others) made)

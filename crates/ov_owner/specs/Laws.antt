@@ -58,7 +58,7 @@ frame_bytes (a ∷ asks) = length (framed a.request) + length (framed a.reply) +
 -- how many bytes the frames of a call have at most: only a creation's are as many as its list and
 -- its file make them
 abbrev pub most_bytes : Command → ℕ
-most_bytes (Create file names bytes) = 320 + 101 * length names + length bytes
+most_bytes (Create file names bytes) = 512 + 101 * length names + length bytes
 most_bytes command = 512
 
 -- Of a server under the owner's surface master that nobody else updates meanwhile, the frames of a

@@ -4,7 +4,7 @@ use Rattle.std.specs.Prelude.{length, Option, Some, None, Result, Ok, Err}
 use Rattle.ov_fields.specs.Fronts.{AreAllBytes}
 use Rattle.ov_record.specs.Spelling.{HasForm, spelling}
 use Rattle.ov_record.specs.Updates.{SealedUpdate}
-use Rattle.ov_record.specs.Forms.{first_form}
+use Rattle.ov_record.specs.Forms.{second_form}
 use Rattle.ov_wire.specs.declared.request.Request.{Request}
 use Rattle.ov_wire.specs.declared.request.Request.TheVariants as requests
 use Rattle.ov_wire.specs.declared.answer.Answer.{Answer}
@@ -32,7 +32,7 @@ start = Asks [] 0
 -- the frame of an update that is made at an epoch, with the owner's tag
 abbrev pub update_request : List ℕ → ℕ → SealedUpdate → Request
 update_request surface epoch u =
-    requests.Update epoch (spelling first_form u) (owner_tag surface epoch (spelling first_form u))
+    requests.Update epoch (spelling second_form u) (owner_tag surface epoch (spelling second_form u))
 
 -- what is asked at a stage
 abbrev pub asked_at : List ℕ → Errand → Stage → Option Request
@@ -44,7 +44,7 @@ asked_at surface e (Ends result) = None
 abbrev pub CanSend : List ℕ → Errand → Stage → Type 0
 CanSend surface e (Asks tries least) = HasRequestForm e.first
 CanSend surface e (Sends tries epoch u) =
-    HasForm first_form u × HasRequestForm (update_request surface epoch u)
+    HasForm second_form u × HasRequestForm (update_request surface epoch u)
 CanSend surface e (Ends result) = ⊥
 
 -- ---- the stage after an answer

@@ -3,7 +3,7 @@ ghost use Rattle.std.specs.Prelude.{◌≡◌, ◌≤◌, length, IfOk};
 ghost use Rattle.ov_base.specs.declared.limits.TheConstants.{MAX_FILE_BYTES, MAX_USERS};
 ghost use Rattle.ov_record.specs.Spelling.{IsWithinLimits};
 ghost use Rattle.ov_record.specs.Updates.{sealed_update};
-ghost use Rattle.ov_record.specs.Forms.{first_form};
+ghost use Rattle.ov_record.specs.Forms.{second_form};
 ghost use Rattle.ov_surface.specs.Coats.{base_text};
 ghost use Rattle.ov_wire.specs.AnswersTo.{IsAnswer};
 ghost use Rattle.ov_owner.specs.Errands.{created, granted, known_of, plan_of};
@@ -76,7 +76,7 @@ fn seal_creation(
     requires edges { length plan.from ≤ MAX_USERS }
     ensures update { IfOk result (λ update.
         sealed_update update ≡ created base.now.bytes file.now bytes.now plan) }
-    ensures limits { IfOk result (λ update. IsWithinLimits first_form (sealed_update update)) }
+    ensures limits { IfOk result (λ update. IsWithinLimits second_form (sealed_update update)) }
 {
     let Plan {
         file: number,
@@ -124,7 +124,7 @@ pub fn seal(
     requires limits { HasChangeLimits change.now }
     requires answer { let e = errand_of base.now.bytes change.now in IsAnswer e.first answer }
     ensures sealed { Seals ((errand_of base.now.bytes change.now).sealed answer) result }
-    ensures limits { IfOk result (λ made. IsWithinLimits first_form (sealed_update made.update)) }
+    ensures limits { IfOk result (λ made. IsWithinLimits second_form (sealed_update made.update)) }
 {
     match change {
         Change::Enrol { user } => {

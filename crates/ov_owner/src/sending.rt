@@ -2,7 +2,7 @@
 ghost use Rattle.std.specs.Prelude.{◌≡◌, ℕ, List, IfOk};
 ghost use Rattle.ov_record.specs.Spelling.{HasForm, IsWithinLimits};
 ghost use Rattle.ov_record.specs.Updates.{sealed_update};
-ghost use Rattle.ov_record.specs.Forms.{first_form};
+ghost use Rattle.ov_record.specs.Forms.{second_form};
 ghost use Rattle.ov_wire.specs.Requests.{HasRequestLimits};
 ghost use Rattle.ov_owner.specs.Causes.{HasOwnerCause};
 ghost use Rattle.ov_owner.specs.Errands.{Errand};
@@ -60,15 +60,15 @@ fn update_request(
     surface: &SurfaceMaster,
     sealed: &Sealed,
 ) -> Result<Request, Memory>
-    requires { IsWithinLimits first_form (sealed_update sealed.now.update) }
+    requires { IsWithinLimits second_form (sealed_update sealed.now.update) }
     ensures request { IfOk result (λ request. request
         ≡ update_request surface.now.bytes sealed.now.epoch (sealed_update sealed.now.update)) }
-    ensures form { IfOk result (λ request. HasForm first_form (sealed_update sealed.now.update)) }
+    ensures form { IfOk result (λ request. HasForm second_form (sealed_update sealed.now.update)) }
     ensures limits { IfOk result HasRequestLimits }
 {
     frames_take_updates();
     let mut spelling = Vec::new(alloc);
-    write(Form::FIRST, &sealed.update, &mut spelling)?;
+    write(Form::SECOND, &sealed.update, &mut spelling)?;
     let epoch = sealed.epoch.to_be_bytes();
     let tag = surface.owner_mac(&epoch, &spelling);
     Ok(Request::Update {
@@ -85,7 +85,7 @@ pub fn send<P: Peer>(
     surface: &SurfaceMaster,
     sealed: &Sealed,
 ) -> Result<Sent, OwnerFault>
-    requires { IsWithinLimits first_form (sealed_update sealed.now.update) }
+    requires { IsWithinLimits second_form (sealed_update sealed.now.update) }
     ensures sent { (e : Errand) (tries : List ℕ) → IsSent P.tells surface.now.bytes e tries
         sealed.now.epoch (sealed_update sealed.now.update) peer.old peer.new result }
     ensures same { P.tells.borrow peer.new ≡ P.tells.borrow peer.old }

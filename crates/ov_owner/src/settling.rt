@@ -2,7 +2,7 @@
 ghost use Rattle.std.specs.Prelude.{◌≡◌, ℕ, List, IfOk};
 ghost use Rattle.ov_record.specs.Spelling.{IsWithinLimits};
 ghost use Rattle.ov_record.specs.Updates.{sealed_update};
-ghost use Rattle.ov_record.specs.Forms.{first_form};
+ghost use Rattle.ov_record.specs.Forms.{second_form};
 ghost use Rattle.ov_owner.specs.Calls.{Runs};
 ghost use Rattle.ov_owner.specs.Causes.{HasOwnerCause};
 ghost use Rattle.ov_owner.specs.Changes.{HasChangeLimits, errand_of};
@@ -29,7 +29,7 @@ fn ask<P: Peer>(
     requires { HasChangeLimits change.now }
     ensures asked { (surface : List ℕ) → IsAsked P.tells surface
         (errand_of base.now.bytes change.now) least peer.old peer.new result }
-    ensures limits { IfOk result (λ made. IsWithinLimits first_form (sealed_update made.update)) }
+    ensures limits { IfOk result (λ made. IsWithinLimits second_form (sealed_update made.update)) }
     ensures same { P.tells.borrow peer.new ≡ P.tells.borrow peer.old }
     ensures cause { HasOwnerCause (P.tells.faults peer.old) (P.tells.faults peer.new) result }
 {

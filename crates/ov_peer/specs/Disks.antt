@@ -2,7 +2,7 @@
 use Rattle.std.specs.Prelude.{◌≡◌, ◌≤◌, ◌⊎◌, ◌-◌, ℕ, min, List, Some, Ok}
 use Rattle.ov_record.specs.Reading.{update_of}
 use Rattle.ov_record.specs.Updates.{SealedUpdate}
-use Rattle.ov_record.specs.Forms.{first_form}
+use Rattle.ov_record.specs.Forms.{second_form}
 use Rattle.ov_history.specs.Catalogue.{Catalogue, Filed}
 use Rattle.ov_history.specs.Places.{living_at}
 use Rattle.ov_wire.specs.declared.request.Request.{Request}
@@ -20,7 +20,7 @@ pub record HasUpdate (s : Serving) (request : List ℕ) (u : SealedUpdate) : Typ
   pub tag : List ℕ
   pub is : request_of request ≡ Ok (requests.Update s.catalogue.epoch spelling tag)
   pub right : tag ≡ owner_tag s.surface s.catalogue.epoch spelling
-  pub spells : update_of first_form spelling ≡ Ok u
+  pub spells : update_of second_form spelling ≡ Ok u
 
 -- the file of this number is there, with this generation, and has at least one byte among the
 -- `count` bytes from `start` on

@@ -75,14 +75,17 @@ few_held limit c placed held well holds =
 
 -- whether an extent is longer than that of the longest file
 abbrev is_long : Extent → Bool
-is_long e = ltb 256 e.length
+is_long e = ltb (blocks_of MAX_FILE_BYTES) e.length
 
 one_short : (place : Option ℕ) (size : ℕ) → size ≤ MAX_FILE_BYTES
     → passing is_long (extent_at place size) ≡ 0
 one_short None size le = refl
 one_short (Some first) size le =
     ap (λ (b : Bool). counted_if b 0)
-    (le-ltb 256 (blocks_of size) (let few : blocks_of size ≤ 256 = omega (arith, le) in few))
+    (
+      le-ltb (blocks_of MAX_FILE_BYTES) (blocks_of size)
+      (let few : blocks_of size ≤ blocks_of MAX_FILE_BYTES = omega (arith, le) in few)
+    )
 
 all_short : (sizes : List ℕ) (placed : List (Option ℕ))
     → ((n : ℕ) → get_or sizes n 0 ≤ MAX_FILE_BYTES) → passing is_long (extents_of sizes placed) ≡ 0
@@ -114,13 +117,14 @@ left_short None each = omega arith
 left_short (Some f) each = each f refl
 
 pub short_held : (limit : ℕ) (c : Catalogue) (placed : List (Option ℕ)) (held : List Extent)
-    → IsWell limit c → HoldsFiles c placed held → All (λ (e : Extent). e.length ≤ 256) held
+    → IsWell limit c → HoldsFiles c placed held
+    → All (λ (e : Extent). e.length ≤ blocks_of MAX_FILE_BYTES) held
 short_held limit c placed held well holds k d lt =
     let none : passing is_long held ≡ 0 =
     holds.extents is_long ∙ all_short (lengths_of c.files) placed (λ n.
     subst (λ (size : ℕ). size ≤ MAX_FILE_BYTES) (sym (lengths-at c.files n))
     (left_short (living_at c.files n) (well.each n))) in
-    ltb-false 256 (get_or held k d).length (none_passes is_long held k d lt none)
+    ltb-false (blocks_of MAX_FILE_BYTES) (get_or held k d).length (none_passes is_long held k d lt none)
 
 -- ---- one file
 

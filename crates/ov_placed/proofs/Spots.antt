@@ -2,7 +2,7 @@
 use Rattle.std.proofs.Common.{◌≡◌, inl, inr, ℕ, ◌+◌, ◌-◌, ◌≤◌, ◌<◌, ◌^◌, List, length, Option, Result, Ok, Err, sym, ◌∙◌, subst, arith}
 use Rattle.ov_disk.specs.declared.area.Area.TheVariants.{Book}
 use Rattle.ov_fields.specs.Reading.{all_of, placed}
-use Rattle.ov_record.specs.Forms.{first_form}
+use Rattle.ov_record.specs.Forms.{second_form}
 use Rattle.ov_record.specs.Reading.{brief_at, brief_of, front_of, stored_at, stored_of}
 use Rattle.ov_history.specs.Briefs.{Brief}
 use Rattle.ov_history.specs.Catalogue.{Catalogue, catalogue_after}
@@ -37,10 +37,10 @@ NamesPlace gate place fault =
     NamesSpot (λ spot. gate + 5 + place < 2 ^ 64 → spot.place ≡ gate + 5 + place) fault
 
 pub misspelled : (body : List ℕ) (gate place : ℕ) (fault : ReplayFault)
-    → brief_of first_form body ≡ Err place → NamesSpot (λ spot. spot.area ≡ Book) fault
+    → brief_of second_form body ≡ Err place → NamesSpot (λ spot. spot.area ≡ Book) fault
     → NamesPlace gate place fault → NamesSpot (StopsInFront body gate) fault
 misspelled body gate place (Damaged area offset) stops in_area at =
-    let within = placed_within (length body) place (front_of (length body) (brief_at first_form
+    let within = placed_within (length body) place (front_of (length body) (brief_at second_form
     body)) stops in
     record {
       at_byte = place;
@@ -50,10 +50,10 @@ misspelled body gate place (Damaged area offset) stops in_area at =
 misspelled body gate place Memory stops in_area at = tt
 
 pub miscounted : (count : ℕ) (body : List ℕ) (gate place : ℕ) (fault : ReplayFault)
-    → stored_of first_form count body ≡ Err place → NamesSpot (λ spot. spot.area ≡ Book) fault
+    → stored_of second_form count body ≡ Err place → NamesSpot (λ spot. spot.area ≡ Book) fault
     → NamesPlace gate place fault → NamesSpot (StopsInBody count body gate) fault
 miscounted count body gate place (Damaged area offset) stops in_area at =
-    let within = placed_within (length body) place (all_of (stored_at first_form count body)) stops
+    let within = placed_within (length body) place (all_of (stored_at second_form count body)) stops
     in
     record {
       at_byte = place;

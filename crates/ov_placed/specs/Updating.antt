@@ -3,7 +3,7 @@ use Rattle.std.specs.Prelude.{◌≡◌, ℕ, List, [], Option, Some, None, Resu
 use Rattle.ov_disk.specs.Disk.{Image, Only, Told}
 use Rattle.ov_disk.specs.Tells.{DiskTells}
 use Rattle.ov_journal.specs.Log.{HasSameRecords, Log, appended}
-use Rattle.ov_record.specs.Forms.{first_form}
+use Rattle.ov_record.specs.Forms.{second_form}
 use Rattle.ov_record.specs.Stored.{HasBriefForm, brief_spelling}
 use Rattle.ov_record.specs.Updates.{SealedUpdate}
 use Rattle.ov_history.specs.Briefs.{Brief, brief, text_of}
@@ -27,15 +27,15 @@ use Rattle.ov_placed.specs.declared.preparing.Prepared.{Prepared}
 -- the spelling of the update, or none, where it passes the limits of one
 abbrev pub IsSpelled : Brief → Option (List ℕ) → Type 0
 IsSpelled b None = IsWithinLimits b → ⊥
-IsSpelled b (Some front) = HasBriefForm first_form b × (front ≡ brief_spelling first_form b)
+IsSpelled b (Some front) = HasBriefForm second_form b × (front ≡ brief_spelling second_form b)
 
 -- The change is that of this update under the surface master, its record begins with these bytes,
 -- and this is the text of the file that it creates.
 pub record IsPrepared {W : ℕ} (limit : ℕ) (master : List ℕ) (c : Catalogue) (u : SealedUpdate)
     (p : Prepared W) : Type 0 where
   pub change : IsChange limit master c (brief u) p.change
-  pub form : HasBriefForm first_form (brief u)
-  pub front : p.front ≡ brief_spelling first_form (brief u)
+  pub form : HasBriefForm second_form (brief u)
+  pub front : p.front ≡ brief_spelling second_form (brief u)
   pub text : p.text ≡ text_of u
 
 -- the bytes of a text, where there is one

@@ -1,7 +1,8 @@
 //! The catalogue with the first blocks of its files and the extents that are held.
 ghost use Rattle.std.specs.Prelude.{◌≡◌, ◌≤◌, ◌*◌, [], All, IfOk, IfSome, length};
-ghost use Rattle.ov_base.specs.declared.limits.TheConstants.{MAX_FILES, MAX_SET_WORDS, MAX_USERS};
-ghost use Rattle.ov_blocks.specs.Extents.{AreApart};
+ghost use Rattle.ov_base.specs.declared.limits.TheConstants.{MAX_FILES, MAX_FILE_BYTES};
+ghost use Rattle.ov_base.specs.declared.limits.TheConstants.{MAX_SET_WORDS, MAX_USERS};
+ghost use Rattle.ov_blocks.specs.Extents.{AreApart, blocks_of};
 ghost use Rattle.ov_blocks.specs.declared.extents.Extent.{Extent};
 ghost use Rattle.ov_history.specs.Catalogue.{empty_catalogue};
 ghost use Rattle.ov_history.specs.Places.{living_at};
@@ -77,7 +78,7 @@ impl<B: Graph<Base, W>, S: Graph<Surface, W>, const W: usize> PlacedCatalogue<B,
             (extents_in_use self.now.catalogue self.now.placed) }
         ensures many { length self.now.held ≡ with_a_byte self.now.catalogue.files }
         ensures few { length self.now.held ≤ MAX_FILES }
-        ensures short { All (λ (e : Extent). e.length ≤ 256) self.now.held }
+        ensures short { All (λ (e : Extent). e.length ≤ blocks_of MAX_FILE_BYTES) self.now.held }
     {
         self.catalogue.known();
         self.extents.known();

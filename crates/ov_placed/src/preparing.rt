@@ -2,7 +2,7 @@
 ghost use Rattle.std.specs.Prelude.{◌≡◌, ◌*◌, true, false, IfErr, IfOk};
 ghost use Rattle.ov_history.specs.Briefs.{brief};
 ghost use Rattle.ov_record.specs.Briefs.{plain_brief};
-ghost use Rattle.ov_record.specs.Forms.{first_form};
+ghost use Rattle.ov_record.specs.Forms.{second_form};
 ghost use Rattle.ov_record.specs.Stored.{IsBriefWithinLimits};
 ghost use Rattle.ov_record.specs.Updates.{sealed_update};
 ghost use Rattle.ov_state.specs.Changes.{HasRoomFor};
@@ -32,7 +32,7 @@ pub struct Prepared<const W: usize> {
 // layers want.
 fn has_few_tokens(update: &Brief<WIDTH>) -> bool
     requires { IsFitting (plain_brief update.now) }
-    ensures few { result ≡ true → IsBriefWithinLimits first_form (plain_brief update.now) }
+    ensures few { result ≡ true → IsBriefWithinLimits second_form (plain_brief update.now) }
     ensures many { result ≡ false → IsWithinLimits (plain_brief update.now) → ⊥ }
 {
     match update {

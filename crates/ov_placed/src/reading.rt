@@ -34,7 +34,7 @@ pub(crate) fn read_update(
     ensures found { IfOk result (λ update. BeginsWith (plain_brief update) body.now) }
     ensures fault { IfErr result (NamesSpot (StopsInFront body.now gate)) }
 {
-    match read_brief(alloc, Form::FIRST, body) {
+    match read_brief(alloc, Form::SECOND, body) {
         Ok((update, _)) => Ok(update),
         Err(RecordFault::BadRecord { at }) => Err(damaged_body(gate, at)),
         Err(RecordFault::Memory) => Err(ReplayFault::Memory),
@@ -54,7 +54,7 @@ pub(crate) fn read_record(
     ensures count { IfOk result (λ read. length read.places ≡ count) }
     ensures fault { IfErr result (NamesSpot (StopsInBody count body.now gate)) }
 {
-    match read_stored(alloc, Form::FIRST, body, count) {
+    match read_stored(alloc, Form::SECOND, body, count) {
         Ok(record) => Ok(record),
         Err(RecordFault::BadRecord { at }) => Err(damaged_body(gate, at)),
         Err(RecordFault::Memory) => Err(ReplayFault::Memory),

@@ -1,6 +1,6 @@
 //! Bodies of records.
 ghost use Rattle.ov_record.specs.Briefs.{plain_brief};
-ghost use Rattle.ov_record.specs.Forms.{first_form};
+ghost use Rattle.ov_record.specs.Forms.{second_form};
 ghost use Rattle.ov_record.specs.Stored.{IsBriefWithinLimits};
 
 use ov_base::{Name, UserSet};
@@ -22,14 +22,14 @@ fn name(rt: &impl Abort, text: &[u8]) -> Name {
 
 /// The record of an update with these first blocks.
 fn record(rt: &impl Abort, alloc: Global, update: Brief<WIDTH>, firsts: &[u32]) -> Vec<u8>
-    requires { IsBriefWithinLimits first_form (plain_brief update) }
+    requires { IsBriefWithinLimits second_form (plain_brief update) }
 {
     let mut places = Numbers::new(alloc);
     for first in firsts {
         places.push(*first).expect(rt, "memory");
     }
     let mut body = Vec::new(alloc);
-    write_stored(Form::FIRST, &Stored { update, places }, &mut body).expect(rt, "memory");
+    write_stored(Form::SECOND, &Stored { update, places }, &mut body).expect(rt, "memory");
     body
 }
 

@@ -6,7 +6,7 @@ use Rattle.std.proofs.lemmas.List.{append-nil}
 use Rattle.ov_record.specs.Reading.{update_of}
 use Rattle.ov_record.specs.Updates.{SealedUpdate, SealedEnrol, SealedCreate, SealedGrant}
 use Rattle.ov_record.specs.Updates.{SealedRevoke}
-use Rattle.ov_record.specs.Forms.{first_form}
+use Rattle.ov_record.specs.Forms.{second_form}
 use Rattle.ov_history.specs.Briefs.{brief}
 use Rattle.ov_history.specs.Catalogue.{Catalogue, catalogue_after, outline}
 use Rattle.ov_history.specs.Sealed.{HasParts, KeepsBytes, SealedHistory, StandsFor}
@@ -103,7 +103,7 @@ spelled_made s v (Err place) n is wrong = absurd (cc)
 goes_on : (s : Serving) (v : Service) (read : Result Request ℕ) (a : Answer) → IsService s v
     → AnswersRead s read a → ServiceGoesOn s v (made_of read a)
 goes_on s v (Ok (requests.Update epoch spelling tag)) (answers.Accepted n) is (t, e, made) =
-    spelled_made s v (update_of first_form spelling) n is made
+    spelled_made s v (update_of second_form spelling) n is made
 goes_on s v (Ok request) a is answered = nothing_made s v is
 goes_on s v (Err place) a is answered = nothing_made s v is
 

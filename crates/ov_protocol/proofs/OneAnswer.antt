@@ -7,7 +7,7 @@ use Rattle.ov_base.specs.declared.limits.TheConstants.{SET_WORDS}
 use Rattle.ov_base_layer.specs.Holders.{AreFirst, accesses_of}
 use Rattle.ov_record.specs.Reading.{update_of}
 use Rattle.ov_record.specs.Updates.{SealedUpdate}
-use Rattle.ov_record.specs.Forms.{first_form}
+use Rattle.ov_record.specs.Forms.{second_form}
 use Rattle.ov_history.specs.Briefs.{brief}
 use Rattle.ov_history.specs.History.{Created}
 use Rattle.ov_history.specs.Lists.{file_at, names_in, set_named}
@@ -120,7 +120,7 @@ data Tagged (surface : List ℕ) (c : Catalogue) (epoch : ℕ) (spelling tag : L
   wrong_epoch : tag ≡ owner_tag surface epoch spelling → epoch ≢ c.epoch → a ≡ answers.Stale c.epoch
       → Tagged surface c epoch spelling tag a
   right : tag ≡ owner_tag surface epoch spelling → epoch ≡ c.epoch
-      → AnswersSpelled c (update_of first_form spelling) a → Tagged surface c epoch spelling tag a
+      → AnswersSpelled c (update_of second_form spelling) a → Tagged surface c epoch spelling tag a
 
 tagged : (surface : List ℕ) (c : Catalogue) (epoch : ℕ) (spelling tag : List ℕ) (a : Answer)
     → AnswersUpdate surface c epoch spelling tag a → Tagged surface c epoch spelling tag a
@@ -147,7 +147,7 @@ tagged_once surface c epoch spelling tag one other (right t e is) (wrong_tag u t
 tagged_once surface c epoch spelling tag one other (right t e is) (wrong_epoch u f too) =
     absurd (f e)
 tagged_once surface c epoch spelling tag one other (right t e is) (right u f too) =
-    spelled_once c (update_of first_form spelling) one other is too
+    spelled_once c (update_of second_form spelling) one other is too
 
 -- ---- Chain and Chunk
 

@@ -7,7 +7,7 @@ use Rattle.ov_keyed.specs.Hmac.{hmac}
 use Rattle.ov_tokens.specs.Keys.{update_key_of}
 use Rattle.ov_record.specs.Reading.{update_of}
 use Rattle.ov_record.specs.Updates.{SealedUpdate}
-use Rattle.ov_record.specs.Forms.{first_form}
+use Rattle.ov_record.specs.Forms.{second_form}
 use Rattle.ov_history.specs.Briefs.{brief, part_place}
 use Rattle.ov_history.specs.Catalogue.{Catalogue, outline}
 use Rattle.ov_history.specs.Sealed.{HasParts, refusal_shown}
@@ -46,7 +46,7 @@ AnswersUpdate surface c epoch spelling tag (answers.Stale now) =
     (tag ≡ owner_tag surface epoch spelling) × (epoch ≢ c.epoch) × (now ≡ c.epoch)
 AnswersUpdate surface c epoch spelling tag answer =
     (tag ≡ owner_tag surface epoch spelling) × (epoch ≡ c.epoch)
-    × AnswersSpelled c (update_of first_form spelling) answer
+    × AnswersSpelled c (update_of second_form spelling) answer
 
 -- the update that was read of some bytes, where they spell one
 abbrev pub spelled_by : Result SealedUpdate ℕ → List SealedUpdate
@@ -55,7 +55,7 @@ spelled_by (Err place) = []
 
 -- the update that these bytes spell, as a record's reader reads them, where they spell one
 abbrev pub updates_in : List ℕ → List SealedUpdate
-updates_in spelling = spelled_by (update_of first_form spelling)
+updates_in spelling = spelled_by (update_of second_form spelling)
 
 -- the updates of a list of spellings, in order
 abbrev pub updates_of : List (List ℕ) → List SealedUpdate

@@ -113,7 +113,7 @@ static ROWS: [Row<'static>; 24] = [
         lines: b"error line 1\n",
     },
     Row {
-        script: b"enrol a\ncreate f a 2\nxx\ncreate g a 1048577\nxxxxxxxx",
+        script: b"enrol a\ncreate f a 2\nxx\ncreate g a 16777217\nxxxxxxxx",
         status: 3,
         lines: b"ok 1\nok 2\nerror line 4\n",
     },

@@ -106,8 +106,8 @@ size_may_go_on = alive_can (codes "create f a 104857") refl
 leading_zero : CanBegin (codes "create f a 00") → ⊥
 leading_zero = dead_cannot (codes "create f a 00") (lacks_by_test 10 (codes "create f a 00") refl) refl
 
-one_byte_too_many : CanBegin (codes "create f a 1048577") → ⊥
-one_byte_too_many = dead_cannot (codes "create f a 1048577") (lacks_by_test 10 (codes "create f a 1048577") refl) refl
+one_byte_too_many : CanBegin (codes "create f a 16777217") → ⊥
+one_byte_too_many = dead_cannot (codes "create f a 16777217") (lacks_by_test 10 (codes "create f a 16777217") refl) refl
 
 -- ---- the end inside an item, and the limit
 

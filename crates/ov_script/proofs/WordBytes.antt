@@ -76,5 +76,5 @@ size_no_lf n h = decimal_lacks 10 n (omega arith) (omega arith)
 pub size_no_space : (n : ℕ) → n ≤ MAX_FILE_BYTES → Lacks 32 (decimal n)
 size_no_space n h = decimal_lacks 32 n (omega arith) (omega arith)
 
-pub size_short : (n : ℕ) → n ≤ MAX_FILE_BYTES → length (decimal n) ≤ 7
-size_short n h = length-decimal-le 7 n (omega arith) (omega arith) (omega arith)
+pub size_short : (n : ℕ) → n ≤ MAX_FILE_BYTES → length (decimal n) ≤ 8
+size_short n h = length-decimal-le 8 n (omega arith) (omega arith) (omega arith)

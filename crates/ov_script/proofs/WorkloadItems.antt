@@ -6,6 +6,7 @@ use Rattle.std.proofs.lemmas.Bool.Decides.{nat_tests}
 use Rattle.ov_base.specs.NameLists.{with_name}
 use Rattle.ov_base.specs.Names.{IsName}
 use Rattle.ov_base.specs.Sets.{has}
+use Rattle.ov_base.specs.declared.limits.TheConstants.{MAX_FILE_BYTES, MAX_LINE_BYTES}
 use Rattle.ov_script.specs.Items.{IsItem, line_of, create_line}
 use Rattle.ov_script.specs.Workload.{and_if, body, command_at, command_by, creations, drawn_at, enrols_or_draws, file, user, users_in}
 use Rattle.ov_script.specs.WrittenLists.{AreNames, list_text, with_commas, without_repeats}
@@ -91,8 +92,8 @@ creation_said i made who size small few =
     let list : List ℕ = list_text names in
     let are = users_named who WORKLOAD_USERS (omega arith) in
     let bytes : length (body i size) ≡ size = body_size i size in
-    let low : length (body i size) ≤ 1048576 = omega arith in
-    let short : length (create_line (file made) list (length (body i size))) ≤ 20000 =
+    let low : length (body i size) ≤ MAX_FILE_BYTES = omega arith in
+    let short : length (create_line (file made) list (length (body i size))) ≤ MAX_LINE_BYTES =
     omega (arith, line_size (file made) list (length (body i size)), name_short (file made) (file_named made small), size_short (length (body i size)) low, list_short names are, users_few who WORKLOAD_USERS) in (
       create_line (file made) list (length (body i size)) ++ body i size ++ 10 ∷ [],
       (list, file_named made small, (names, are, refl, users_once who WORKLOAD_USERS (omega arith)), low, short, refl),

@@ -138,7 +138,7 @@ const NO_CREATES: [&[u8]; 15] = [
     b"create f a 3\nabcd\n",
     b"create f a 3\nabc",
     b"create f a 03\nabc\n",
-    b"create f a 1048577",
+    b"create f a 16777217",
     b"create f a, 1\nx\n",
     b"create f a,,b 1\nx\n",
     b"create f ,a 1\nx\n",
@@ -246,8 +246,8 @@ fn with_last(alloc: Global, before: &[u8], size: usize, behind: &[u8]) -> Result
 
 #[test]
 fn the_longest_body(rt: HostRuntime) -> Result<(), Fail> {
-    let before = b"enrol a\ncreate f a 1048576\n";
-    let behind = b"\ncreate g a 1048577\n";
+    let before = b"enrol a\ncreate f a 16777216\n";
+    let behind = b"\ncreate g a 16777217\n";
     let text = with_last(rt.alloc(), before, MAX_FILE_BYTES as usize, behind)?;
     let mut script = script_of(rt.alloc(), &text, 65_536)?;
     match script.next() {

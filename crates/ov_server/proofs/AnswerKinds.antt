@@ -2,7 +2,7 @@
 use Rattle.std.proofs.Common.{◌≡◌, ◌∙◌, ℕ, true, false, List, [], ◌∷◌, Result, Ok, Err, refl, ap, sym, true≢false}
 use Rattle.ov_record.specs.Reading.{update_of}
 use Rattle.ov_record.specs.Updates.{SealedUpdate}
-use Rattle.ov_record.specs.Forms.{first_form}
+use Rattle.ov_record.specs.Forms.{second_form}
 use Rattle.ov_history.specs.Catalogue.{Catalogue}
 use Rattle.ov_history.specs.Places.{living_at}
 use Rattle.ov_wire.specs.declared.request.Request.{Request}
@@ -36,7 +36,7 @@ no_fault s (Ok requests.Hello) is = cc
 no_fault s (Ok (requests.Ask question)) is = is
 no_fault s (Ok (requests.Cover file len names)) is = is
 no_fault s (Ok (requests.Update epoch spelling tag)) is =
-    spelled_fault s.catalogue (update_of first_form spelling) is.2
+    spelled_fault s.catalogue (update_of second_form spelling) is.2
 no_fault s (Ok (requests.Chain user file)) is = is
 no_fault s (Ok (requests.Chunk file generation start count)) is =
     chunk_fault (living_at s.catalogue.files file) (option_map (λ stored. slice_index_or stored file []) s.stored) generation
@@ -83,7 +83,7 @@ pub record IsMade (read : Result Request ℕ) (made : List SealedUpdate) : Type 
   pub tag : List ℕ
   pub update : SealedUpdate
   pub is : read ≡ Ok (requests.Update epoch spelling tag)
-  pub spells : update_of first_form spelling ≡ Ok update
+  pub spells : update_of second_form spelling ≡ Ok update
   pub makes : made ≡ update ∷ []
 
 spelled_made : (c : Catalogue) (read : Result SealedUpdate ℕ) (n : ℕ)
@@ -94,7 +94,7 @@ spelled_made c (Err place) n is = absurd (cc)
 pub accepted_made : (s : Serving) (read : Result Request ℕ) (n : ℕ)
     → AnswersRead s read (answers.Accepted n) → IsMade read (made_of read (answers.Accepted n))
 accepted_made s (Ok (requests.Update epoch spelling tag)) n is =
-    let one = spelled_made s.catalogue (update_of first_form spelling) n is.2 in record {
+    let one = spelled_made s.catalogue (update_of second_form spelling) n is.2 in record {
       epoch = epoch;
       spelling = spelling;
       tag = tag;

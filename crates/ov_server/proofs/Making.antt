@@ -11,7 +11,7 @@ use Rattle.ov_fields.proofs.NameLaws.{name_reads}
 use Rattle.ov_record.specs.Reading.{update_of}
 use Rattle.ov_record.specs.Spelling.{HasForm}
 use Rattle.ov_record.specs.Updates.{SealedUpdate, SealedEnrol, SealedCreate, SealedGrant, SealedRevoke}
-use Rattle.ov_record.specs.Forms.{first_form}
+use Rattle.ov_record.specs.Forms.{second_form}
 use Rattle.ov_history.specs.Briefs.{brief, outer, part_place}
 use Rattle.ov_history.specs.Catalogue.{Catalogue, matrix_shown, outline}
 use Rattle.ov_history.specs.Refusals.{tests_of}
@@ -41,7 +41,7 @@ use Rattle.ov_server.proofs.Shown.{MakesNone, Puts, answers_still, writes_none}
 use Rattle.ov_server.proofs.AnswerKinds.{accepted_apart, nothing_made}
 
 -- the place of a wrong part is near the front of a spelling
-pub part_low : (u : SealedUpdate) → HasForm first_form u → part_place SET_WORDS (brief u) < 256
+pub part_low : (u : SealedUpdate) → HasForm second_form u → part_place SET_WORDS (brief u) < 256
 part_low (SealedEnrol name) form = omega arith
 part_low (SealedCreate name list tokens tag text) form =
     omega (arith, name_reads.short name form.0)
@@ -55,7 +55,7 @@ module _ (s : Serving) (request : List ℕ) (u : SealedUpdate) (has : HasUpdate 
       → AnswersRead s (request_of request) a
   answers_sealed a is =
       subst (λ (r : Result Request ℕ). AnswersRead s r a) (sym has.is) (by_answer a is) where
-        spelled : (b : Answer) → AnswersSealed s.catalogue u b → AnswersSpelled s.catalogue (update_of first_form has.spelling) b
+        spelled : (b : Answer) → AnswersSealed s.catalogue u b → AnswersSpelled s.catalogue (update_of second_form has.spelling) b
         spelled b are = subst (λ (r : Result SealedUpdate ℕ). AnswersSpelled s.catalogue r b) (sym has.spells) are
 
         by_answer : (b : Answer) → AnswersSealed s.catalogue u b
@@ -273,7 +273,7 @@ module _ {D : Type 0} (tells : DiskTells D)
         )
         puts
 
-    pub on_bad_plan : (place : ℕ) → result ≡ Err (BadPlan place) → HasForm first_form u
+    pub on_bad_plan : (place : ℕ) → result ≡ Err (BadPlan place) → HasForm second_form u
         → Puts (Ok (answers.BadRequest (5 + place))) reply last → Asked
     on_bad_plan place is form puts =
         let said = subst (Updates u old new) is answer in

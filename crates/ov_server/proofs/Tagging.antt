@@ -3,7 +3,7 @@ use Rattle.std.proofs.Common.{◌≡◌, ◌≢◌, ◌∙◌, ℕ, ◌≤◌, �
 use Rattle.ov_fields.specs.Reading.{placed}
 use Rattle.ov_record.specs.Reading.{update_of}
 use Rattle.ov_record.specs.Updates.{SealedUpdate}
-use Rattle.ov_record.specs.Forms.{first_form}
+use Rattle.ov_record.specs.Forms.{second_form}
 use Rattle.ov_wire.specs.declared.request.Request.{Request}
 use Rattle.ov_wire.specs.declared.request.Request.TheVariants as requests
 use Rattle.ov_wire.specs.RequestReading.{request_of}
@@ -42,9 +42,9 @@ module _ (s : Serving) (request : List ℕ) (u : SealedUpdate) (has : HasUpdate 
   other_epoch wrong = wrong same.epochs
 
   -- an Update with a wrong spelling spells no update
-  pub spells_none : (place : ℕ) → update_of first_form spelling ≡ Err place → ⊥
+  pub spells_none : (place : ℕ) → update_of second_form spelling ≡ Err place → ⊥
   spells_none place wrong =
-      let both : Err place ≡ Ok u = sym wrong ∙ ap (update_of first_form) same.spellings ∙ has.spells in cc
+      let both : Err place ≡ Ok u = sym wrong ∙ ap (update_of second_form) same.spellings ∙ has.spells in cc
 
 -- a wrong place is within the bytes
 pub placed_low : {A : Type 0} (count place : ℕ) (read : Result A ℕ)

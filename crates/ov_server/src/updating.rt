@@ -3,7 +3,7 @@ ghost use Rattle.std.specs.Prelude.{◌≡◌, ◌≤◌, ◌+◌, ℕ, List, le
 ghost use Rattle.ov_base.specs.declared.limits.TheConstants.{MAX_FRAME_BYTES};
 ghost use Rattle.ov_record.specs.Spelling.{HasForm};
 ghost use Rattle.ov_record.specs.Updates.{sealed_update};
-ghost use Rattle.ov_record.specs.Forms.{first_form};
+ghost use Rattle.ov_record.specs.Forms.{second_form};
 ghost use Rattle.ov_wire.specs.declared.request.Request.TheVariants as requests;
 ghost use Rattle.ov_wire.specs.RequestReading.{request_of};
 ghost use Rattle.ov_protocol.specs.Updating.{owner_tag, spelling_place};
@@ -41,7 +41,7 @@ impl<D: Disk> Server<D> {
         update: Update<WIDTH>,
         reply: &mut Vec<u8>,
     ) -> Result<(), Memory>
-        requires { HasForm first_form (sealed_update update) }
+        requires { HasForm second_form (sealed_update update) }
         ensures { (request : List ℕ)
             → HasUpdate (serving_of self.old) request (sealed_update update)
             → AsksServer D.tells self.old self.new request reply.new.items result }
@@ -90,7 +90,7 @@ impl<D: Disk> Server<D> {
             return reply_with(Ok(Answer::Stale { epoch: now }), reply);
         }
         let alloc = *reply.allocator();
-        match read(alloc, Form::FIRST, spelling) {
+        match read(alloc, Form::SECOND, spelling) {
             Ok(update) => self.make(alloc, update, reply),
             Err(RecordFault::BadRecord { at }) => {
                 let at = SPELLING_PLACE + at;

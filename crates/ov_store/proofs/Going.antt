@@ -34,6 +34,7 @@ use Rattle.ov_images.specs.Records.{AllHaveForm, bodies_of, record_spelling}
 use Rattle.ov_images.proofs.Extents.{laid_out_front, unplaced-push}
 use Rattle.ov_images.proofs.Keeping.{places_once}
 use Rattle.ov_images.proofs.Records.{bodies-push}
+use Rattle.ov_state.specs.declared.state.TheConstants.{WIDTH}
 use Rattle.ov_placed.specs.Contents.{HoldsFiles, HoldsTheSame, PlacedStore}
 use Rattle.ov_placed.specs.Updating.{IsPrepared, KeepsOrGoesOn, MakesUpdate, MayGoOn}
 use Rattle.ov_placed.specs.declared.preparing.Prepared.{Prepared}
@@ -140,8 +141,8 @@ told_before None new still k read = absurd (cc (still refl, read))
 
 module _ {D : Type 0} (tells : DiskTells D) (k : Keys) (d0 d1 : D) (store : PlacedStore) (log : Log)
     (safe : IsSafe tells log store (store_of tells d0 k store false)) (u : SealedUpdate)
-    (prepared : Prepared 4) (is : IsPrepared 256 k.surface store.catalogue u prepared)
-    (leaves : LeavesAtMost tells (KeepsOrGoesOn 256 k.surface store prepared) d0 d1) where
+    (prepared : Prepared WIDTH) (is : IsPrepared (64 * WIDTH) k.surface store.catalogue u prepared)
+    (leaves : LeavesAtMost tells (KeepsOrGoesOn (64 * WIDTH) k.surface store prepared) d0 d1) where
   abbrev p : PlacedHistory
   p = safe.history
 
@@ -158,7 +159,7 @@ module _ {D : Type 0} (tells : DiskTells D) (k : Keys) (d0 d1 : D) (store : Plac
       (places_once k k kept.0 p i kept.1.records (safe.kept refl i read)) kept.1
 
   may : (g : SealedHistory) → Stands0 g → (i : Image) → tells.reads d0 ≡ Some i
-      → MayGoOn 256 store prepared k p g u i
+      → MayGoOn (64 * WIDTH) store prepared k p g u i
   may g serves i read = record {
     replayed = safe.replayed;
     prepared_is = is;
@@ -173,14 +174,14 @@ module _ {D : Type 0} (tells : DiskTells D) (k : Keys) (d0 d1 : D) (store : Plac
       → LeavesEither tells u (store_of tells d0 k store false) later
   leaves_either later same g serves sound i read =
       subst (λ (d : D). LeavesOnly tells d0 d (KeepsEither k g u)) (sym same)
-      (weaker tells d0 d1 (KeepsOrGoesOn 256 k.surface store prepared i) (KeepsEither k g u)
+      (weaker tells d0 d1 (KeepsOrGoesOn (64 * WIDTH) k.surface store prepared i) (KeepsEither k g u)
       (leaves.leaves i read)
       (λ x goes. either g x (goes k p g u refl (may g serves i read)).0))
 
   -- ---- once it is made
 
   module _ (new : PlacedStore)
-      (made : MakesUpdate tells 256 k.surface store prepared d0 d1 new) where
+      (made : MakesUpdate tells (64 * WIDTH) k.surface store prepared d0 d1 new) where
     abbrev v : PlacedUpdate
     v = placed_as u made.firsts
 

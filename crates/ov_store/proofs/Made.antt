@@ -9,6 +9,7 @@ use Rattle.ov_images.specs.Images.{KeepsEither, Keys}
 use Rattle.ov_journal.specs.Log.{HasSameRecords, Log, Stands, appended}
 use Rattle.ov_moves.specs.Placing.{LiesIn}
 use Rattle.ov_moves.specs.Runs.{LeavesAtMost}
+use Rattle.ov_state.specs.declared.state.TheConstants.{WIDTH}
 use Rattle.ov_placed.specs.Contents.{HoldsFiles, HoldsTheSame, PlacedStore}
 use Rattle.ov_placed.specs.Updating.{IsPrepared, KeepsOrGoesOn, MakesUpdate}
 use Rattle.ov_placed.specs.declared.preparing.Prepared.{Prepared}
@@ -24,8 +25,8 @@ use Rattle.ov_store.proofs.Looking.{store_of}
 module _ {D : Type 0} (tells : DiskTells D) (k : Keys) (d0 d1 : D) (f : Bool) (sound : f ≡ false)
     (log : Log) (old mid : PlacedStore) (same : HoldsTheSame old mid)
     (safe : IsSafe tells log old (store_of tells d0 k old f)) (u : SealedUpdate)
-    (prepared : Prepared 4) (is : IsPrepared 256 k.surface old.catalogue u prepared)
-    (leaves : LeavesAtMost tells (KeepsOrGoesOn 256 k.surface mid prepared) d0 d1) where
+    (prepared : Prepared WIDTH) (is : IsPrepared (64 * WIDTH) k.surface old.catalogue u prepared)
+    (leaves : LeavesAtMost tells (KeepsOrGoesOn (64 * WIDTH) k.surface mid prepared) d0 d1) where
   abbrev before : Opened D
   before = store_of tells d0 k old f
 
@@ -34,9 +35,9 @@ module _ {D : Type 0} (tells : DiskTells D) (k : Keys) (d0 d1 : D) (f : Bool) (s
       ap (λ (b : Bool). store_of tells d0 k mid b) (sym sound)
       ∙ same_view tells k d0 f old mid same
 
-  prepared_is : IsPrepared 256 k.surface mid.catalogue u prepared
+  prepared_is : IsPrepared (64 * WIDTH) k.surface mid.catalogue u prepared
   prepared_is =
-      subst (λ (c : Catalogue). IsPrepared 256 k.surface c u prepared) (sym same.catalogue) is
+      subst (λ (c : Catalogue). IsPrepared (64 * WIDTH) k.surface c u prepared) (sym same.catalogue) is
 
   still_safe : IsSafe tells log mid (store_of tells d0 k mid false)
   still_safe =
@@ -48,7 +49,7 @@ module _ {D : Type 0} (tells : DiskTells D) (k : Keys) (d0 d1 : D) (f : Bool) (s
       subst (λ (s : Opened D). LeavesEither tells u s later) view
       (leaves_either tells k d0 d1 mid log still_safe u prepared prepared_is leaves later disk_is)
 
-  module _ (new : PlacedStore) (made : MakesUpdate tells 256 k.surface mid prepared d0 d1 new) where
+  module _ (new : PlacedStore) (made : MakesUpdate tells (64 * WIDTH) k.surface mid prepared d0 d1 new) where
     abbrev after : Opened D
     after = store_of tells d1 k new f
 

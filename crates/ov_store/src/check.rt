@@ -77,7 +77,7 @@ fn follow_record<D: Disk>(
     ensures untouched { IsUntouched D.tells disk.old disk.new }
     ensures call { IsDiskCall D.tells (IsErrOf result DiskFailed) disk.old disk.new }
 {
-    let brief = match read_brief(alloc, Form::FIRST, body) {
+    let brief = match read_brief(alloc, Form::SECOND, body) {
         Ok((brief, _)) => brief,
         Err(RecordFault::BadRecord { .. }) => return Ok(false),
         Err(RecordFault::Memory) => return Err(CheckFault::Memory),

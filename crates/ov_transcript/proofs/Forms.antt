@@ -22,7 +22,7 @@ use Rattle.ov_surface.specs.Coats.{base_text}
 use Rattle.ov_record.specs.Spelling.{HasForm, spelling}
 use Rattle.ov_record.specs.Updates.{SealedUpdate}
 use Rattle.ov_record.proofs.UpdateLaws.{update_reads, first_has_room}
-use Rattle.ov_record.specs.Forms.{first_form}
+use Rattle.ov_record.specs.Forms.{second_form}
 use Rattle.ov_history.specs.Asking.{file_named, user_named}
 use Rattle.ov_history.specs.Catalogue.{Catalogue}
 use Rattle.ov_history.specs.History.{Matrix, epoch_of, matrix_of}
@@ -73,23 +73,23 @@ edges_are_tokens master node (n ∷ from) = (
 -- ---- an update whose fields have form
 
 pub update_length : (surface : List ℕ) (epoch : ℕ) (u : SealedUpdate)
-    → length (request_bytes (update_request surface epoch u)) ≡ 37 + length (spelling first_form u)
+    → length (request_bytes (update_request surface epoch u)) ≡ 37 + length (spelling second_form u)
 update_length surface epoch u =
-    let tag = owner_tag surface epoch (spelling first_form u) in
+    let tag = owner_tag surface epoch (spelling second_form u) in
     let all : length tag ≡ 32 = length-hmac _ _ in
     omega (
       arith,
       all,
-      length-append (u32 epoch ++ spelling first_form u) tag,
+      length-append (u32 epoch ++ spelling second_form u) tag,
       length-append (u32 epoch)
-          (spelling first_form u),
+          (spelling second_form u),
     )
 
-pub update_form : (surface : List ℕ) (epoch : ℕ) (u : SealedUpdate) → epoch < 2 ^ 32 → HasForm first_form u
+pub update_form : (surface : List ℕ) (epoch : ℕ) (u : SealedUpdate) → epoch < 2 ^ 32 → HasForm second_form u
     → HasRequestForm (update_request surface epoch u)
 update_form surface epoch u low form =
     let long = update_length surface epoch u in
-    let short = (update_reads first_form first_has_room).short u form in record {
+    let short = (update_reads second_form first_has_room).short u form in record {
       is_request = (low, is_spelling u form, length-hmac _ _);
       fits = omega (arith, long, short);
     }
@@ -111,7 +111,7 @@ module _ (k : Masters) (p : PlainHistory) (legal : IsLegal (history_of p)) where
 
   -- what was sealed here has form, and the epoch fits its field
   pub record Fits (u : SealedUpdate) : Type 0 where
-    pub form : HasForm first_form u
+    pub form : HasForm second_form u
     pub low : epoch_of (history_of p) < 2 ^ 32
 
   pub fits_form : (u : SealedUpdate) → Fits u

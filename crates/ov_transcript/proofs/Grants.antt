@@ -6,7 +6,7 @@ use Rattle.ov_base.specs.Sets.{has}
 use Rattle.ov_record.specs.Reading.{update_of}
 use Rattle.ov_record.specs.Spelling.{HasForm, spelling}
 use Rattle.ov_record.specs.Updates.{SealedUpdate}
-use Rattle.ov_record.specs.Forms.{first_form}
+use Rattle.ov_record.specs.Forms.{second_form}
 use Rattle.ov_script.specs.declared.command.Command.TheVariants as commands
 use Rattle.ov_history.specs.Asking.{file_named, user_named}
 use Rattle.ov_history.specs.Briefs.{brief}
@@ -191,17 +191,17 @@ module _ (k : Masters) (p q : PlainHistory) (legal : IsLegal (history_of p))
     )
     sealed_alike x told = absurd told
 
-    spelled_alike : (x : Answer) → HasForm first_form sent
-        → AnswersSpelled c (update_of first_form (spelling first_form sent)) x
-        → AnswersSpelled e (update_of first_form (spelling first_form sent)) x
+    spelled_alike : (x : Answer) → HasForm second_form sent
+        → AnswersSpelled c (update_of second_form (spelling second_form sent)) x
+        → AnswersSpelled e (update_of second_form (spelling second_form sent)) x
     spelled_alike x form told =
         subst (λ (r : Result SealedUpdate ℕ). AnswersSpelled e r x) (sym (read_back sent form))
         (sealed_alike x (subst (λ (r : Result SealedUpdate ℕ). AnswersSpelled c r x)
         (read_back sent form) told))
 
-    updated_alike : (epoch : ℕ) (tag : List ℕ) (x : Answer) → HasForm first_form sent
-        → AnswersUpdate k.surface c epoch (spelling first_form sent) tag x
-        → AnswersUpdate k.surface e epoch (spelling first_form sent) tag x
+    updated_alike : (epoch : ℕ) (tag : List ℕ) (x : Answer) → HasForm second_form sent
+        → AnswersUpdate k.surface c epoch (spelling second_form sent) tag x
+        → AnswersUpdate k.surface e epoch (spelling second_form sent) tag x
     updated_alike epoch tag answers.BadTag form wrong = wrong
     updated_alike epoch tag (answers.Stale now) form (tagged, other, told) =
         (tagged, subst (λ n. epoch ≢ n) epoch_too other, told ∙ epoch_too)
@@ -272,7 +272,7 @@ module _ (k : Masters) (p q : PlainHistory) (legal : IsLegal (history_of p))
           replies_too here there second t.other.request t.other.reply t.more
           (fits_form k p legal sent f) t.asked_then then
           (updated_alike (epoch_of (history_of p))
-          (owner_tag k.surface (epoch_of (history_of p)) (spelling first_form sent))
+          (owner_tag k.surface (epoch_of (history_of p)) (spelling second_form sent))
           then.answer f.form) in
           let last : Begins (later there t.made) (second_too ∷ []) (t.other ∷ []) [] = (
             t.more,

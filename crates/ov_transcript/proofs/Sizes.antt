@@ -2,10 +2,11 @@
 use Rattle.std.proofs.Common.{◌≡◌, ◌∙◌, ℕ, ◌+◌, ◌*◌, ◌≤◌, false, List, [], ◌∷◌, length}
 use Rattle.std.proofs.Common.{length-append, Result, sym, ap, subst, inl, inr, arith}
 use Rattle.std.specs.Prelude.{◌⊎◌}
+use Rattle.ov_base.specs.declared.limits.TheConstants.{SET_BYTES}
 use Rattle.ov_record.specs.Reading.{update_of}
 use Rattle.ov_record.specs.Spelling.{HasForm, spelling}
 use Rattle.ov_record.specs.Updates.{SealedUpdate}
-use Rattle.ov_record.specs.Forms.{first_form}
+use Rattle.ov_record.specs.Forms.{second_form}
 use Rattle.ov_script.specs.declared.command.Command.TheVariants as commands
 use Rattle.ov_history.specs.Catalogue.{Catalogue}
 use Rattle.ov_history.specs.History.{Matrix, epoch_of, matrix_of}
@@ -74,7 +75,7 @@ update_answer_short : (surface : List ℕ) (c : Catalogue) (epoch : ℕ) (spelle
 update_answer_short surface c epoch spelled tag answers.BadTag is = omega arith
 update_answer_short surface c epoch spelled tag (answers.Stale now) is = omega arith
 update_answer_short surface c epoch spelled tag a (tagged, now, is) =
-    spelled_answer_short c (update_of first_form spelled) a is
+    spelled_answer_short c (update_of second_form spelled) a is
 
 module _ (k : Masters) (p : PlainHistory) (legal : IsLegal (history_of p)) where
   abbrev here : Service
@@ -95,7 +96,7 @@ module _ (k : Masters) (p : PlainHistory) (legal : IsLegal (history_of p)) where
       (most told sent : ℕ)
       (first_short : length (request_bytes first) ≤ most)
       (told_short : (x : Answer) → Answers (served here) first x → length (answer_bytes x) ≤ told)
-      (sent_short : HasForm first_form u → length (spelling first_form u) ≤ sent) where
+      (sent_short : HasForm second_form u → length (spelling second_form u) ≤ sent) where
     abbrev second : Request
     second = update_request k.surface (epoch_of (history_of p)) u
 
@@ -125,7 +126,7 @@ module _ (k : Masters) (p : PlainHistory) (legal : IsLegal (history_of p)) where
         fits t.replies.answer (answers_so here first t.one.request t.one.reply t.made form t.asked
         t.replies)
         t.replies.form (ap says_refused (sym t.replies.spelled) ∙ t.free) in
-        let three : length t.other.request ≡ 37 + length (spelling first_form u) =
+        let three : length t.other.request ≡ 37 + length (spelling second_form u) =
         ap length t.asked_then ∙ update_length k.surface (epoch_of (history_of p)) u in
         let four = sent_short f.form in
         let answered : Answers (served (later here t.made)) second t.replies_then.answer =
@@ -135,8 +136,8 @@ module _ (k : Masters) (p : PlainHistory) (legal : IsLegal (history_of p)) where
         let five : length t.other.reply ≤ 5 =
         subst (λ (l : List ℕ). length l ≤ 5) (sym t.replies_then.spelled)
         (update_answer_short k.surface (served (later here t.made)).catalogue
-        (epoch_of (history_of p)) (spelling first_form u)
-        (owner_tag k.surface (epoch_of (history_of p)) (spelling first_form u)) t.replies_then.answer
+        (epoch_of (history_of p)) (spelling second_form u)
+        (owner_tag k.surface (epoch_of (history_of p)) (spelling second_form u)) t.replies_then.answer
         answered) in
         let short : length (frames (t.one ∷ t.other ∷ [])) ≤ most + told + sent + 58 =
         omega (
@@ -237,14 +238,15 @@ module _ (k : Masters) (p : PlainHistory) (legal : IsLegal (history_of p)) where
       → let u = sealed_update k y (PlainCreate file (set_named m.users names) bytes) in
       Begins here (requests.Cover file (length bytes) names ∷ update_request k.surface
       (epoch_of (history_of p)) u ∷ []) asks []
-      → length (frames asks) ≤ 320 + 101 * length names + length bytes
+      → length (frames asks) ≤ 512 + 101 * length names + length bytes
   create_short file names bytes asks form begins =
       let u = sealed_update k y (PlainCreate file (set_named m.users names) bytes) in
       let shown = list_few c.users names in
       let list = list_few m.users names in
       let n = all_short (requests.Cover file (length bytes) names) form u
       (plan_fits file names bytes form)
-      (72 + 65 * length names) (48 + 4 * length names) (136 + 32 * length names + length bytes)
+      (72 + 65 * length names) (16 + SET_BYTES + 4 * length names)
+      (104 + SET_BYTES + 32 * length names + length bytes)
       (cover_short file (length bytes) names form)
       (λ x is. cover_answer_short c file (length bytes) (set_named c.users names)
       (length names) x is shown)

@@ -15,7 +15,7 @@ use Rattle.ov_moves.specs.declared.placing.Placed.{Placed}
 use Rattle.ov_moves.proofs.NewExtents.{blocks_few}
 use Rattle.ov_fields.specs.Spelling.{u32}
 use Rattle.ov_record.specs.Briefs.{Brief}
-use Rattle.ov_record.specs.Forms.{first_form}
+use Rattle.ov_record.specs.Forms.{second_form}
 use Rattle.ov_record.specs.Stored.{HasBriefForm, IsNumber, Stored, brief_spelling, stored_spelling}
 use Rattle.ov_record.specs.Updates.{SealedUpdate}
 use Rattle.ov_record.proofs.BriefLaws.{few_bytes, some_bytes}
@@ -102,27 +102,27 @@ length-firsts [] = refl
 length-firsts (m ∷ moves) = ap suc (length-firsts moves)
 
 -- the body of a record with few first blocks is one that a record can have
-pub is_body : (b : Brief) (firsts : List ℕ) → HasBriefForm first_form b → length firsts ≤ MAX_FILES
-    → IsBody (brief_spelling first_form b ++ flat_map u32 firsts)
+pub is_body : (b : Brief) (firsts : List ℕ) → HasBriefForm second_form b → length firsts ≤ MAX_FILES
+    → IsBody (brief_spelling second_form b ++ flat_map u32 firsts)
 is_body b firsts form many =
     let n = length firsts in
     let zeros : List ℕ = replicate n 0 in
     let s : Stored = record { update = b; places = firsts } in
     let t : Stored = record { update = b; places = zeros } in
-    let same : length (stored_spelling first_form s) ≡ length (stored_spelling first_form t) =
-    length-append (brief_spelling first_form b) (flat_map u32 firsts)
-    ∙ ap (λ (k : ℕ). length (brief_spelling first_form b) + k)
+    let same : length (stored_spelling second_form s) ≡ length (stored_spelling second_form t) =
+    length-append (brief_spelling second_form b) (flat_map u32 firsts)
+    ∙ ap (λ (k : ℕ). length (brief_spelling second_form b) + k)
     (length-numbers firsts
     ∙ ap (λ (k : ℕ). 4 * k) (sym (length-replicate n 0))
     ∙ sym (length-numbers zeros))
-    ∙ sym (length-append (brief_spelling first_form b) (flat_map u32 zeros)) in
+    ∙ sym (length-append (brief_spelling second_form b) (flat_map u32 zeros)) in
     record {
-      some = some_bytes first_form s;
+      some = some_bytes second_form s;
       most =
           omega (
             arith,
             same,
-            few_bytes first_form n t first_has_room (lit≤ tt) many (form, (zeros_are_numbers n, length-replicate n 0)),
+            few_bytes second_form n t first_has_room (lit≤ tt) many (form, (zeros_are_numbers n, length-replicate n 0)),
           );
     }
 

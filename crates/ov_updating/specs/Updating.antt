@@ -4,7 +4,7 @@ use Rattle.ov_base.specs.declared.limits.TheConstants.{MAX_FILES, MAX_FILE_BYTES
 use Rattle.ov_disk.specs.Disk.{Image, Only}
 use Rattle.ov_disk.specs.Tells.{DiskTells}
 use Rattle.ov_blocks.specs.declared.extents.Extent.{Extent}
-use Rattle.ov_record.specs.Forms.{first_form}
+use Rattle.ov_record.specs.Forms.{second_form}
 use Rattle.ov_record.specs.Stored.{HasBriefForm, brief_spelling}
 use Rattle.ov_record.specs.Updates.{SealedUpdate}
 use Rattle.ov_history.specs.Briefs.{brief, text_of}
@@ -43,8 +43,8 @@ asked rewrites placed held front text =
 pub record IsAskedFor (c : Catalogue) (u : SealedUpdate) (a : Asked) : Type 0 where
   pub taken : IsTaken c (brief u)
   pub rewrites : a.rewrites ≡ rewrites_of c (brief u)
-  pub form : HasBriefForm first_form (brief u)
-  pub front : a.front ≡ brief_spelling first_form (brief u)
+  pub form : HasBriefForm second_form (brief u)
+  pub front : a.front ≡ brief_spelling second_form (brief u)
   pub text : (text : List ℕ) → text_of u ≡ Some text → a.text ≡ text
   pub files : length (files_after c (brief u)) ≤ MAX_FILES
   pub short : (file : ℕ) (f : Filed) → living_at (files_after c (brief u)) file ≡ Some f

@@ -5,7 +5,7 @@ use Rattle.ov_base.specs.declared.mode.Mode.TheVariants.{Full}
 use Rattle.ov_blocks.specs.declared.extents.Extent.{Extent}
 use Rattle.ov_tokens.specs.declared.token.Token.{Token}
 use Rattle.ov_record.specs.Briefs.{Brief, BriefCreate, BriefEnrol}
-use Rattle.ov_record.specs.Forms.{first_form}
+use Rattle.ov_record.specs.Forms.{second_form}
 use Rattle.ov_record.specs.Stored.{HasBriefForm, brief_spelling}
 use Rattle.ov_record.specs.Updates.{SealedCreate}
 use Rattle.ov_history.specs.Catalogue.{Catalogue, Filed, catalogue_after, empty_catalogue}
@@ -42,7 +42,7 @@ module _ (name tag : List ℕ) where
     many = omega arith;
   }
 
-  created : (front : List ℕ) → HasBriefForm first_form creation → front ≡ brief_spelling first_form creation
+  created : (front : List ℕ) → HasBriefForm second_form creation → front ≡ brief_spelling second_form creation
       → IsAskedFor one_user (SealedCreate name 1 [] tag text) (asked rewrites [] [] front text)
   created front form is = record {
     taken = (refl, refl);
@@ -57,8 +57,8 @@ module _ (name tag : List ℕ) where
 
   pub first_asked : (all : List Rewrite) (front : List ℕ) (list : ℕ) (tokens : List Token) (held : List Extent)
       → all ≡ rewrites → list ≡ 1 → tokens ≡ [] → held ≡ []
-      → HasBriefForm first_form (BriefCreate name list tokens tag 3)
-      → front ≡ brief_spelling first_form (BriefCreate name list tokens tag 3)
+      → HasBriefForm second_form (BriefCreate name list tokens tag 3)
+      → front ≡ brief_spelling second_form (BriefCreate name list tokens tag 3)
       → IsAsked (asked all [] held front text)
   first_asked all front list tokens held are one none empty form is =
       let same : BriefCreate name list tokens tag 3 ≡ creation =
@@ -67,5 +67,5 @@ module _ (name tag : List ℕ) where
       (subst (λ (h : List Extent). IsAsked (asked rewrites [] h front text)) (sym empty) (
         one_user,
         SealedCreate name 1 [] tag text,
-        created front (subst (HasBriefForm first_form) same form) (is ∙ ap (brief_spelling first_form) same),
+        created front (subst (HasBriefForm second_form) same form) (is ∙ ap (brief_spelling second_form) same),
       ))

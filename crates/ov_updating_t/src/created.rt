@@ -29,6 +29,7 @@ const REWRITES: [Rewrite; 1] = [Rewrite {
 }];
 
 const HEADER: Header = Header {
+    format: 2,
     mode: Mode::Full,
     first: 0,
     base_check: [0x11; 32],

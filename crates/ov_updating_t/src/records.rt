@@ -31,7 +31,7 @@ const BODY: [u8; 17] = [4, 0, 0, 0, 3, 0, 0, 0, 4, 1, 2, 3, 4, 0, 0, 0, 7];
 fn a_record_is_read_again(rt: HostRuntime) -> Result<(), Fail> {
     let body = body(rt.alloc())?;
     assert!(rt; body.as_slice() == BODY.as_slice());
-    let read = read_stored(rt.alloc(), Form::FIRST, &body, 2);
+    let read = read_stored(rt.alloc(), Form::SECOND, &body, 2);
     match read {
         Ok(stored) => assert!(rt; stored.places.as_slice() == [0x0102_0304, 7].as_slice()),
         Err(_) => assert!(rt; false),

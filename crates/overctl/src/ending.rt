@@ -90,7 +90,7 @@ impl Display for Ending<'_> {
                 "the bytes of {name} at {address} are damaged, or {keys} is of another store"
             ),
             Status::Unsettled => write!(f, "others changed the store at {address} in nine tries"),
-            Status::TooLong => write!(f, "{} has more than 1048576 bytes", self.path),
+            Status::TooLong => write!(f, "{} has more than 16777216 bytes", self.path),
         }
     }
 }

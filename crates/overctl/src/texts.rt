@@ -49,7 +49,7 @@ impl Display for WrongWords<'_> {
             ),
             WrongWords::List(word) => write!(
                 f,
-                "`{word}` is no list: names with commas between, or `-`, in 20000 bytes at most"
+                "`{word}` is no list: names with commas between, or `-`, in 70000 bytes at most"
             ),
         }
     }

@@ -161,7 +161,7 @@ fn by_work(
 pub fn on_lack(lack: Lack) -> &'static str {
     match lack {
         Lack::Text => "nothing stands on it",
-        Lack::Short => "it has more than 20000 bytes",
+        Lack::Short => "it has more than 70000 bytes",
         Lack::LineFeedAlone => "a CR stands on it, where an LF alone ends a line",
         Lack::Command => concat!(
             "it begins with none of `enrol USER`, `list FILE`, `read USER FILE`, ",
@@ -172,7 +172,7 @@ pub fn on_lack(lack: Lack) -> &'static str {
             "a name has 1 to 64 of a-z, 0-9, `.`, `_` and `-`, and begins with a letter or a digit"
         }
         Lack::List => "LIST is `-`, or names with one comma between two",
-        Lack::Length => "LENGTH is a decimal number up to 1048576 with no 0 in front",
+        Lack::Length => "LENGTH is a decimal number up to 16777216 with no 0 in front",
         Lack::End => "the script stops before the LF of the line",
         Lack::Bytes => "not just LENGTH bytes and an LF stand behind it",
     }

@@ -12,6 +12,7 @@ pub fn appends(rt: HostRuntime) -> Result<usize, Fail> {
     let _ = fs::remove_file(&rt, "speed_book");
     let mut disk = FileDisk::new(rt, "speed_book", "speed_blobs")?;
     let header = Header {
+        format: 2,
         mode: Mode::Full,
         first: 0,
         base_check: [0; 32],

@@ -7,10 +7,10 @@ use std::alloc::Global;
 use std::test::Fail;
 
 // The length field of the longest frame, and the frame's first bytes.
-const BEGUN_FRAME: &[u8] = b"\x00\x11\x00\x00\x04\x00\x00\x00";
+const BEGUN_FRAME: &[u8] = b"\x01\x01\x00\x00\x04\x00\x00\x00";
 
 // A file that announces the most bytes that a file may have, and has five.
-const BEGUN_FILE: &[u8] = b"create f - 1048576\nhello";
+const BEGUN_FILE: &[u8] = b"create f - 16777216\nhello";
 
 /// Feeds this many decoders the front of a longest frame, and keeps them all: how many bytes wait
 /// there.

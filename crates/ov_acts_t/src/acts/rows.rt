@@ -275,12 +275,12 @@ pub fn unsettled() -> &'static [Row] {
 /// A file that is too long by a byte, and one that is not.
 static LENGTHS: [Row; 2] = [
     Row {
-        body: 1_048_577,
+        body: 16_777_217,
         status: 14,
         ..NO_CREATE
     },
     Row {
-        body: 1_048_576,
+        body: 16_777_216,
         status: 8,
         ..NO_CREATE
     },

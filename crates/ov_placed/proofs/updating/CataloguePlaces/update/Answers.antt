@@ -15,6 +15,7 @@ use Rattle.ov_updating.specs.Files.{files_of, firsts_of}
 use Rattle.ov_updating.specs.Updating.{AreHeldAfter, Asked, IsAskedFor, KeepsItOrMore, UpdateLasts}
 use Rattle.ov_updating.specs.Updating.{asked}
 use Rattle.ov_updating.proofs.Ordering.{ascending}
+use Rattle.ov_state.specs.declared.state.TheConstants.{WIDTH}
 use Rattle.ov_placed.specs.Contents.{PlacedStore}
 use Rattle.ov_placed.specs.Updating.{IsPrepared, KeepsOrGoesOn, MakesUpdate, asked_of}
 use Rattle.ov_placed.proofs.Files.{rewrites_of_files}
@@ -32,10 +33,10 @@ returns-in_err-make_room-clause-any_moment g c =
       held = c.self.inside.extents;
     } in
     subst (λ (old : PlacedStore). LeavesAtMost g.D.Disk.tells
-    (KeepsOrGoesOn 256 master old c.args.prepared) c.args.disk.now c.args.disk.now) c.self.view_is
-    (leaves_none g.D.Disk.tells (KeepsOrGoesOn 256 master s c.args.prepared) c.args.disk.now
+    (KeepsOrGoesOn (64 * WIDTH) master old c.args.prepared) c.args.disk.now c.args.disk.now) c.self.view_is
+    (leaves_none g.D.Disk.tells (KeepsOrGoesOn (64 * WIDTH) master s c.args.prepared) c.args.disk.now
     c.requires.settled
-    (keeps_still 256 master s c.args.prepared c.self.invariant c.known-2.ensures.order))
+    (keeps_still (64 * WIDTH) master s c.args.prepared c.self.invariant c.known-2.ensures.order))
 
 pub new-recoat-requires : goal.new-recoat-requires
 new-recoat-requires g c =
@@ -47,7 +48,7 @@ new-recoat-requires g c =
       held = c.self.inside.extents;
     } in
     let u = c.requires.prepared.0 in
-    let is = subst (λ (o : PlacedStore). IsPrepared 256 master o.catalogue u c.args.prepared)
+    let is = subst (λ (o : PlacedStore). IsPrepared (64 * WIDTH) master o.catalogue u c.args.prepared)
     (sym c.self.view_is) c.requires.prepared.1 in
     let plain = ap (λ rs. plain_rewrites rs) c.rewrites.ensures ∙ is.change.rewrites in
     subst (Ascend 0) (sym plain) (ascending s.catalogue (brief u))
@@ -69,12 +70,12 @@ update-requires-clause-asked g c =
     ((c.deref.ensures.value ∙ c.make_room.ensures.same) j) s.held (c.as_slice-front.ensures j)
     (c.bytes_of-text.ensures j) in
     let u = c.requires.prepared.0 in
-    let is = subst (λ (o : PlacedStore). IsPrepared 256 master o.catalogue u c.args.prepared)
+    let is = subst (λ (o : PlacedStore). IsPrepared (64 * WIDTH) master o.catalogue u c.args.prepared)
     (sym c.self.view_is) c.requires.prepared.1 in (
       s.catalogue,
       u,
       subst (λ (a : Asked). IsAskedFor s.catalogue u a) (sym same)
-          (is_asked 256 master s u c.args.prepared is c.self.invariant c.known-2.ensures.order),
+          (is_asked (64 * WIDTH) master s u c.args.prepared is c.self.invariant c.known-2.ensures.order),
     )
 
 pub returns-in_err-moves-clause-any_moment : goal.returns-in_err-moves-clause-any_moment
@@ -94,10 +95,10 @@ returns-in_err-moves-clause-any_moment g c =
     ((c.deref.ensures.value ∙ c.make_room.ensures.same) j) s.held (c.as_slice-front.ensures j)
     (c.bytes_of-text.ensures j) in
     subst (λ (old : PlacedStore). LeavesAtMost g.D.Disk.tells
-    (KeepsOrGoesOn 256 master old c.args.prepared) c.args.disk.now c.update.new.disk) c.self.view_is
+    (KeepsOrGoesOn (64 * WIDTH) master old c.args.prepared) c.args.disk.now c.update.new.disk) c.self.view_is
     (leaves_weaker g.D.Disk.tells (KeepsItOrMore master (asked_of s c.args.prepared))
-    (KeepsOrGoesOn 256 master s c.args.prepared) c.args.disk.now c.update.new.disk
-    (goes_or_keeps 256 master s c.args.prepared c.self.invariant c.known-2.ensures.order)
+    (KeepsOrGoesOn (64 * WIDTH) master s c.args.prepared) c.args.disk.now c.update.new.disk
+    (goes_or_keeps (64 * WIDTH) master s c.args.prepared c.self.invariant c.known-2.ensures.order)
     (subst (λ (m : List ℕ). LeavesAtMost g.D.Disk.tells
     (KeepsItOrMore m (asked_of s c.args.prepared)) c.args.disk.now c.update.new.disk)
     (ap (λ (r : Recoating). r.master) c.new-recoat.ensures)
@@ -114,7 +115,7 @@ put_firsts-requires g c =
       held = c.self.inside.extents;
     } in
     let u = c.requires.prepared.0 in
-    let is = subst (λ (o : PlacedStore). IsPrepared 256 master o.catalogue u c.args.prepared)
+    let is = subst (λ (o : PlacedStore). IsPrepared (64 * WIDTH) master o.catalogue u c.args.prepared)
     (sym c.self.view_is) c.requires.prepared.1 in
     let plain : plain_rewrites c.rewrites-2.result.now ≡ rewrites_of s.catalogue (brief u) =
     ap (λ rs. plain_rewrites rs) c.rewrites-2.ensures ∙ is.change.rewrites in
@@ -142,7 +143,7 @@ invariant_of-self-2 g c =
     ((c.deref.ensures.value ∙ c.make_room.ensures.same) j) s.held (c.as_slice-front.ensures j)
     (c.bytes_of-text.ensures j) in
     let u = c.requires.prepared.0 in
-    let is = subst (λ (o : PlacedStore). IsPrepared 256 master o.catalogue u c.args.prepared)
+    let is = subst (λ (o : PlacedStore). IsPrepared (64 * WIDTH) master o.catalogue u c.args.prepared)
     (sym c.self.view_is) c.requires.prepared.1 in
     let text = c.args.prepared.text in
     let firsts = firsts_of c.in_ok-moves.moves.items in
@@ -157,12 +158,12 @@ invariant_of-self-2 g c =
     ∙ ap (λ (ps : List (Option ℕ)). with_unplaced ps (brief u)) c.make_room.ensures.same in
     let held = subst (λ (a : Asked). AreHeldAfter a firsts c.update.new.extents) same
     c.in_ok-moves.ensures.held in
-    holds_made 256 master s u c.args.prepared is c.self.invariant c.known-2.ensures.order firsts
+    holds_made (64 * WIDTH) master s u c.args.prepared is c.self.invariant c.known-2.ensures.order firsts
     c.update.new.extents c.commit.new.self.catalogue places c.known-3.ensures.order
     (held s.catalogue u
-    (is_asked 256 master s u c.args.prepared is c.self.invariant c.known-2.ensures.order))
+    (is_asked (64 * WIDTH) master s u c.args.prepared is c.self.invariant c.known-2.ensures.order))
     c.commit.ensures.applied
-    (placed_made 256 master s u c.args.prepared is c.self.invariant c.known-2.ensures.order firsts
+    (placed_made (64 * WIDTH) master s u c.args.prepared is c.self.invariant c.known-2.ensures.order firsts
     grown places grown_is places_are)
 
 pub returns-clause-any_moment : goal.returns-clause-any_moment
@@ -182,10 +183,10 @@ returns-clause-any_moment g c =
     ((c.deref.ensures.value ∙ c.make_room.ensures.same) j) s.held (c.as_slice-front.ensures j)
     (c.bytes_of-text.ensures j) in
     subst (λ (old : PlacedStore). LeavesAtMost g.D.Disk.tells
-    (KeepsOrGoesOn 256 master old c.args.prepared) c.args.disk.now c.update.new.disk) c.self.view_is
+    (KeepsOrGoesOn (64 * WIDTH) master old c.args.prepared) c.args.disk.now c.update.new.disk) c.self.view_is
     (leaves_weaker g.D.Disk.tells (KeepsItOrMore master (asked_of s c.args.prepared))
-    (KeepsOrGoesOn 256 master s c.args.prepared) c.args.disk.now c.update.new.disk
-    (goes_or_keeps 256 master s c.args.prepared c.self.invariant c.known-2.ensures.order)
+    (KeepsOrGoesOn (64 * WIDTH) master s c.args.prepared) c.args.disk.now c.update.new.disk
+    (goes_or_keeps (64 * WIDTH) master s c.args.prepared c.self.invariant c.known-2.ensures.order)
     (subst (λ (m : List ℕ). LeavesAtMost g.D.Disk.tells
     (KeepsItOrMore m (asked_of s c.args.prepared)) c.args.disk.now c.update.new.disk)
     (ap (λ (r : Recoating). r.master) c.new-recoat.ensures)
@@ -228,21 +229,21 @@ returns-clause-made g c =
       held = c.update.new.extents;
     } in
     let order = c.known-2.ensures.order in
-    subst (λ (old : PlacedStore). MakesUpdate g.D.Disk.tells 256 master old c.args.prepared
+    subst (λ (old : PlacedStore). MakesUpdate g.D.Disk.tells (64 * WIDTH) master old c.args.prepared
     c.args.disk.now c.update.new.disk new) c.self.view_is (record {
       moves = moves;
       go = go;
       firsts = firsts;
       firsts_are = refl;
-      many = λ u is. many_made 256 master s u c.args.prepared is c.self.invariant order moves go.moves_are;
+      many = λ u is. many_made (64 * WIDTH) master s u c.args.prepared is c.self.invariant order moves go.moves_are;
       catalogue = c.commit.ensures.applied;
       placed = λ u is.
-          placed_made 256 master s u c.args.prepared is c.self.invariant order firsts grown places
+          placed_made (64 * WIDTH) master s u c.args.prepared is c.self.invariant order firsts grown places
           (c.add_file.ensures u is.text
           ∙ ap (λ (ps : List (Option ℕ)). with_unplaced ps (brief u)) c.make_room.ensures.same)
           places_are;
       lasts = λ i read.
-          lasts_more 256 master s c.args.prepared c.self.invariant order g.D.Disk.tells moves
+          lasts_more (64 * WIDTH) master s c.args.prepared c.self.invariant order g.D.Disk.tells moves
           c.update.new.disk i
           (subst (λ (m : List ℕ). UpdateLasts g.D.Disk.tells m (asked_of s c.args.prepared) moves
           c.update.new.disk i) (ap (λ (r : Recoating). r.master) c.new-recoat.ensures)

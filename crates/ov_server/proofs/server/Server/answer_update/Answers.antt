@@ -2,7 +2,7 @@ use Rattle.std.proofs.Common.{◌≡◌, ◌≢◌, ◌∙◌, ◌+◌, ℕ, Res
 use Rattle.ov_fields.specs.Reading.{all_of}
 use Rattle.ov_record.specs.Reading.{update_at, update_of}
 use Rattle.ov_record.specs.Updates.{SealedUpdate}
-use Rattle.ov_record.specs.Forms.{first_form}
+use Rattle.ov_record.specs.Forms.{second_form}
 use Rattle.ov_history.specs.Catalogue.{Catalogue}
 use Rattle.ov_wire.specs.declared.request.Request.{Request}
 use Rattle.ov_wire.specs.declared.request.Request.TheVariants as requests
@@ -94,7 +94,7 @@ returns-in-Err-BadRecord g c =
     ∙ ap (λ (o : Opened g.row.D.Denot). o.catalogue.epoch) c.self.view_is in
     let here : c.args.epoch ≡ s.catalogue.epoch = c.if-epoch-now.false ∙ now_is in
     let place : ℕ = c.in-Err-BadRecord.at in
-    let wrong : update_of first_form c.args.spelling.now ≡ Err place =
+    let wrong : update_of second_form c.args.spelling.now ≡ Err place =
     rw c.in-Err-BadRecord.field-0-is at c.in-Err-BadRecord.ensures.exact in
     λ request is.
     answers_still g.D.Disk.tells s request
@@ -110,7 +110,7 @@ returns-in-Err-BadRecord g c =
     (omega (
       arith,
       placed_low (length c.args.spelling.now) place
-          (all_of (update_at first_form c.args.spelling.now)) wrong,
+          (all_of (update_at second_form c.args.spelling.now)) wrong,
       c.requires,
     ))
     (refl, λ u has. absurd (spells_none _ request u has _ _ _ is place wrong)) (
