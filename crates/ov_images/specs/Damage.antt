@@ -1,10 +1,11 @@
 -- What is wrong with an image that is a store and keeps no history, and at which place of which
 -- area.
-use Rattle.std.specs.Prelude.{◌≡◌, ◌⊎◌, ℕ, ◌+◌, ◌*◌, ◌<◌, ◌^◌, List, ◌∷◌, ◌++◌, true}
+use Rattle.std.specs.Prelude.{◌≡◌, ◌⊎◌, ℕ, ◌+◌, ◌*◌, ◌<◌, ◌^◌, List, ◌∷◌, ◌++◌, length}
+use Rattle.std.specs.Prelude.{Option, Some}
 use Rattle.ov_base.specs.declared.mode.Mode.{Mode}
 use Rattle.ov_tokens.specs.Keys.{check_value_of}
 use Rattle.ov_blocks.specs.declared.extents.TheConstants.{BLOCK_BYTES}
-use Rattle.ov_record.specs.Forms.{second_form}
+use Rattle.ov_record.specs.Forms.{Form}
 use Rattle.ov_record.specs.Stored.{HasBriefForm, brief_spelling}
 use Rattle.ov_history.specs.Briefs.{Brief}
 use Rattle.ov_history.specs.Rewrites.{rewrites_of}
@@ -15,12 +16,12 @@ use Rattle.ov_disk.specs.Disk.{Image}
 use Rattle.ov_disk.specs.declared.area.Area.{Area}
 use Rattle.ov_disk.specs.declared.area.Area.TheVariants.{Book, Blobs}
 use Rattle.ov_journal.specs.Book.{Records, contents_of, spelled}
-use Rattle.ov_journal.specs.Log.{end_from}
+use Rattle.ov_journal.specs.Book.{gate_behind}
 use Rattle.ov_journal.specs.Standing.{HasMagic}
 use Rattle.ov_journal.specs.declared.header.Header.{Header}
 use Rattle.ov_images.specs.Images.{Keys}
 use Rattle.ov_images.specs.Records.{AllHaveForm, HasRecordForm, StopsInRecord, StopsInUpdate}
-use Rattle.ov_images.specs.Records.{bodies_of, record_spelling}
+use Rattle.ov_images.specs.Records.{bodies_of, form_behind, record_spelling}
 use Rattle.ov_images.specs.Extents.{IsFirstTaken, IsLaidOut, blocks_in, catalogue_at}
 use Rattle.ov_images.specs.Extents.{extents_in_use, new_extents}
 
@@ -51,47 +52,48 @@ at_block first = record { area = Blobs; place = BLOCK_BYTES * first }
 
 -- ---- one record, behind those of a history
 
--- No update's spelling is at the front of the body of a record whose gate is here. The place is
--- that at which reading it ends: of the first field that no spelling goes on with, or of the body's
--- end.
-pub record IsMisspelled (body : List ℕ) (gate : ℕ) (spot : Spot) : Type 0 where
+-- No update's spelling in this form is at the front of the body of a record whose gate is here. The
+-- place is that at which reading it ends: of the first field that no spelling goes on with, or of the
+-- body's end.
+pub record IsMisspelled (form : Form) (body : List ℕ) (gate : ℕ) (spot : Spot) : Type 0 where
   pub at_byte : ℕ
-  pub stops : StopsInUpdate body at_byte
+  pub stops : StopsInUpdate form body at_byte
   pub spot_is : spot ≡ in_book (gate + 5 + at_byte)
 
--- the body begins with the spelling of this update, and some bytes are behind it
-pub record BeginsWith (u : Brief) (body : List ℕ) : Type 0 where
-  pub form : HasBriefForm second_form u
+-- the body begins with the spelling of this update in this form, and some bytes are behind it
+pub record BeginsWith (form : Form) (u : Brief) (body : List ℕ) : Type 0 where
+  pub has_form : HasBriefForm form u
   pub rest : List ℕ
-  pub bytes : body ≡ brief_spelling second_form u ++ rest
+  pub bytes : body ≡ brief_spelling form u ++ rest
 
 -- The body begins with an update with which this history doesn't go on, whatever is behind it. The
 -- place is that of the gate.
-pub record IsUnfit (p : PlacedHistory) (body : List ℕ) (gate : ℕ) (spot : Spot) : Type 0 where
+pub record IsUnfit (form : Form) (p : PlacedHistory) (body : List ℕ) (gate : ℕ) (spot : Spot) : Type 0
+  where
   pub update : Brief
-  pub begins : BeginsWith update body
+  pub begins : BeginsWith form update body
   pub unfit : IsSealedBriefly (with_brief (unplaced p) update) → ⊥
   pub spot_is : spot ≡ in_book gate
 
 -- The body begins with an update with which this history goes on, and isn't this update with as
 -- many first blocks as it needs. The place is that at which reading these ends.
-pub record IsMiscounted (master : List ℕ) (p : PlacedHistory) (body : List ℕ) (gate : ℕ)
-    (spot : Spot) : Type 0 where
+pub record IsMiscounted (master : List ℕ) (form : Form) (p : PlacedHistory) (body : List ℕ)
+    (gate : ℕ) (spot : Spot) : Type 0 where
   pub update : Brief
-  pub begins : BeginsWith update body
+  pub begins : BeginsWith form update body
   pub fit : IsSealedBriefly (with_brief (unplaced p) update)
   pub at_byte : ℕ
-  pub stops : StopsInRecord (count_of (rewrites_of (catalogue_at master p) update)) body at_byte
+  pub stops : StopsInRecord form (count_of (rewrites_of (catalogue_at master p) update)) body at_byte
   pub spot_is : spot ≡ in_book (gate + 5 + at_byte)
 
 -- The body is an update with which this history goes on, with its first blocks, and one of its new
 -- extents passes the end of so many blocks or takes one that is in use. The place is that of the
 -- first byte of the first such extent, in Blobs.
-pub record IsOverlapping (master : List ℕ) (blocks : ℕ) (p : PlacedHistory) (body : List ℕ)
-    (spot : Spot) : Type 0 where
+pub record IsOverlapping (master : List ℕ) (form : Form) (blocks : ℕ) (p : PlacedHistory)
+    (body : List ℕ) (spot : Spot) : Type 0 where
   pub update : PlacedUpdate
-  pub form : HasRecordForm update
-  pub bytes : body ≡ record_spelling update
+  pub has_form : HasRecordForm form update
+  pub bytes : body ≡ record_spelling form update
   pub fit : IsSealedBriefly (with_brief (unplaced p) update.update)
   pub firsts : HasFirsts (catalogue_at master p) update
   pub first : ℕ
@@ -99,49 +101,52 @@ pub record IsOverlapping (master : List ℕ) (blocks : ℕ) (p : PlacedHistory) 
       (new_extents (rewrites_of (catalogue_at master p) update.update) update.firsts) first
   pub spot_is : spot ≡ at_block first
 
--- what is wrong with a record behind those of this history, and where
-abbrev pub IsBadBody : List ℕ → ℕ → PlacedHistory → List ℕ → ℕ → Spot → Type 0
-IsBadBody master blocks p body gate spot =
-    IsMisspelled body gate spot
-    ⊎ (IsUnfit p body gate spot
-    ⊎ (IsMiscounted master p body gate spot ⊎ IsOverlapping master blocks p body spot))
+-- what is wrong with a record in this form behind those of this history, and where
+abbrev pub IsBadBody : List ℕ → Form → ℕ → PlacedHistory → List ℕ → ℕ → Spot → Type 0
+IsBadBody master form blocks p body gate spot =
+    IsMisspelled form body gate spot
+    ⊎ (IsUnfit form p body gate spot
+    ⊎ (IsMiscounted master form p body gate spot ⊎ IsOverlapping master form blocks p body spot))
 
 -- ---- all records
 
--- a history of this mode, from this epoch on, that records can keep beside so many blocks of Blobs
-pub record CanBeKept (master : List ℕ) (mode : Mode) (first blocks : ℕ) (p : PlacedHistory) : Type 0
-  where
-    pub mode_is : p.mode ≡ mode
-    pub first_is : p.first ≡ first
-    pub form : AllHaveForm p.updates
-    pub laid_out : IsLaidOut master blocks p
+-- A history of this mode, from this epoch on, that records can keep beside so many blocks of Blobs,
+-- where so many of them come before a step record.
+pub record CanBeKept (master : List ℕ) (mode : Mode) (first blocks : ℕ) (step : Option ℕ)
+    (p : PlacedHistory) : Type 0 where
+  pub mode_is : p.mode ≡ mode
+  pub first_is : p.first ≡ first
+  pub form : AllHaveForm step p.updates
+  pub laid_out : IsLaidOut master blocks p
 
--- The first bodies of a store of this mode and first epoch keep a history, and with the next one
--- this place is wrong. The first gate is at place 78.
-pub record HasBadRecord (master : List ℕ) (mode : Mode) (first blocks : ℕ)
-    (bodies : List (List ℕ)) (spot : Spot) : Type 0 where
+-- The first records of a store of this mode and first epoch keep a history, and with the next one
+-- this place is wrong.
+pub record HasBadRecord (master : List ℕ) (mode : Mode) (first blocks : ℕ) (records : Records)
+    (spot : Spot) : Type 0 where
   pub history : PlacedHistory
-  pub kept : CanBeKept master mode first blocks history
+  pub kept : CanBeKept master mode first blocks records.step history
   pub body : List ℕ
   pub rest : List (List ℕ)
-  pub split : bodies ≡ bodies_of history.updates ++ body ∷ rest
-  pub bad : IsBadBody master blocks history body (end_from 78 (bodies_of history.updates)) spot
+  pub split : records.bodies ≡ bodies_of records.step history.updates ++ body ∷ rest
+  pub bad : IsBadBody master (form_behind records.step (length history.updates)) blocks history body
+      (gate_behind records.step (bodies_of records.step history.updates)) spot
 
--- All bodies keep a history, and behind the last of them is an open gate with a length that can't
--- be. The place is that of the length, one behind the gate.
+-- All records keep a history, and behind the last of them is an open gate with a length that can't
+-- be. The place is that of the length.
 pub record HasBadLength (master : List ℕ) (mode : Mode) (first blocks : ℕ) (records : Records)
     (spot : Spot) : Type 0 where
   pub history : PlacedHistory
-  pub kept : CanBeKept master mode first blocks history
-  pub all : records.bodies ≡ bodies_of history.updates
-  pub bad : records.bad ≡ true
-  pub spot_is : spot ≡ in_book (end_from 78 records.bodies + 1)
+  pub kept : CanBeKept master mode first blocks records.step history
+  pub all : records.bodies ≡ bodies_of records.step history.updates
+  pub place : ℕ
+  pub bad : records.bad ≡ Some place
+  pub spot_is : spot ≡ in_book place
 
 -- Where the first record is wrong, or the length in place of one, in a store of this mode and first
 -- epoch with so many blocks in Blobs.
 abbrev pub IsBad : List ℕ → Mode → ℕ → ℕ → Records → Spot → Type 0
 IsBad master mode first blocks records spot =
-    HasBadRecord master mode first blocks records.bodies spot
+    HasBadRecord master mode first blocks records spot
     ⊎ HasBadLength master mode first blocks records spot
 
 -- where the first record of a store with this header is wrong, or the length in place of one, with

@@ -1,5 +1,5 @@
 -- Which history an image of a disk stands for. The bytes of files stand in extents of Blobs.
-use Rattle.std.specs.Prelude.{◌≡◌, ◌⊎◌, ◌<◌, ◌^◌, ℕ, List}
+use Rattle.std.specs.Prelude.{◌≡◌, ◌⊎◌, ◌<◌, ◌^◌, ℕ, List, Option}
 use Rattle.ov_base.specs.declared.mode.Mode.{Mode}
 use Rattle.ov_tokens.specs.Keys.{check_value_of}
 use Rattle.ov_record.specs.Updates.{SealedUpdate}
@@ -12,7 +12,7 @@ use Rattle.ov_history.specs.Texts.{brief_of}
 use Rattle.ov_history.specs.Placed.{PlacedHistory, unplaced}
 use Rattle.ov_disk.specs.Disk.{Image}
 use Rattle.ov_journal.specs.declared.header.Header.{Header}
-use Rattle.ov_journal.specs.Book.{contents_of, born}
+use Rattle.ov_journal.specs.Book.{IsFormat, born, contents_of}
 use Rattle.ov_journal.specs.Standing.{IsUnborn}
 use Rattle.ov_images.specs.Records.{AllHaveForm, bodies_of}
 use Rattle.ov_images.specs.Extents.{IsLaidOut, blocks_in, stored_in}
@@ -34,23 +34,29 @@ keys_of k = record { base_check = check_value_of k.base; surface = k.surface }
 
 -- ---- what is kept
 
--- the header of a store that keeps this history
-abbrev pub header_of : Keys → PlacedHistory → Header
-header_of k p = record {
+-- the header of a store of this format that keeps this history
+abbrev pub header_of : Keys → ℕ → PlacedHistory → Header
+header_of k format p = record {
+  format = format;
   mode = p.mode;
   first = p.first;
   base_check = k.base_check;
   surface_check = check_value_of k.surface;
 }
 
--- The image has the records of this history under these keys: its Book has the history's header
--- and, before the first gate that isn't open, its updates with their first blocks. Each new extent
--- ends where Blobs ends, or before, and took blocks that were free in the state before its record.
+-- The image has the records of this history under these keys: its Book has the history's header in
+-- one of the formats and, before the first gate that isn't open and without the step record, its
+-- updates with their first blocks, in the forms that the magic and the step record say. Each new
+-- extent ends where Blobs ends, or before, and took blocks that were free in the state before its
+-- record.
 pub record HasRecords (k : Keys) (p : PlacedHistory) (i : Image) : Type 0 where
+  pub format : ℕ
+  pub known : IsFormat format
   pub first : p.first < 2 ^ 32
-  pub form : AllHaveForm p.updates
+  pub step : Option ℕ
+  pub form : AllHaveForm step p.updates
   pub laid_out : IsLaidOut k.surface (blocks_in i.blobs) p
-  pub book : contents_of i.book ≡ born (header_of k p) (bodies_of p.updates)
+  pub book : contents_of i.book ≡ born (header_of k format p) step (bodies_of step p.updates)
 
 -- The image keeps the history, with these first blocks: it has its records, and the latest extent
 -- of each file holds its stored bytes at the history's end.

@@ -1,8 +1,9 @@
 -- What holds of all images.
-use Rattle.std.specs.Prelude.{◌≡◌, ◌≤◌, ℕ, List, length, Contains}
+use Rattle.std.specs.Prelude.{◌≡◌, ◌≤◌, ℕ, List, length, Contains, Option}
 use Rattle.ov_blocks.specs.Writes.{HasSameBytes}
 use Rattle.ov_blocks.specs.declared.extents.Extent.{Extent}
 use Rattle.ov_tokens.specs.Keys.{check_value_of}
+use Rattle.ov_record.specs.Forms.{second_form}
 use Rattle.ov_record.specs.Updates.{SealedUpdate}
 use Rattle.ov_history.specs.Briefs.{brief, text_of}
 use Rattle.ov_history.specs.Catalogue.{empty_catalogue}
@@ -14,7 +15,7 @@ use Rattle.ov_history.specs.Placed.{PlacedUpdate, placed_of, unplaced, with_plac
 use Rattle.ov_disk.specs.Disk.{Image}
 use Rattle.ov_journal.specs.declared.header.Header.{Header}
 use Rattle.ov_journal.specs.Book.{contents_of, with_body}
-use Rattle.ov_journal.specs.Log.{end_from}
+use Rattle.ov_journal.specs.Book.{gate_behind}
 use Rattle.ov_journal.specs.Standing.{IsUnborn, HasMagic}
 use Rattle.ov_images.specs.Images.{Keys}
 use Rattle.ov_images.specs.Records.{HasRecordForm, bodies_of, record_spelling}
@@ -95,12 +96,12 @@ placed_as u firsts = record { update = brief u; firsts = firsts }
 -- bytes, and the extents of all files hold what they held.
 pub record HasOneMore (k : Keys) (p : PlacedHistory) (u : SealedUpdate) (firsts : List ℕ)
     (i c : Image) : Type 0 where
-  pub form : HasRecordForm (placed_as u firsts)
+  pub form : HasRecordForm second_form (placed_as u firsts)
   pub firsts_are : HasFirsts (catalogue_at k.surface p) (placed_as u firsts)
   pub free : UpdateTakesFree (blocks_in c.blobs) (catalogue_at k.surface p) (placed_of k.surface p)
       (placed_as u firsts)
   pub book : contents_of c.book
-      ≡ with_body (record_spelling (placed_as u firsts)) (contents_of i.book)
+      ≡ with_body (record_spelling second_form (placed_as u firsts)) (contents_of i.book)
   pub no_shorter : length i.blobs ≤ length c.blobs
   pub old : stored_in k.surface p c.blobs ≡ stored_in k.surface p i.blobs
   pub new : HoldRewrites k.surface c.blobs
@@ -154,8 +155,8 @@ DamageNeedsNoMaster =
 -- has as many as its update wants.
 abbrev pub GatesNeedNoBlocks : Type 0
 GatesNeedNoBlocks =
-    (master : List ℕ) (p q : PlacedHistory)
+    (master : List ℕ) (step : Option ℕ) (p q : PlacedHistory)
     → AllHaveFirsts master (empty_catalogue p.mode p.first) p.updates
     → AllHaveFirsts master (empty_catalogue q.mode q.first) q.updates
     → unplaced p ≡ unplaced q
-    → end_from 78 (bodies_of p.updates) ≡ end_from 78 (bodies_of q.updates)
+    → gate_behind step (bodies_of step p.updates) ≡ gate_behind step (bodies_of step q.updates)

@@ -2,6 +2,7 @@
 use Rattle.std.specs.Prelude.{◌≡◌, ◌⊎◌, ℕ, ◌+◌, ◌<◌, ◌^◌, List, length, Option, ⊤}
 use Rattle.ov_blocks.specs.declared.extents.Extent.{Extent}
 use Rattle.ov_disk.specs.declared.area.Area.TheVariants.{Book}
+use Rattle.ov_record.specs.Forms.{Form}
 use Rattle.ov_history.specs.Briefs.{Brief}
 use Rattle.ov_history.specs.Catalogue.{Catalogue}
 use Rattle.ov_history.specs.Placed.{HasFirsts, PlacedUpdate, count_of}
@@ -32,17 +33,19 @@ pub record IsAtByte (body : List ℕ) (gate at_byte : ℕ) (spot : Spot) : Type 
   pub area : spot.area ≡ Book
   pub place : EndsInBook gate body → spot.place ≡ gate + 5 + at_byte
 
--- Reading the update at the front of this body, whose gate is here, stops at this spot.
-pub record StopsInFront (body : List ℕ) (gate : ℕ) (spot : Spot) : Type 0 where
+-- Reading an update in this form at the front of this body, whose gate is here, stops at this spot.
+pub record StopsInFront (form : Form) (body : List ℕ) (gate : ℕ) (spot : Spot) : Type 0 where
   pub at_byte : ℕ
-  pub stops : StopsInUpdate body at_byte
+  pub stops : StopsInUpdate form body at_byte
   pub spot_is : IsAtByte body gate at_byte spot
 
--- Reading a record with so many first blocks stops at this spot of its body, whose gate is here.
-pub record StopsInBody (count : ℕ) (body : List ℕ) (gate : ℕ) (spot : Spot) : Type 0 where
-  pub at_byte : ℕ
-  pub stops : StopsInRecord count body at_byte
-  pub spot_is : IsAtByte body gate at_byte spot
+-- Reading a record in this form with so many first blocks stops at this spot of its body, whose gate is
+-- here.
+pub record StopsInBody (form : Form) (count : ℕ) (body : List ℕ) (gate : ℕ) (spot : Spot) : Type 0
+  where
+    pub at_byte : ℕ
+    pub stops : StopsInRecord form count body at_byte
+    pub spot_is : IsAtByte body gate at_byte spot
 
 -- ---- an update that isn't taken
 
@@ -66,35 +69,37 @@ UpdateIsTakenAt blocks c placed u spot =
 
 -- The body begins with an update that a store with this catalogue doesn't take, whatever is behind
 -- it. The spot is that of its gate.
-pub record BeginsUntaken (c : Catalogue) (body : List ℕ) (gate : ℕ) (spot : Spot) : Type 0 where
+pub record BeginsUntaken (form : Form) (c : Catalogue) (body : List ℕ) (gate : ℕ) (spot : Spot)
+    : Type 0 where
   pub update : Brief
-  pub begins : BeginsWith update body
+  pub begins : BeginsWith form update body
   pub wrong : IsUntaken c update gate spot
 
 -- The body begins with an update that a store with this catalogue takes, and isn't this update with
 -- as many first blocks as it needs. The spot is that at which reading these stops.
-pub record HasOtherFirsts (c : Catalogue) (body : List ℕ) (gate : ℕ) (spot : Spot) : Type 0 where
+pub record HasOtherFirsts (form : Form) (c : Catalogue) (body : List ℕ) (gate : ℕ) (spot : Spot)
+    : Type 0 where
   pub update : Brief
-  pub begins : BeginsWith update body
+  pub begins : BeginsWith form update body
   pub taken : IsTaken c update
-  pub wrong : StopsInBody (count_of (rewrites_of c update)) body gate spot
+  pub wrong : StopsInBody form (count_of (rewrites_of c update)) body gate spot
 
 -- The body is an update that a store with this catalogue takes, with as many first blocks as it
 -- needs, and one of its new extents takes a block that is in use or past so many. The spot is that
 -- of the first such extent.
-pub record TakesUsedBlocks (blocks : ℕ) (c : Catalogue) (placed : List (Option ℕ)) (body : List ℕ)
-    (spot : Spot) : Type 0 where
+pub record TakesUsedBlocks (form : Form) (blocks : ℕ) (c : Catalogue) (placed : List (Option ℕ))
+    (body : List ℕ) (spot : Spot) : Type 0 where
   pub update : PlacedUpdate
-  pub is : IsRecordOf update body
+  pub is : IsRecordOf form update body
   pub taken : IsTaken c update.update
   pub firsts : HasFirsts c update
   pub wrong : UpdateIsTakenAt blocks c placed update spot
 
--- What is wrong with the record of this body, whose gate is here, for a store with this catalogue
--- and these first blocks, over so many blocks, and where. Each case begins where those before it
--- don't hold.
-abbrev pub IsBadFor : ℕ → Catalogue → List (Option ℕ) → List ℕ → ℕ → Spot → Type 0
-IsBadFor blocks c placed body gate spot =
-    StopsInFront body gate spot
-    ⊎ (BeginsUntaken c body gate spot
-    ⊎ (HasOtherFirsts c body gate spot ⊎ TakesUsedBlocks blocks c placed body spot))
+-- What is wrong with the record of this body in this form, whose gate is here, for a store with this
+-- catalogue and these first blocks, over so many blocks, and where. Each case begins where those
+-- before it don't hold.
+abbrev pub IsBadFor : Form → ℕ → Catalogue → List (Option ℕ) → List ℕ → ℕ → Spot → Type 0
+IsBadFor form blocks c placed body gate spot =
+    StopsInFront form body gate spot
+    ⊎ (BeginsUntaken form c body gate spot
+    ⊎ (HasOtherFirsts form c body gate spot ⊎ TakesUsedBlocks form blocks c placed body spot))

@@ -1,7 +1,8 @@
 -- Records that are replayed, one after the other.
-use Rattle.std.specs.Prelude.{◌≡◌, ℕ, List}
+use Rattle.std.specs.Prelude.{◌≡◌, ℕ, List, Option}
 use Rattle.ov_base.specs.declared.mode.Mode.{Mode}
 use Rattle.ov_record.specs.Briefs.{plain_brief}
+use Rattle.ov_record.specs.Forms.{Form}
 use Rattle.ov_record.specs.declared.stored.Stored.{Stored as StoredOf}
 use Rattle.ov_history.specs.Catalogue.{Catalogue, catalogue_after}
 use Rattle.ov_history.specs.Placed.{HasFirsts, IsReplayedTo, PlacedHistory, PlacedUpdate}
@@ -17,10 +18,10 @@ use Rattle.ov_placed.specs.Contents.{PlacedStore}
 abbrev pub placed_update : {W : ℕ} → StoredOf W → PlacedUpdate
 placed_update s = record { update = plain_brief s.update; firsts = s.places }
 
--- the body is the record of this update
-pub record IsRecordOf (u : PlacedUpdate) (body : List ℕ) : Type 0 where
-  pub form : HasRecordForm u
-  pub bytes : body ≡ record_spelling u
+-- the body is the record of this update in this form
+pub record IsRecordOf (form : Form) (u : PlacedUpdate) (body : List ℕ) : Type 0 where
+  pub has_form : HasRecordForm form u
+  pub bytes : body ≡ record_spelling form u
 
 -- the change is the one of this update, which has its first blocks
 pub record IsPlacedChange {W : ℕ} (limit : ℕ) (master : List ℕ) (c : Catalogue) (u : PlacedUpdate)
@@ -34,13 +35,13 @@ pub record IsPlacedAs (master : List ℕ) (blocks : ℕ) (p : PlacedHistory) (s 
     pub replayed : IsReplayedTo master p s.catalogue s.placed
     pub laid_out : IsLaidOut master blocks p
 
--- The record's update is one that the store takes, its new extents take free blocks, and it is made:
--- in the catalogue, and in the first blocks. So each history that was replayed to the old store goes
--- on with it to the new one.
-pub record TakesRecord (master : List ℕ) (blocks : ℕ) (old : PlacedStore) (body : List ℕ)
-    (new : PlacedStore) : Type 0 where
+-- The update of this record in this form is one that the store takes, its new extents take free
+-- blocks, and it is made: in the catalogue, and in the first blocks. So each history that was replayed
+-- to the old store goes on with it to the new one.
+pub record TakesRecord (master : List ℕ) (form : Form) (blocks : ℕ) (old : PlacedStore)
+    (body : List ℕ) (new : PlacedStore) : Type 0 where
   pub update : PlacedUpdate
-  pub is : IsRecordOf update body
+  pub is : IsRecordOf form update body
   pub taken : IsTaken old.catalogue update.update
   pub firsts : HasFirsts old.catalogue update
   pub free : UpdateTakesFree blocks old.catalogue old.placed update
@@ -49,11 +50,11 @@ pub record TakesRecord (master : List ℕ) (blocks : ℕ) (old : PlacedStore) (b
   pub goes_on : (p : PlacedHistory)
       → IsPlacedAs master blocks p old → IsPlacedAs master blocks (with_placed p update) new
 
--- These bodies keep a history of this mode, from this epoch on, beside so many blocks of Blobs, and
--- this is the store after it.
-pub record IsReplayOf (master : List ℕ) (mode : Mode) (first blocks : ℕ) (bodies : List (List ℕ))
-    (s : PlacedStore) : Type 0 where
+-- These bodies, so many of which come before a step record, keep a history of this mode, from this
+-- epoch on, beside so many blocks of Blobs, and this is the store after it.
+pub record IsReplayOf (master : List ℕ) (mode : Mode) (first blocks : ℕ) (step : Option ℕ)
+    (bodies : List (List ℕ)) (s : PlacedStore) : Type 0 where
   pub history : PlacedHistory
-  pub kept : CanBeKept master mode first blocks history
+  pub kept : CanBeKept master mode first blocks step history
   pub placed : IsPlacedAs master blocks history s
-  pub bodies_are : bodies_of history.updates ≡ bodies
+  pub bodies_are : bodies_of step history.updates ≡ bodies

@@ -1,6 +1,7 @@
 //! Records whose change is prepared.
 ghost use Rattle.std.specs.Prelude.{◌≡◌, ◌*◌, ℕ, List, Option, IfErr, IfOk};
 ghost use Rattle.ov_record.specs.Briefs.{plain_brief};
+ghost use Rattle.ov_record.specs.Forms.{form_in};
 ghost use Rattle.ov_state.specs.Changes.{HasRoomFor};
 ghost use Rattle.ov_state.specs.Plans.{IsChange, IsFitting};
 ghost use Rattle.ov_placed.specs.Faults.{IsBadFor, IsUntaken, NamesSpot};
@@ -10,7 +11,7 @@ use crate::fault::ReplayFault;
 use crate::first_blocks::count_of;
 use crate::reading::{read_record, read_update};
 use ov_disk::Area;
-use ov_record::{Brief, Stored};
+use ov_record::{Brief, Format, Stored};
 use ov_state::{Catalogue, Change, PrepareFault, WIDTH};
 use ov_tokens::Master;
 use std::alloc::Global;
@@ -41,25 +42,28 @@ fn prepare_update(
     }
 }
 
-/// The record with this body, whose gate is at this place, and the change that it makes.
+/// The record of this format with this body, whose gate is at this place, and the change that it
+/// makes.
 pub(crate) fn prepare_record(
     alloc: Global,
     catalogue: &mut Catalogue,
     surface: &Master,
+    format: Format,
     body: &[u8],
     gate: u64,
 ) -> Result<(Change<WIDTH>, Stored<WIDTH>), ReplayFault>
     ensures same { catalogue.new.catalogue ≡ catalogue.old.catalogue }
-    ensures record { IfOk result (λ x. IsRecordOf (placed_update x.1) body.now) }
+    ensures record { IfOk result (λ x.
+        IsRecordOf (form_in format) (placed_update x.1) body.now) }
     ensures change { IfOk result (λ x. IsPlacedChange (64 * WIDTH) surface.now.bytes
         catalogue.old.catalogue (placed_update x.1) x.0) }
     ensures room { IfOk result (λ x. HasRoomFor catalogue.new.room x.0) }
     ensures fault { (blocks : ℕ) (placed : List (Option ℕ)) → IfErr result (NamesSpot
-        (IsBadFor blocks catalogue.old.catalogue placed body.now gate)) }
+        (IsBadFor (form_in format) blocks catalogue.old.catalogue placed body.now gate)) }
 {
-    let update = read_update(alloc, body, gate)?;
+    let update = read_update(alloc, format, body, gate)?;
     let change = prepare_update(alloc, catalogue, surface, update, gate)?;
     let count = count_of(change.rewrites());
-    let record = read_record(alloc, body, gate, count)?;
+    let record = read_record(alloc, format, body, gate, count)?;
     Ok((change, record))
 }

@@ -3,6 +3,7 @@ ghost use Rattle.std.specs.Prelude.{◌≡◌, ◌≤◌, ◌*◌, ℕ, List, If
 ghost use Rattle.ov_blocks.specs.declared.extents.TheConstants.{MAX_BLOCKS};
 ghost use Rattle.ov_history.specs.Placed.{placed_after};
 ghost use Rattle.ov_images.specs.Extents.{UpdateTakesFree};
+ghost use Rattle.ov_record.specs.Forms.{form_in};
 ghost use Rattle.ov_state.specs.Changes.{applied, HasRoomFor};
 ghost use Rattle.ov_placed.specs.Contents.{HoldsTheSame};
 ghost use Rattle.ov_placed.specs.Faults.{IsBadFor, NamesSpot, UpdateIsTakenAt};
@@ -15,7 +16,7 @@ use crate::first_blocks::new_extents;
 use crate::holding::hold_all;
 use crate::prepared::prepare_record;
 use ov_graph::Graph;
-use ov_record::Stored;
+use ov_record::{Format, Stored};
 use ov_state::Change;
 use ov_tokens::{Base, Master, Surface};
 use std::alloc::Global;
@@ -57,24 +58,25 @@ impl<B: Graph<Base, W>, S: Graph<Surface, W>, const W: usize> PlacedCatalogue<B,
 }
 
 impl CataloguePlaces {
-    /// Replays the record with this body, whose gate is at this place of Book, over a Blobs of so many
-    /// whole blocks.
+    /// Replays the record of this format with this body, whose gate is at this place of Book, over a
+    /// Blobs of so many whole blocks.
     pub fn replay(
         &mut self,
         alloc: Global,
         surface: &Master,
+        format: Format,
         body: &[u8],
         gate: u64,
         blocks: u32,
     ) -> Result<(), ReplayFault>
         requires { blocks ≤ MAX_BLOCKS }
         ensures taken { OnOk result
-            (TakesRecord surface.now.bytes blocks self.old body.now self.new) }
+            (TakesRecord surface.now.bytes (form_in format) blocks self.old body.now self.new) }
         ensures fault { IfErr result (NamesSpot
-            (IsBadFor blocks self.old.catalogue self.old.placed body.now gate)) }
+            (IsBadFor (form_in format) blocks self.old.catalogue self.old.placed body.now gate)) }
         ensures same { OnErr result (HoldsTheSame self.old self.new) }
     {
-        let (change, record) = prepare_record(alloc, &mut self.catalogue, surface, body, gate)?;
+        let (change, record) = prepare_record(alloc, &mut self.catalogue, surface, format, body, gate)?;
         self.take(alloc, change, &record, blocks)
     }
 }

@@ -1,6 +1,8 @@
 -- How updates are spelled: the words of a set, and the limits of a creation.
 use Rattle.std.specs.Prelude.{ℕ, ◌<◌, ◌≤◌, ◌+◌, ◌*◌, ◌^◌}
 use Rattle.ov_base.specs.declared.limits.TheConstants.{MAX_NAME_BYTES}
+use Rattle.ov_record.specs.declared.formats.Format.{Format}
+use Rattle.ov_record.specs.declared.formats.Format.TheVariants.{First, Second}
 use Rattle.ov_record.specs.declared.forms.Form.{Form as FormOf}
 
 -- A form of spellings: how many words a set has, how many tokens a creation has at most, and how
@@ -10,13 +12,18 @@ pub record Form : Type 0 where
   pub most_tokens : ℕ
   pub longest : ℕ
 
--- the form of the first format, in which all records and frames are
+-- the form of the first format, in which the records of older stores are
 abbrev pub first_form : Form
 first_form = record { words = 4; most_tokens = 256; longest = 1048576 }
 
--- the form of the second format
+-- the form of the second format, in which frames and new records are
 abbrev pub second_form : Form
 second_form = record { words = 16; most_tokens = 1024; longest = 16777216 }
+
+-- the form of this format
+abbrev pub form_in : Format → Form
+form_in First = first_form
+form_in Second = second_form
 
 -- whatever the one form has room for, the other has too
 abbrev pub IsWider : Form → Form → Type 0

@@ -3,10 +3,12 @@
 //! An [`Update`] is one change of a store: what its owner sends, and what its journal keeps. A
 //! contract sees it by `sealed_update` of `specs/Updates`, as a value that knows nothing of the
 //! width of the set in it. A [`Form`] says how updates are spelled: with how many words in a set,
-//! and with which limits of a creation. Records and frames are in the form of the first format,
-//! [`Form::FIRST`]; [`Form::SECOND`] is that of the second, which has room for all that the first
-//! has ([`forms_have_room`]). In each form an update has one spelling (`spelling` in `specs/Spelling`), [`write`] appends it, and
-//! [`read`] gives the update exactly where the bytes are its spelling. Elsewhere `read` names the
+//! and with which limits of a creation. Frames and new records are in the form of the second
+//! format, [`Form::SECOND`]; [`Form::FIRST`] is that of the first, in which older records are. The
+//! second has room for all that the first has, and both have room in a record
+//! ([`forms_have_room`]). In each form an update has one spelling (`spelling` in `specs/Spelling`),
+//! [`write`] appends it, and [`read`] gives the update exactly where the bytes are its spelling.
+//! Elsewhere `read` names the
 //! place of the first field that no spelling continues, or the end, as `specs/Reading` says: what
 //! stands before the place goes on to a spelling, and with the field at it none does
 //! ([`bad_updates_are_placed`]). No spelling is the front of another's
@@ -21,7 +23,8 @@
 //! [`bad_records_are_placed`]). An update's spelling is that of its brief, and then the bytes of
 //! its file ([`briefs_begin_spellings`]). The laws of these spellings are as those above.
 //! `ov_updating` writes such records, and `ov_placed` reads them. A brief that was read in the one
-//! form is, after [`Brief::widen`], the same update in a wider one ([`wider_forms_have_all`]).
+//! form is, after [`Brief::widen`], the same update in a wider one ([`wider_forms_have_all`]). So
+//! [`read_front`] and [`read_record`] read the records of either [`Format`] in one width.
 //!
 //! [`user_entry`], [`node_entry`], [`access_entry`] and [`file_entry`] append entries of the public
 //! catalogue, by `specs/Entries` of ov_fields.
@@ -32,6 +35,7 @@
 mod brief;
 mod entries;
 mod fault;
+mod formats;
 mod forms;
 mod laws;
 mod pieces;
@@ -46,6 +50,7 @@ mod writing;
 pub use brief::Brief;
 pub use entries::{access_entry, file_entry, node_entry, user_entry};
 pub use fault::RecordFault;
+pub use formats::{Format, read_front, read_record};
 pub use forms::Form;
 pub use laws::{
     bad_fronts_are_placed, bad_records_are_placed, bad_updates_are_placed, briefs_are_read,
