@@ -4,6 +4,7 @@ use Rattle.ov_base.specs.declared.mode.Mode.{Mode}
 use Rattle.ov_disk.specs.Disk.{Image}
 use Rattle.ov_disk.specs.declared.area.Area.TheVariants.{Book}
 use Rattle.ov_disk.specs.Tells.{DiskTells}
+use Rattle.ov_journal.specs.Book.{contents_of}
 use Rattle.ov_journal.specs.declared.fault.CheckFault.{CheckFault}
 use Rattle.ov_journal.specs.declared.fault.CheckFault.TheVariants.{Disk as NoDisk}
 use Rattle.ov_journal.specs.declared.fault.CheckFault.TheVariants.{Memory as NoMemory}
@@ -30,7 +31,7 @@ pub record HasFalseRecord (k : Masters) (mode : Mode) (i : Image) (place : ℕ) 
   pub history : SealedHistory
   pub mode_is : history.mode ≡ mode
   pub keeps : Keeps (keys_of k) history i
-  pub first_false : HasFalseUpdate k history place
+  pub first_false : HasFalseUpdate k (contents_of i.book).records.step history place
 
 -- Why a run under these masters refuses the image: no store begins on it, for this reason; or it
 -- keeps a history, and this names the first record with a token or a tag that isn't its owner's.
@@ -63,21 +64,23 @@ fault_for (Ok (Some place)) = Some (Damaged Book place)
 fault_for (Err NoDisk) = Some Disk
 fault_for (Err NoMemory) = Some Memory
 
--- Why a store that stands for this history isn't begun: the first update that isn't as its owner
--- seals it has its gate at this place. Refused memory and a fault of the disk say nothing of it.
-abbrev pub IsCheckFault : Masters → SealedHistory → BeginFault → Type 0
-IsCheckFault k g Disk = ⊤
-IsCheckFault k g NotAStore = ⊥
-IsCheckFault k g (Damaged area place) = (area ≡ Book) × HasFalseUpdate k g place
-IsCheckFault k g (BaseDiffers stored given) = ⊥
-IsCheckFault k g (SurfaceDiffers stored given) = ⊥
-IsCheckFault k g (ModeDiffers stored given) = ⊥
-IsCheckFault k g Memory = ⊤
+-- Why a store that stands for this history, on this image, isn't begun: the first update that isn't
+-- as its owner seals it has its gate at this place. Refused memory and a fault of the disk say nothing
+-- of it.
+abbrev pub IsCheckFault : Masters → Image → SealedHistory → BeginFault → Type 0
+IsCheckFault k i g Disk = ⊤
+IsCheckFault k i g NotAStore = ⊥
+IsCheckFault k i g (Damaged area place) =
+    (area ≡ Book) × HasFalseUpdate k (contents_of i.book).records.step g place
+IsCheckFault k i g (BaseDiffers stored given) = ⊥
+IsCheckFault k i g (SurfaceDiffers stored given) = ⊥
+IsCheckFault k i g (ModeDiffers stored given) = ⊥
+IsCheckFault k i g Memory = ⊤
 
--- The store that stands for this history is handed on: all updates are as their owner seals them,
--- and it stands for it still. Or it isn't, for this reason.
-abbrev pub IsChecked : {D : Type 0} → DiskTells D → Masters → SealedHistory
+-- The store that stands for this history, on this image, is handed on: all updates are as their owner
+-- seals them, and it stands for it still. Or it isn't, for this reason.
+abbrev pub IsChecked : {D : Type 0} → DiskTells D → Masters → Image → SealedHistory
     → Result (Opened D) (BeginRefused D) → Type 0
-IsChecked tells k g (Ok s) =
+IsChecked tells k i g (Ok s) =
     AllAreOwners k (start_of (outer_of g)) g.updates × Serves tells g s
-IsChecked tells k g (Err refused) = IsCheckFault k g refused.fault
+IsChecked tells k i g (Err refused) = IsCheckFault k i g refused.fault

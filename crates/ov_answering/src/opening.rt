@@ -43,8 +43,8 @@ fn checked<D: Disk>(alloc: Global, store: Store<D>, base: &Key) -> Result<Store<
     requires { store.failed ≡ false }
     ensures same { IfOk result (λ s. s ≡ record store { disk = s.disk }) }
     ensures owners { (g : SealedHistory) → Serves D.tells g store
-        → Told (D.tells.reads store.disk) (λ _. IsChecked D.tells
-        (both base.now.bytes store.keys.surface) g result) }
+        → Told (D.tells.reads store.disk) (λ i. IsChecked D.tells
+        (both base.now.bytes store.keys.surface) i g result) }
     ensures untouched { IsUntouched D.tells store.disk (disk_left result) }
     ensures call { IsDiskCall D.tells (IsDiskFault result) store.disk (disk_left result) }
 {

@@ -31,7 +31,7 @@ const NEW_STORE: [u8; 79] = *b"\x01OVERENC1\x01\x01\x02\x03\x04\
 
 // The bodies of all records, one behind the other.
 fn bodies<D: Disk>(alloc: Global, disk: &mut D, journal: &Journal) -> Result<Vec<u8>, CheckFault>
-    requires { Told (D.tells.reads disk.old) (λ i. IsLogOf journal.now (contents_of i.book).records) }
+    requires { Told (D.tells.reads disk.old) (λ i. IsLogOf journal.now i.book) }
 {
     let mut all = Vec::new(alloc);
     'records: for i in 0..journal.count() {

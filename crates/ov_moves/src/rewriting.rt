@@ -1,8 +1,7 @@
 //! The whole of an update that moves files.
-ghost use Rattle.std.specs.Prelude.{◌≡◌, ◌<◌, ◌^◌, All, IfOk, IsErrOf, MatchResult, OnErr, OnOk, Some, false, length};
+ghost use Rattle.std.specs.Prelude.{◌≡◌, ◌<◌, ◌^◌, ℕ, All, IfOk, IsErrOf, List, MatchResult, OnErr, OnOk, Some, false, length};
 ghost use Rattle.ov_disk.specs.Calls.{IsDiskCall};
 ghost use Rattle.ov_disk.specs.Disk.{Only, Told};
-ghost use Rattle.ov_journal.specs.Book.{Records};
 ghost use Rattle.ov_journal.specs.Log.{HasSameRecords, IsLogOf, Stands, appended};
 ghost use Rattle.ov_journal.specs.Taking.{IsBody, MayTake};
 ghost use Rattle.ov_journal.specs.declared.fault.CheckFault.TheVariants.{Disk as DiskFailed, Memory as NoMemory};
@@ -41,8 +40,7 @@ fn take_memory<S: Spell>(
     ensures buffer { IfOk result (λ taken. length taken.1.items ≡ PIECE_BYTES) }
     ensures may { OnOk result (MayTake (S.spelled spell.now moves.now) journal.new) }
     ensures same { HasSameRecords journal.old journal.new }
-    ensures stands { (records : Records) → IsLogOf journal.old records
-        → IsLogOf journal.new records }
+    ensures stands { (book : List ℕ) → IsLogOf journal.old book → IsLogOf journal.new book }
     ensures err { OnErr result (journal.new ≡ journal.old) }
 {
     let body = spell.spell(alloc, moves)?;

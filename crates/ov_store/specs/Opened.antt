@@ -8,7 +8,7 @@ use Rattle.ov_history.specs.Sealed.{SealedHistory, StandsFor, KeepsBytes}
 use Rattle.ov_history.specs.Texts.{brief_of}
 use Rattle.ov_disk.specs.Disk.{Image, Only, Told}
 use Rattle.ov_disk.specs.Tells.{DiskTells}
-use Rattle.ov_journal.specs.Book.{contents_of, spelled}
+use Rattle.ov_journal.specs.Book.{IsFormat, contents_of, spelled}
 use Rattle.ov_journal.specs.Log.{IsLogOfFirst, Log, Stands}
 use Rattle.ov_images.specs.Extents.{IsLaidOut, blocks_in}
 use Rattle.ov_images.specs.Images.{HasRecords, Keys, Keeps, KeepsEither, header_of}
@@ -61,14 +61,18 @@ pub record Serves {D : Type 0} (tells : DiskTells D) (g : SealedHistory) (s : Op
   pub after_fault : s.failed ≡ true → LastsEither tells s.keys g s.disk
 
 -- The image has the header of this history under these keys, and its first records are the history's,
--- whose extents lie in Blobs. Other records may follow them.
-pub record BeginsWith (k : Keys) (p : PlacedHistory) (i : Image) : Type 0 where
+-- so many of which come before the step record, and whose extents lie in Blobs. Other records may
+-- follow them.
+pub record BeginsWith (k : Keys) (step : Option ℕ) (p : PlacedHistory) (i : Image) : Type 0 where
+  pub format : ℕ
+  pub known : IsFormat format
   pub first : p.first < 2 ^ 32
-  pub form : AllHaveForm p.updates
+  pub form : AllHaveForm step p.updates
   pub laid_out : IsLaidOut k.surface (blocks_in i.blobs) p
-  pub head : (contents_of i.book).head ≡ spelled (header_of k p)
+  pub head : (contents_of i.book).head ≡ spelled (header_of k format p)
+  pub step_is : (contents_of i.book).records.step ≡ step
   pub rest : List (List ℕ)
-  pub split : (contents_of i.book).records.bodies ≡ bodies_of p.updates ++ rest
+  pub split : (contents_of i.book).records.bodies ≡ bodies_of step p.updates ++ rest
 
 -- What holds of every open store with this journal, and with files where these first blocks are. Its
 -- records were replayed, or would be, to its catalogue and these first blocks, and it stands for a
@@ -82,8 +86,8 @@ pub record IsSafe {D : Type 0} (tells : DiskTells D) (log : Log) (store : Placed
   pub history : PlacedHistory
   pub many : length history.updates ≡ length log.offsets
   pub replayed : IsReplayedTo s.keys.surface history s.catalogue store.placed
-  pub log_is : Told (tells.reads s.disk) (λ i. IsLogOfFirst log (contents_of i.book).records)
-  pub begins : Told (tells.reads s.disk) (BeginsWith s.keys history)
+  pub log_is : Told (tells.reads s.disk) (λ i. IsLogOfFirst log i.book)
+  pub begins : Told (tells.reads s.disk) (BeginsWith s.keys log.step history)
   pub stands : s.failed ≡ false → Stands tells log s.disk
   pub settled : s.failed ≡ false
       → Told (tells.reads s.disk) (λ i. Only i (tells.may_leave s.disk))

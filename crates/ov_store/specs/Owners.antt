@@ -17,8 +17,8 @@ use Rattle.ov_history.specs.Sealing.{sealed_update}
 use Rattle.ov_history.specs.KeptLaws.{AllAreOwners}
 use Rattle.ov_history.specs.Texts.{brief_of}
 use Rattle.ov_disk.specs.Disk.{Image}
-use Rattle.ov_journal.specs.Book.{contents_of}
-use Rattle.ov_journal.specs.Log.{Log, end_from}
+use Rattle.ov_journal.specs.Book.{contents_of, gate_behind}
+use Rattle.ov_journal.specs.Log.{Log}
 use Rattle.ov_images.specs.Records.{AllHaveForm, bodies_of}
 use Rattle.ov_placed.specs.Contents.{PlacedStore}
 
@@ -45,23 +45,25 @@ pub record IsRecordedAs (master : List ℕ) (g : SealedHistory) (p : PlacedHisto
   pub firsts : AllHaveFirsts master (empty_catalogue p.mode p.first) p.updates
 
 -- The first updates of the history are as their owner seals them, and the next one isn't; this is
--- the place of the gate of its record, which is behind theirs.
-pub record HasFalseUpdate (k : Masters) (g : SealedHistory) (place : ℕ) : Type 0 where
-  pub front : List SealedUpdate
-  pub next : SealedUpdate
-  pub rest : List SealedUpdate
-  pub split : g.updates ≡ front ++ next ∷ rest
-  pub owners : AllAreOwners k (start_of (outer_of g)) front
-  pub wrong : IsOwners k (layers_of (outer_of (with_first g front))) next → ⊥
-  pub placed : PlacedHistory
-  pub recorded : IsRecordedAs k.surface (with_first g front) placed
-  pub gate : place ≡ end_from 78 (bodies_of placed.updates)
+-- the place of the gate of its record, which is behind theirs. So many records come before the step
+-- record.
+pub record HasFalseUpdate (k : Masters) (step : Option ℕ) (g : SealedHistory) (place : ℕ) : Type 0
+  where
+    pub front : List SealedUpdate
+    pub next : SealedUpdate
+    pub rest : List SealedUpdate
+    pub split : g.updates ≡ front ++ next ∷ rest
+    pub owners : AllAreOwners k (start_of (outer_of g)) front
+    pub wrong : IsOwners k (layers_of (outer_of (with_first g front))) next → ⊥
+    pub placed : PlacedHistory
+    pub recorded : IsRecordedAs k.surface (with_first g front) placed
+    pub gate : place ≡ gate_behind step (bodies_of step placed.updates)
 
--- all updates of the history are as their owner seals them, or the first that isn't has its gate
--- at this place
-abbrev pub Checks : Masters → SealedHistory → Option ℕ → Type 0
-Checks k g None = AllAreOwners k (start_of (outer_of g)) g.updates
-Checks k g (Some place) = HasFalseUpdate k g place
+-- All updates of the history are as their owner seals them, or the first that isn't has its gate at
+-- this place, where so many records come before the step record.
+abbrev pub Checks : Masters → Option ℕ → SealedHistory → Option ℕ → Type 0
+Checks k step g None = AllAreOwners k (start_of (outer_of g)) g.updates
+Checks k step g (Some place) = HasFalseUpdate k step g place
 
 -- ---- one record after the other
 
@@ -71,11 +73,12 @@ pub record IsHistoryOf (master : List ℕ) (log : Log) (store : PlacedStore) (g 
     (i : Image) : Type 0 where
   pub placed : PlacedHistory
   pub briefs : brief_of g ≡ unplaced placed
-  pub form : AllHaveForm placed.updates
+  pub step : (contents_of i.book).records.step ≡ log.step
+  pub form : AllHaveForm log.step placed.updates
   pub replayed : IsReplayedTo master placed store.catalogue store.placed
   pub many : length placed.updates ≡ length log.offsets
   pub rest : List (List ℕ)
-  pub split : (contents_of i.book).records.bodies ≡ bodies_of placed.updates ++ rest
+  pub split : (contents_of i.book).records.bodies ≡ bodies_of log.step placed.updates ++ rest
   pub bytes : KeepsBytes master (cut i.blobs store.catalogue.files store.placed) g
 
 -- the bytes of the file of this number as they were sent: those of its extent, with the coat of its

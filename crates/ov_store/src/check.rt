@@ -10,12 +10,14 @@ ghost use Rattle.ov_images.specs.Damage.{BeginsWith};
 ghost use Rattle.ov_journal.specs.Book.{contents_of};
 ghost use Rattle.ov_journal.specs.Log.{IsLogOfFirst};
 ghost use Rattle.ov_journal.specs.declared.fault.CheckFault.TheVariants.{Disk as DiskFailed};
+ghost use Rattle.ov_record.specs.Forms.{form_in};
 ghost use Rattle.ov_record.specs.Updates.{SealedUpdate, sealed_update};
 ghost use Rattle.ov_state.specs.Plans.{IsFitting, IsTaken};
 ghost use Rattle.ov_store.specs.Opened.{Serves};
 ghost use Rattle.ov_store.specs.Owners.{Checks, FollowsUpdate, HasTextIn, IsHistoryOf, masters};
 ghost use Rattle.ov_store.specs.Updating.{IsCallOf};
 
+use crate::format::format_of;
 use crate::owners::is_owners;
 use crate::store::Store;
 use crate::texts::whole_update;
@@ -23,7 +25,7 @@ use ov_base::{Key, Memory};
 use ov_disk::Disk;
 use ov_journal::{CheckFault, Journal};
 use ov_placed::CataloguePlaces;
-use ov_record::{Brief, Form, RecordFault, Update, read_brief};
+use ov_record::{Brief, Format, RecordFault, Update, read_front};
 use ov_state::{Catalogue, PrepareFault, State, WIDTH};
 use ov_tokens::Master;
 use std::alloc::Global;
@@ -55,7 +57,7 @@ fn follow(
     }
 }
 
-// Goes on with the record with this body, if its update is as its owner seals it. The text of a new
+// Goes on with the record of this format with this body, if its update is as its owner seals it. The text of a new
 // file is what the open store has of it.
 fn follow_record<D: Disk>(
     alloc: Global,
@@ -64,12 +66,13 @@ fn follow_record<D: Disk>(
     state: &mut Catalogue,
     surface: &Master,
     base: &Master,
+    format: Format,
     body: &[u8],
 ) -> Result<bool, CheckFault>
     requires { Told (D.tells.reads disk.old) (λ i.
         AllEndWithin (length i.blobs) placed.now.catalogue.files placed.now.placed) }
     ensures followed { IfOk result (λ yes. Told (D.tells.reads disk.old) (λ i.
-        (u : SealedUpdate) → BeginsWith (brief u) body.now
+        (u : SealedUpdate) → BeginsWith (form_in format) (brief u) body.now
         → HasTextIn surface.now.bytes placed.now (length state.old.catalogue.files) i.blobs u
         → IsTaken state.old.catalogue (brief u)
         → FollowsUpdate (masters base.now.bytes surface.now.bytes)
@@ -77,7 +80,7 @@ fn follow_record<D: Disk>(
     ensures untouched { IsUntouched D.tells disk.old disk.new }
     ensures call { IsDiskCall D.tells (IsErrOf result DiskFailed) disk.old disk.new }
 {
-    let brief = match read_brief(alloc, Form::SECOND, body) {
+    let brief = match read_front(alloc, format, body) {
         Ok((brief, _)) => brief,
         Err(RecordFault::BadRecord { .. }) => return Ok(false),
         Err(RecordFault::Memory) => return Err(CheckFault::Memory),
@@ -101,12 +104,12 @@ fn first_false<D: Disk>(
 ) -> Result<Option<u64>, CheckFault>
     requires count { length journal.now.offsets ≤ placed.now.catalogue.epoch }
     requires log { Told (D.tells.reads disk.old) (λ i.
-        IsLogOfFirst journal.now (contents_of i.book).records) }
+        IsLogOfFirst journal.now i.book) }
     requires files { Told (D.tells.reads disk.old) (λ i.
         AllEndWithin (length i.blobs) placed.now.catalogue.files placed.now.placed) }
     ensures checked { IfOk result (λ found. Told (D.tells.reads disk.old) (λ i.
         (g : SealedHistory) → IsHistoryOf surface.now.bytes journal.now placed.now g i
-        → Checks (masters base.now.bytes surface.now.bytes) g found)) }
+        → Checks (masters base.now.bytes surface.now.bytes) journal.now.step g found)) }
     ensures untouched { IsUntouched D.tells disk.old disk.new }
     ensures call { IsDiskCall D.tells (IsErrOf result DiskFailed) disk.old disk.new }
 {
@@ -117,8 +120,8 @@ fn first_false<D: Disk>(
     'records: for i in 0..journal.count() {
         body.clear();
         journal.body(disk, i, &mut body)?;
-        let body = body.as_slice();
-        if !follow_record(alloc, disk, placed, &mut state, surface, base, body)? {
+        let (format, body) = (format_of(journal, i), body.as_slice());
+        if !follow_record(alloc, disk, placed, &mut state, surface, base, format, body)? {
             return Ok(Some(journal.offset(i)));
         }
     }
@@ -133,7 +136,8 @@ impl<D: Disk> Store<D> {
         // The place is right for each history for which the store stands.
         ensures checked { IfOk result (λ found. (g : SealedHistory)
             → Serves D.tells g self.old → Told (D.tells.reads self.old.disk)
-            (λ _. Checks (masters base.now.bytes self.old.keys.surface) g found)) }
+            (λ i. Checks (masters base.now.bytes self.old.keys.surface)
+            (contents_of i.book).records.step g found)) }
 
         // Nothing is written, and the store stands for what it stood for.
         ensures kept { self.new ≡ record self.old { disk = self.new.disk } }

@@ -3,7 +3,7 @@
 //! A [`Store`] has its catalogue in memory, with the first block of each file (`ov_placed`), and a
 //! disk with a journal of its updates (`ov_journal`); the stored bytes of files lie in extents of the
 //! disk's area Blobs (`ov_blocks`). [`Store::begin`] begins an empty store where there is none, and
-//! else replays the records that an earlier run left, and no file's bytes. [`Store::update`] prepares
+//! else replays the records that an earlier run left, of either format, and no file's bytes. [`Store::update`] prepares
 //! an update, writes the new bytes of files into extents that were free, and then its record, and only
 //! then makes it, which can't fail: so what was answered with `Ok` outlasts each later stop, and a stop
 //! at any moment leaves the history from before or it with this update. [`Store::chunk`] reads stored
@@ -37,6 +37,7 @@ mod birth;
 mod check;
 mod chunk;
 mod fault;
+mod format;
 mod owners;
 mod reopen;
 mod replay;

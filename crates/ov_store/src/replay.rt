@@ -5,12 +5,12 @@ ghost use Rattle.ov_disk.specs.Calls.{IsDiskCall};
 ghost use Rattle.ov_disk.specs.Disk.{Told};
 ghost use Rattle.ov_disk.specs.Moments.{IsUntouched};
 ghost use Rattle.ov_images.specs.Extents.{blocks_in};
-ghost use Rattle.ov_journal.specs.Book.{contents_of};
 ghost use Rattle.ov_journal.specs.Log.{IsLogOf};
 ghost use Rattle.ov_store.specs.Replaying.{IsReplay, IsReplayFault};
 ghost use Rattle.ov_store.specs.declared.fault.BeginFault.TheVariants.{Disk as DiskFailed};
 
 use crate::fault::BeginFault;
+use crate::format::format_of;
 use ov_base::Mode;
 use ov_blocks::{BLOCK_BYTES, MAX_BLOCKS};
 use ov_disk::{Area, Disk, DiskFault};
@@ -42,7 +42,7 @@ pub(crate) fn replay<D: Disk>(
     first: u32,
 ) -> Result<CataloguePlaces, BeginFault>
     requires log { Told (D.tells.reads disk.old) (λ i.
-        IsLogOf journal.now (contents_of i.book).records) }
+        IsLogOf journal.now i.book) }
     ensures made { IfOk result
         (IsReplay surface.now.bytes mode first journal.now (D.tells.reads disk.old)) }
     ensures fault { Told (D.tells.reads disk.old) (λ i.
@@ -57,8 +57,8 @@ pub(crate) fn replay<D: Disk>(
     'records: for i in 0..journal.count() {
         body.clear();
         journal.body(disk, i, &mut body)?;
-        let gate = journal.offset(i);
-        store.replay(alloc, surface, body.as_slice(), gate, blocks)?;
+        let (format, gate) = (format_of(journal, i), journal.offset(i));
+        store.replay(alloc, surface, format, body.as_slice(), gate, blocks)?;
     }
     Ok(store)
 }

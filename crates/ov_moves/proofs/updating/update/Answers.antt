@@ -23,7 +23,7 @@ append-requires-clause-stands g c k is =
     let from = c.in_ok-move_all.ensures.moved.back k is in
     let stands = c.requires.stands from.0 from.1 in
     let book : k.book ≡ (from.0).book = from.2.kept.book in (
-      subst (λ (b : List ℕ). IsLogOf c.args.journal.now (contents_of b).records) (sym book) stands.0,
+      subst (λ (b : List ℕ). IsLogOf c.args.journal.now b) (sym book) stands.0,
       λ x left. let crash = c.move_all.ensures.goes.crash x left in crash.2.book ∙ stands.1 crash.0 crash.1 ∙ sym book,
     )
 
