@@ -12,7 +12,7 @@ use Rattle.ov_record.specs.Forms.{second_form}
 use Rattle.ov_record.specs.Reading.{brief_at, stored}
 use Rattle.ov_record.specs.Stored.{Stored}
 use Rattle.ov_record.proofs.BriefLaws.{brief_reads}
-use Rattle.ov_record.proofs.UpdateLaws.{first_has_room}
+use Rattle.ov_record.proofs.UpdateLaws.{second_has_room}
 use Rattle.ov_history.specs.Briefs.{Brief, BriefCreate, BriefEnrol}
 use Rattle.ov_journal.specs.Book.{records_after}
 use Rattle.ov_images.specs.Images.{Keys}
@@ -132,7 +132,7 @@ create_with firsts = create_body 1 (0 ∷ 0 ∷ []) firsts
 -- the creation is read from the front
 created_first : (firsts : List ℕ) → brief_at second_form (create_with firsts) ≡ Ok (created, firsts)
 unfolding bytes_of
-created_first firsts = (brief_reads second_form first_has_room).again created firsts create_form.0
+created_first firsts = (brief_reads second_form second_has_room).again created firsts create_form.0
 
 missing_stops : StopsInRecord 1 (create_with []) 73
 unfolding bytes_at many_at
@@ -205,7 +205,7 @@ enrolled_stops : StopsInRecord 0 (enrol_body 98 ++ block 0) 3
 unfolding bytes_at many_at
 enrolled_stops =
     ap (λ (r : Read Brief). placed 7 (all_of (and_firsts 0 r)))
-    ((brief_reads second_form first_has_room).again (BriefEnrol (98 ∷ [])) (block 0) refl)
+    ((brief_reads second_form second_has_room).again (BriefEnrol (98 ∷ [])) (block 0) refl)
 
 pub gate_comes_first : GateComesFirst
 gate_comes_first k blobs long is = (

@@ -7,7 +7,7 @@ use Rattle.ov_fields.specs.Reading.{placed}
 use Rattle.ov_record.specs.Reading.{update_of}
 use Rattle.ov_record.specs.Spelling.{HasForm, spelling}
 use Rattle.ov_record.specs.Updates.{SealedUpdate}
-use Rattle.ov_record.proofs.UpdateLaws.{update_reads, first_has_room}
+use Rattle.ov_record.proofs.UpdateLaws.{update_reads, second_has_room}
 use Rattle.ov_record.specs.Forms.{second_form}
 use Rattle.ov_script.specs.declared.command.Command.{Command}
 use Rattle.ov_script.specs.declared.reply.Reply.{Reply}
@@ -37,7 +37,7 @@ use Rattle.ov_owner.proofs.Telling.{under}
 
 -- an update's spelling is read as it
 pub read_back : (u : SealedUpdate) → HasForm second_form u → update_of second_form (spelling second_form u) ≡ Ok u
-read_back u form = ap (placed (length (spelling second_form u))) (all_again (update_reads second_form first_has_room) u form)
+read_back u form = ap (placed (length (spelling second_form u))) (all_again (update_reads second_form second_has_room) u form)
 
 module _ (k : Masters) (command : Command) (e : Errand) (d : Does k command e) (base_check : List ℕ) where
   abbrev pub serving : SealedHistory → Service

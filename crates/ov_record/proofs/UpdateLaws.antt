@@ -14,7 +14,8 @@ use Rattle.ov_fields.proofs.NameLaws.{longest_name, name_reads, token_reads}
 use Rattle.ov_fields.proofs.SetFields.{set_reads}
 use Rattle.ov_fields.proofs.TestLaws.{IsCount, count_is, is_count}
 use Rattle.ov_fields.proofs.KindLaws.{IsKind, kind_takes, kind_again, kind_near, kind_none}
-use Rattle.ov_record.specs.Forms.{Form, HasRoom, first_form, set_bytes, longest_spelling}
+use Rattle.ov_record.specs.Forms.{Form, HasRoom, first_form, second_form, set_bytes}
+use Rattle.ov_record.specs.Forms.{longest_spelling}
 use Rattle.ov_record.specs.Updates.{SealedUpdate, SealedEnrol, SealedCreate, SealedGrant, SealedRevoke}
 use Rattle.ov_record.specs.Spelling.{spelling, HasForm, IsWithinLimits}
 use Rattle.ov_record.specs.Reading.{creation, creation_at, grant, grant_at, revocation, revocation_at, update_at}
@@ -112,6 +113,9 @@ update_reads form room = record {
 
 pub first_has_room : HasRoom first_form
 first_has_room = (omega arith, omega arith)
+
+pub second_has_room : HasRoom second_form
+second_has_room = (omega arith, omega arith)
 
 -- what has a spelling is within the limits
 pub within_limits : (form : Form) (u : SealedUpdate) → HasForm form u → IsWithinLimits form u

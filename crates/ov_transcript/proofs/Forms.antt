@@ -21,7 +21,7 @@ use Rattle.ov_base_layer.specs.Seals.{access_token, cover_tokens, edge_token}
 use Rattle.ov_surface.specs.Coats.{base_text}
 use Rattle.ov_record.specs.Spelling.{HasForm, spelling}
 use Rattle.ov_record.specs.Updates.{SealedUpdate}
-use Rattle.ov_record.proofs.UpdateLaws.{update_reads, first_has_room}
+use Rattle.ov_record.proofs.UpdateLaws.{update_reads, second_has_room}
 use Rattle.ov_record.specs.Forms.{second_form}
 use Rattle.ov_history.specs.Asking.{file_named, user_named}
 use Rattle.ov_history.specs.Catalogue.{Catalogue}
@@ -89,7 +89,7 @@ pub update_form : (surface : List ℕ) (epoch : ℕ) (u : SealedUpdate) → epoc
     → HasRequestForm (update_request surface epoch u)
 update_form surface epoch u low form =
     let long = update_length surface epoch u in
-    let short = (update_reads second_form first_has_room).short u form in record {
+    let short = (update_reads second_form second_has_room).short u form in record {
       is_request = (low, is_spelling u form, length-hmac _ _);
       fits = omega (arith, long, short);
     }

@@ -19,7 +19,7 @@ use Rattle.ov_record.specs.Forms.{second_form}
 use Rattle.ov_record.specs.Stored.{HasBriefForm, IsNumber, Stored, brief_spelling, stored_spelling}
 use Rattle.ov_record.specs.Updates.{SealedUpdate}
 use Rattle.ov_record.proofs.BriefLaws.{few_bytes, some_bytes}
-use Rattle.ov_record.proofs.UpdateLaws.{first_has_room}
+use Rattle.ov_record.proofs.UpdateLaws.{second_has_room}
 use Rattle.ov_history.specs.Places.{living_at}
 use Rattle.ov_history.specs.Briefs.{brief}
 use Rattle.ov_history.specs.Catalogue.{Catalogue, Filed}
@@ -122,7 +122,7 @@ is_body b firsts form many =
           omega (
             arith,
             same,
-            few_bytes second_form n t first_has_room (lit≤ tt) many (form, (zeros_are_numbers n, length-replicate n 0)),
+            few_bytes second_form n t second_has_room (lit≤ tt) many (form, (zeros_are_numbers n, length-replicate n 0)),
           );
     }
 
