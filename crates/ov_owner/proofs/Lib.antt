@@ -21,3 +21,4 @@ pub mod Making
 pub mod FailingDisks
 pub mod Completing
 pub mod Answered
+pub mod WrittenLists

@@ -63,37 +63,62 @@ with_names_distinct names (name ∷ others) d = with_names_distinct (with_name n
 pub list_distinct : (text : List ℕ) (names : List (List ℕ)) → IsList text names → AreDistinct names
 list_distinct text names (said, are, e, once) = subst AreDistinct (sym once) (with_names_distinct [] said none_distinct)
 
--- ---- few
+-- ---- few and short
 
-appended_few : (among : Bool) (names : List (List ℕ)) (name : List ℕ) → length (appended among names name) ≤ length names + 1
-appended_few true names name = omega arith
-appended_few false names name = let n : length (names ++ name ∷ []) ≡ length names + 1 = length-append names (name ∷ []) in omega arith
+-- how many bytes the names have, each behind a comma
+abbrev commas : List (List ℕ) → ℕ
+commas names = length (with_commas names)
 
-with_names_few : (names others : List (List ℕ)) → length (with_names names others) ≤ length names + length others
-with_names_few names [] = omega arith
-with_names_few names (name ∷ others) =
-    let one : length (with_name names name) ≤ length names + 1 = appended_few (is_among name names) names name in
-    let rest : length (with_names (with_name names name) others) ≤ length (with_name names name) + length others = with_names_few (with_name names name) others in
+commas-cons : (name : List ℕ) (names : List (List ℕ)) → commas (name ∷ names) ≡ 1 + length name + commas names
+commas-cons name names = let parts : length (name ++ with_commas names) ≡ length name + commas names = length-append name (with_commas names) in omega arith
+
+commas-append : (names others : List (List ℕ)) → commas (names ++ others) ≡ commas names + commas others
+commas-append [] others = refl
+commas-append (name ∷ names) others =
+    let rest : commas (names ++ others) ≡ commas names + commas others = commas-append names others in
+    let all : commas (name ∷ (names ++ others)) ≡ 1 + length name + commas (names ++ others) = commas-cons name (names ++ others) in
+    let first : commas (name ∷ names) ≡ 1 + length name + commas names = commas-cons name names in
+    omega arith
+
+appended_short : (among : Bool) (names : List (List ℕ)) (name : List ℕ) → commas (appended among names name) ≤ commas names + 1 + length name
+appended_short true names name = omega arith
+appended_short false names name =
+    let both : commas (names ++ name ∷ []) ≡ commas names + commas (name ∷ []) = commas-append names (name ∷ []) in
+    let last : commas (name ∷ []) ≡ 1 + length name + 0 = commas-cons name [] in
+    omega arith
+
+with_names_short : (names others : List (List ℕ)) → commas (with_names names others) ≤ commas names + commas others
+with_names_short names [] = omega arith
+with_names_short names (name ∷ others) =
+    let one : commas (with_name names name) ≤ commas names + 1 + length name = appended_short (is_among name names) names name in
+    let rest : commas (with_names (with_name names name) others) ≤ commas (with_name names name) + commas others = with_names_short (with_name names name) others in
+    let first : commas (name ∷ others) ≡ 1 + length name + commas others = commas-cons name others in
+    omega arith
+
+text_short : (names : List (List ℕ)) → commas names ≤ length (list_text names) + 1
+text_short [] = omega arith
+text_short (name ∷ names) = omega arith
+
+-- the names of a list have fewer bytes than its text, but for the first comma
+pub list_short : (text : List ℕ) (names : List (List ℕ)) → IsList text names → length (with_commas names) ≤ length text + 1
+list_short text names (said, are, e, once) =
+    let short : commas (with_names [] said) ≤ 0 + commas said = with_names_short [] said in
+    let same : commas names ≡ commas (with_names [] said) = ap commas once in
+    let all : commas said ≤ length (list_text said) + 1 = text_short said in
+    let size : length text ≡ length (list_text said) = ap length e in
     omega arith
 
 named_some : (name : List ℕ) → IsName name → 0 < length name
 named_some [] p = absurd (cc)
 named_some (b ∷ name) p = omega arith
 
-commas_long : (names : List (List ℕ)) → AreNames names → length names * 2 ≤ length (with_commas names)
+-- names have a byte each, at least
+pub commas_long : (names : List (List ℕ)) → AreNames names → length names * 2 ≤ length (with_commas names)
 commas_long [] are = omega arith
 commas_long (name ∷ names) are =
     let some : 0 < length name = named_some name are.0 in
-    let rest : length names * 2 ≤ length (with_commas names) = commas_long names are.1 in
-    let size : length (name ++ with_commas names) ≡ length name + length (with_commas names) = length-append name (with_commas names) in
-    omega arith
-
-list_long : (names : List (List ℕ)) → AreNames names → length names * 2 ≤ length (list_text names) + 1
-list_long [] are = omega arith
-list_long (name ∷ names) are =
-    let some : 0 < length name = named_some name are.0 in
-    let rest : length names * 2 ≤ length (with_commas names) = commas_long names are.1 in
-    let size : length (name ++ with_commas names) ≡ length name + length (with_commas names) = length-append name (with_commas names) in
+    let rest : length names * 2 ≤ commas names = commas_long names are.1 in
+    let first : commas (name ∷ names) ≡ 1 + length name + commas names = commas-cons name names in
     omega arith
 
 list_in_line : (file list : List ℕ) (size : ℕ) → length list + 1 ≤ length (create_line file list size)
@@ -106,14 +131,6 @@ list_in_line file list size =
     let second : length (list ++ 32 ∷ decimal size) ≡ length list + suc (length (decimal size)) = length-append list (32 ∷ decimal size) in
     omega arith
 
-few_said : (text : List ℕ) (names : List (List ℕ)) → IsList text names → length names * 2 ≤ length text + 1
-few_said text names (said, are, e, once) =
-    let few : length (with_names [] said) ≤ 0 + length said = with_names_few [] said in
-    let same : length names ≡ length (with_names [] said) = ap length once in
-    let long : length said * 2 ≤ length (list_text said) + 1 = list_long said are in
-    let size : length text ≡ length (list_text said) = ap length e in
-    omega arith
-
 -- ---- what a `create` has
 
 pub create_names : (item file body : List ℕ) (names : List (List ℕ)) → IsItem item (Create file names body) → AreNames names
@@ -122,9 +139,10 @@ create_names item file body names (list, named, is, low, short, e) = list_names 
 pub create_distinct : (item file body : List ℕ) (names : List (List ℕ)) → IsItem item (Create file names body) → AreDistinct names
 create_distinct item file body names (list, named, is, low, short, e) = list_distinct list names is
 
-pub create_few_names : (item file body : List ℕ) (names : List (List ℕ)) → IsItem item (Create file names body) → length names ≤ 10000
-create_few_names item file body names (list, named, is, low, short, e) =
-    let few : length names * 2 ≤ length list + 1 = few_said list names is in
+-- the names of a list have fewer bytes than a line, each with a comma
+pub create_short_names : (item file body : List ℕ) (names : List (List ℕ)) → IsItem item (Create file names body) → length (with_commas names) ≤ MAX_LINE_BYTES
+create_short_names item file body names (list, named, is, low, short, e) =
+    let few : length (with_commas names) ≤ length list + 1 = list_short list names is in
     let line : length list + 1 ≤ length (create_line file list (length body)) = list_in_line file list (length body) in
     let within : length (create_line file list (length body)) ≤ MAX_LINE_BYTES = short in
     omega arith

@@ -100,8 +100,8 @@ comma_in_a_grant = dead_cannot (codes "grant a,") (lacks_by_test 10 (codes "gran
 
 -- ---- fronts of a size
 
-size_may_go_on : CanBegin (codes "create f a 104857")
-size_may_go_on = alive_can (codes "create f a 104857") refl
+size_may_go_on : CanBegin (codes "create f a 1677721")
+size_may_go_on = alive_can (codes "create f a 1677721") refl
 
 leading_zero : CanBegin (codes "create f a 00") → ⊥
 leading_zero = dead_cannot (codes "create f a 00") (lacks_by_test 10 (codes "create f a 00") refl) refl

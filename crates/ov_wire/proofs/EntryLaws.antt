@@ -25,9 +25,9 @@ use Rattle.ov_wire.proofs.NumberLaws.{node_reads, at_most_reads, below_reads}
 pub edge_reads : Reads edge_at edge_field IsEdge (4 + 32)
 edge_reads = made_reads edge (λ e. (e.from, e.token)) (λ f. refl) (λ e. refl) (then_reads node_reads token_reads)
 
--- no entry has more bytes
+-- no entry has more bytes than that of a node with the most edges
 abbrev pub longest_entry : ℕ
-longest_entry = 10000
+longest_entry = SET_BYTES + (2 + MAX_USERS * (4 + 32))
 
 abbrev UserFields : Type 0
 UserFields = (List ℕ × ℕ) × ℕ

@@ -42,7 +42,7 @@ page_reads = then_reads (byte_reads any) (number_reads wide32)
 
 -- no request has more bytes behind its kind byte
 abbrev pub most_bytes : ℕ
-most_bytes = longest_name + 4 + (2 + 65535 * longest_name)
+most_bytes = MAX_FRAME_BYTES
 
 rows_read : AllByRecursion (RowReads request_bytes IsRequest most_bytes) request_rows
 rows_read = (
