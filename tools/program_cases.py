@@ -124,14 +124,14 @@ def lines_that_are_bad():
     lacking = [
         (b"\n", "nothing stands on it"),
         (b"enrol b\r\n", "a CR stands on it"),
-        (b"create f " + b",".join(b"u%06d" % number for number in range(2600)) + b" 1\nx\n", "more than 20000 bytes"),
+        (b"create f " + b",".join(b"u%06d" % number for number in range(9000)) + b" 1\nx\n", "more than 70000 bytes"),
         (b"enroll b\n", "begins with none of"),
         (b"grant a  f\n", "just the words of its command"),
         (b"grant a\n", "just the words of its command"),
         (b"enrol Bob\n", "a name has 1 to 64"),
         (b"create f a,,b 3\nxyz\n", "LIST is `-`, or names"),
         (b"create f a 03\nxyz\n", "LENGTH is a decimal number"),
-        (b"create f a 1048577\n", "LENGTH is a decimal number"),
+        (b"create f a 16777217\n", "LENGTH is a decimal number"),
         (b"create f a 3\nxyz", "not just LENGTH bytes and an LF"),
         (b"create f a 3\nxyzw\n", "not just LENGTH bytes and an LF"),
         (b"enrol b", "stops before the LF"),
@@ -299,7 +299,7 @@ def replies_that_are_counted():
 
 
 def memory_that_is_refused():
-    """Under a limit of addresses that is enough for a user and not for the largest file, a run ends in 7, and the
+    """Under a limit of addresses that is enough for a user and not for files of 1 MiB, a run ends in 7, and the
     store is as it was."""
     script = b"enrol a\n" + b"".join(b"create f%d a 1048576\n%s\n" % (n, b"x" * 1_048_576) for n in range(8))
     refused = 0
@@ -322,7 +322,7 @@ def stores_that_do_not_open():
     good = store_folder()
     run(good, b"enrol alice\n")
     book = bytearray((good / "store.book").read_bytes())
-    older = bytes(book).replace(b"OVERENC1", b"OVERENC0")
+    older = bytes(book).replace(b"OVERENC2", b"OVERENC0")
     book[84] = 0
     for content, mode, lines, status in [
         (b"x" * 200, "delta", b"error notastore\n", 8),

@@ -157,7 +157,7 @@ static ROWS: [Row; 10] = [
     // More users than a store can have.
     Row {
         rounds: 1,
-        replies: &[(1, HELLO_6), (300, USER)],
+        replies: &[(1, HELLO_6), (1_100, USER)],
         last: &[],
         text: "BadReply { at: 1 }",
     },
