@@ -348,6 +348,34 @@ def stores_that_do_not_open():
         assert files_of(folder) == before
 
 
+def stores_of_the_first_format():
+    """They are opened as they are. The first update that isn't refused puts a step record before its own; a second
+    one, one in a new store and one with a longer body are damage."""
+    folder = store_folder()
+    run(folder, b"enrol alice\nenrol bob\n")
+    book = folder / "store.book"
+    new = book.read_bytes()
+    older, step = new.replace(b"OVERENC2", b"OVERENC1"), b"\1\0\0\0\1\5"
+    carried = older[:100] + step + b"\1\0\0\0\7\1\5carol\0"
+    for content in (older, older[:100] + step + b"\0"):
+        book.write_bytes(content)
+        expect(run(folder, b"enrol bob\ngrant alice f\n"), 0, b"refused 1 Taken\nrefused 3 NoFile\nend epoch 2\n")
+        assert book.read_bytes() == content
+        expect(run(folder, b"enrol carol\n"), 0, b"ok 3\nend epoch 3\n")
+        assert book.read_bytes() == carried, book.read_bytes()[78:]
+    script = b"create f alice,carol 5\nhello\nread carol f\n"
+    expect(run(folder, script), 0, b"ok 4\ndata carol f 5\nhello\nend epoch 4\n")
+    assert book.read_bytes().startswith(carried[:-1]) and book.read_bytes().count(step) == 1
+    for content, place in [
+        (carried[:-1] + step + b"\0", 123),
+        (older[:100] + 2 * step + b"\0", 111),
+        (new[:100] + step + b"\0", 105),
+        (older[:100] + b"\1\0\0\0\2\5\0\0", 105),
+    ]:
+        book.write_bytes(content)
+        is_refused_and_kept(folder, b"error damaged book %d\n" % place)
+
+
 def is_refused_and_kept(folder, line):
     before = files_of(folder)
     expect(run(folder, b"enrol c\n"), 8, line)
@@ -567,6 +595,7 @@ cases = [
     replies_that_are_counted,
     memory_that_is_refused,
     stores_that_do_not_open,
+    stores_of_the_first_format,
     records_that_are_not_the_owners,
     key_files_that_are_none,
     closed_streams,
