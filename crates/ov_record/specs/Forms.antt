@@ -10,11 +10,11 @@ pub record Form : Type 0 where
   pub most_tokens : ℕ
   pub longest : ℕ
 
--- the form of the first format, in which all records and frames are
+-- the form of the first format, in which older stores have records
 abbrev pub first_form : Form
 first_form = record { words = 4; most_tokens = 256; longest = 1048576 }
 
--- the form of the second format
+-- the form of the second format, in which frames and new records are
 abbrev pub second_form : Form
 second_form = record { words = 16; most_tokens = 1024; longest = 16777216 }
 

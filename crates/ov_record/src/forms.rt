@@ -10,7 +10,7 @@ pub struct Form<const W: usize> {
 }
 
 impl Form<4> {
-    /// The form of the first format, in which all records and frames are.
+    /// The form of the first format, in which older stores have records.
     pub const FIRST: Form<4> = Form {
         most_tokens: 256,
         longest: 1_048_576,
@@ -18,7 +18,7 @@ impl Form<4> {
 }
 
 impl Form<16> {
-    /// The form of the second format.
+    /// The form of the second format, in which frames and new records are.
     pub const SECOND: Form<16> = Form {
         most_tokens: 1_024,
         longest: 16_777_216,
