@@ -204,8 +204,47 @@ fn files_of_both_formats(rt: HostRuntime) -> Result<(), Fail> {
     let mut disk = MemDisk::of(alloc, book, Octets::from_vec(blobs));
     assert_row(&rt, alloc, &words, 4096, both_files(), &mut disk);
     assert_eq!(rt; disk.book().len(), 353);
-    assert!(rt; disk.book().starts_with(&front));
+    assert!(rt; disk.book().starts_with(front.as_slice()));
     assert_row(&rt, alloc, &words, 4096, next(), &mut disk);
     drop(disk);
+    Ok(())
+}
+
+// A place in that Book, the byte that is put there, and the line of a run over it. The number of
+// tokens is at 126, the tag at 128, the length at 160, and the first block at 164.
+static OLDER: [(usize, u8, &[u8]); 6] = [
+    // More tokens than such a creation may have; and as many as it may, which aren't there.
+    (126, 2, b"error damaged book 126\n"),
+    (126, 1, b"error damaged book 168\n"),
+    // A longer file than it may create, another tag, and a block past the end of Blobs.
+    (161, 16, b"error damaged book 160\n"),
+    (128, 0xa9, b"error damaged book 86\n"),
+    (167, 1, b"error damaged blobs 4096\n"),
+    // In the second form the creation ends too early.
+    (8, b'2', b"error damaged book 168\n"),
+];
+
+fn older() -> &'static [(usize, u8, &'static [u8])] {
+    &OLDER
+}
+
+// Asserts that where one byte of that Book is another, a run is refused so.
+fn assert_older(
+    rt: &impl Abort,
+    alloc: Global,
+    place: usize,
+    byte: u8,
+    line: &[u8],
+) -> Result<(), Fail> {
+    let book = changed(alloc, FIRST_FILE, place, byte)?;
+    let blobs = one_block(alloc, 0)?;
+    assert_shut(rt, alloc, "full", &book, &blobs, 8, line)
+}
+
+#[test]
+fn damage_in_a_store_of_the_first_format(rt: HostRuntime) -> Result<(), Fail> {
+    for (place, byte, line) in older() {
+        assert_older(&rt, rt.alloc(), *place, *byte, line)?;
+    }
     Ok(())
 }
