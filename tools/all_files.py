@@ -9,8 +9,11 @@ import sys
 BAD_INPUT, BAD_WORDS, NOT_ENROLLED, NOTHING_TO_DO = 1, 2, 3, 4
 
 NAME = re.compile(r"[a-z0-9][a-z0-9._-]{0,63}")
-MAGIC, FIRST_RECORD = b"\x01OVERENC1", 78
+# How many bytes a set of users has in the records of each format, by the open gate and the magic.
+SET_BYTES, FIRST_RECORD = {b"\x01OVERENC1": 32, b"\x01OVERENC2": 128}, 78
 ENROLMENT, CREATION = 1, 2
+# The body of the record that stands between the updates of the first format and those of the second.
+STEP = b"\x05"
 
 
 def end(status, line):
@@ -35,23 +38,28 @@ def words(least, most, form):
 
 
 def records(book, origin):
-    """The updates of a store.book, as docs/FORMATS.md has them. `overstore run` says more of a bad one."""
-    if book[: len(MAGIC)] != MAGIC or len(book) <= FIRST_RECORD:
+    """The updates of a store.book, as docs/FORMATS.md has them, and with each how many bytes a set has in it.
+    `overstore run` says more of a bad one."""
+    set_bytes = SET_BYTES.get(book[:9])
+    if set_bytes is None or len(book) <= FIRST_RECORD:
         end(BAD_INPUT, f"{origin} is no store.book: its header isn't whole")
     at = FIRST_RECORD
     while book[at : at + 1] == b"\x01":
         length = int.from_bytes(book[at + 1 : at + 5], "big")
         body = book[at + 5 : at + 5 + length]
-        if len(body) < max(length, 2):
+        if length == 1 and body == STEP:
+            set_bytes = SET_BYTES[b"\x01OVERENC2"]
+        elif len(body) < max(length, 2):
             end(BAD_INPUT, f"{origin}: the record at byte {at} isn't whole")
-        yield body
+        else:
+            yield body, set_bytes
         at += 5 + length
 
 
 def names(book, origin):
     """The users and the files of a store.book, in the order in which they came."""
     found = {ENROLMENT: [], CREATION: []}
-    for body in records(book, origin):
+    for body, _ in records(book, origin):
         if body[0] in found:
             found[body[0]].append(body[2 : 2 + body[1]].decode(errors="replace"))
     return found[ENROLMENT], found[CREATION]

@@ -16,7 +16,7 @@ else:
     TOOLS = pathlib.Path(__file__).resolve().parent
     CALLS = {name: [sys.executable, TOOLS / f"{name}_all.py"] for name in ("list", "revoke", "grant")}
 
-HEADER = b"\x01OVERENC1" + bytes(1 + 4 + 32 + 32)
+HEADER = b"\x01OVERENC2" + bytes(1 + 4 + 32 + 32)
 REPLIES = b"list plan alice,bob\nlist budget alice\nlist old -\nend epoch 6\n"
 
 
@@ -28,8 +28,18 @@ def record(kind, name, rest=b""):
 BOOK = (
     HEADER
     + b"".join(record(1, name) for name in (b"alice", b"bob", b"carol"))
-    + b"".join(record(2, name, bytes(69) + b"\x05" + bytes([0, 0, 0, block])) for block, name in enumerate((b"plan", b"budget", b"old")))
+    + b"".join(record(2, name, bytes(165) + b"\x05" + bytes([0, 0, 0, block])) for block, name in enumerate((b"plan", b"budget", b"old")))
     + b"\x01\0\0\0\x0e\x03" + bytes(12) + b"\x03"
+    + b"\0"
+)  # fmt: skip
+
+# A store of the first format with a user and a file, which was carried over, and then got another file.
+CARRIED_BOOK = (
+    b"\x01OVERENC1" + HEADER[9:]
+    + record(1, b"alice")
+    + record(2, b"plan", bytes(69) + b"\x05" + bytes(4))
+    + b"\x01\0\0\0\x01\x05"
+    + record(2, b"budget", bytes(165) + b"\x05" + bytes([0, 0, 0, 1]))
     + b"\0"
 )  # fmt: skip
 
@@ -39,6 +49,8 @@ CASES = [
     ("list", "", BOOK, False, 0, "list plan\nlist budget\nlist old\n", ""),
     ("list", "bob", BOOK, False, 0, "list plan\nlist budget\nlist old\n", ""),
     ("list", "", HEADER + b"\0", False, 0, "", ""),
+    ("list", "alice", CARRIED_BOOK, False, 0, "list plan\nlist budget\n", ""),
+    ("list", "", CARRIED_BOOK[:180], False, 1, "", "the record at byte 175 isn't whole"),
     ("list", "bobb", BOOK, False, 3, "", "bobb isn't enrolled in this store.book"),
     ("list", "", b"", False, 1, "", "its header isn't whole"),
     ("list", "", b"x" * 200, False, 1, "", "its header isn't whole"),

@@ -14,6 +14,6 @@ cp examples/keys.hex "$folder"
 program=$PWD/crates/overstore/out/overstore
 cd "$folder"
 status=0
-printf 'create f - 1048576\nhello' | (ulimit -v 16384; exec "$program" run full) > out || status=$?
+printf 'create f - 16777216\nhello' | (ulimit -v 16384; exec "$program" run full) > out || status=$?
 [ "$status" = 3 ] && [ "$(cat out)" = "error line 1" ]
 echo "announced lengths take no memory"

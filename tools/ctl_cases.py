@@ -27,6 +27,8 @@ def bytes_of(text):
     return bytes(ord(word[2]) if word.startswith("b'") else int(word, 0) for word in spelled)
 
 
+# So many bytes has the longest file.
+LONGEST = 16_777_216
 # The replies of the tests of ov_acts, by name.
 REPLIES = {
     name: bytes_of(text)
@@ -139,13 +141,15 @@ def client_folder():
         "keys": KEYS,
         "key": KEY_LINE,
         "body": "x1",
-        "long": "x" * 1_048_577,
-        "longest": "x" * 1_048_576,
         "short": KEYS[1:],
     }.items():
         path = folder / name
         path.write_text(text)
         path.chmod(0o600)
+    for name, size in {"long": LONGEST + 1, "longest": LONGEST}.items():
+        # Sparse, since each case has a folder of its own.
+        with open(folder / name, "wb") as file:
+            file.truncate(size)
     (folder / "folder").mkdir()
     return folder
 
@@ -248,7 +252,7 @@ def memory_that_is_refused():
     case(ENROL, ["WELCOME", "NO_MEMORY"], 7, b"", no_memory, NEW_USER)
     case(READ, ["NO_MEMORY"], 7, b"", no_memory, AS_IT_WAS)
     words = "create @ keys f1 a,b longest".split()
-    for size in range(1 << 20, 16 << 20, 1 << 20):
+    for size in [*range(1 << 20, 16 << 20, 1 << 20), *range(16 << 20, 144 << 20, 8 << 20)]:
         limit = lambda: resource.setrlimit(resource.RLIMIT_AS, (size, size))
         try:
             starts = run(client_folder(), ["--version"], preexec_fn=limit)[0] == 0
@@ -282,7 +286,7 @@ def links_that_fail():
     case(ENROL, [Broken(half, resets=True)], 8, b"", reset, OTHER_PROGRAM + NEW_USER, asked=1)
     case(GRANT, ["WELCOME", Broken(b"", resets=True)], 8, b"", reset, OTHER_PROGRAM + IN_DOUBT, asked=2)
     case(READ, ["CHAINED", Broken(b"\0\0", resets=True)], 8, b"", reset, OTHER_PROGRAM + AS_IT_WAS, asked=2)
-    for raw in (b"", half, b"\0\0", b"\0\0\0\0", struct.pack(">I", 1_114_113), b"\xff" * 100):
+    for raw in (b"", half, b"\0\0", b"\0\0\0\0", struct.pack(">I", 16_842_753), b"\xff" * 100):
         case(ENROL, [Broken(raw)], 8, b"", CUT_OFF, OTHER_PROGRAM + NEW_USER, asked=1)
         case(GRANT, ["WELCOME", "KNOWN", Broken(raw)], 8, b"", CUT_OFF, OTHER_PROGRAM + IN_DOUBT, asked=3)
 
@@ -379,8 +383,8 @@ def questions_that_are_not_answered():
     case("epoch @", ["LISTED"], 11, b"", NO_ANSWER, SAME_VERSION, asked=1)
     case("users @", ["WELCOME", file_page(b"f1")], 11, b"", NO_ANSWER, SAME_VERSION, asked=2)
     case("files @", ["WELCOME", *USERS, file_page(b"f1"), NO_PAGE, b"\x88\x03"], 11, b"", NO_ANSWER, SAME_VERSION)
-    endless = ["WELCOME", *[user_page(b"a")] * 300]
-    case("users @", endless, 11, b"", NO_ANSWER, SAME_VERSION, asked=258)
+    endless = ["WELCOME", *[user_page(b"a")] * 1_100]
+    case("users @", endless, 11, b"", NO_ANSWER, SAME_VERSION, asked=1_026)
     case("epoch @", ["NO_MEMORY"], 7, b"", "out of memory, here or at @", AS_IT_WAS)
     case("files @ a", ["WELCOME", Broken(b"")], 8, b"", CUT_OFF, OTHER_PROGRAM + AS_IT_WAS, asked=2)
     with open("/dev/full", "wb") as full:
@@ -389,7 +393,7 @@ def questions_that_are_not_answered():
 
 
 def files_that_are_too_long():
-    error, hint = "long has more than 1048576 bytes", "store it as several files"
+    error, hint = "long has more than 16777216 bytes", "store it as several files"
     case("create @ keys f1 - long", [], 14, b"", error, hint, asked=0)
 
 
@@ -421,7 +425,7 @@ def words_that_are_no_line():
         (["grant", "here:1", "keys", "a", "_"], "`_` is no name: " + name, "grant " + lines["grant"]),
         (
             ["create", "here:1", "keys", "f", "a,,b", "body"],
-            "`a,,b` is no list: names with commas between, or `-`, in 20000 bytes at most",
+            "`a,,b` is no list: names with commas between, or `-`, in 70000 bytes at most",
             "create " + lines["create"],
         ),
         (["files"], "words are missing", "files ADDRESS [USER]"),

@@ -14,34 +14,34 @@ import hmac
 import struct
 
 ZEROS = bytes(32)
-MAX_RECORD, MAX_FILE, MAX_TOKENS = 1_114_112, 1_048_576, 256
+MAX_RECORD, MAX_FILE, MAX_TOKENS, SET = 1_114_112, 16_777_216, 1_024, 128
 BLOCK = 4096
 
 # how long the book and Blobs of the small store are
-ALL, ALL_BLOBS = 324, 8192
+ALL, ALL_BLOBS = 420, 8192
 NAME_BYTES = b"abcdefghijklmnopqrstuvwxyz0123456789._-"
 
 # a place, the byte that is put there, and the length to which the book is then cut
 CHANGES = [
-    (0, 1, ALL), (9, 2, ALL), (78, 0, ALL), (90, 2, ALL), (323, 1, ALL),
-    (79, 1, ALL), (80, 17, ALL), (82, 0, ALL), (248, 1, ALL),
-    (0, 1, 323), (0, 1, 309), (0, 1, 305), (0, 1, 91), (0, 1, 90),
+    (0, 1, ALL), (9, 2, ALL), (78, 0, ALL), (90, 2, ALL), (419, 1, ALL),
+    (79, 1, ALL), (80, 17, ALL), (82, 0, ALL), (344, 1, ALL),
+    (0, 1, 419), (0, 1, 405), (0, 1, 401), (0, 1, 91), (0, 1, 90),
     (83, 0, ALL), (83, 5, ALL), (83, 4, ALL), (84, 0, ALL), (84, 65, ALL), (84, 4, ALL),
     (84, 6, ALL), (85, 45, ALL), (86, 33, ALL), (82, 8, ALL), (82, 6, ALL),
-    (140, 1, ALL), (141, 1, ALL), (238, 1, ALL), (241, 4, ALL),
-    (241, 0, ALL), (104, 142, ALL), (104, 140, ALL), (104, 137, ALL), (104, 136, ALL), (309, 12, ALL), (309, 9, ALL),
-    (272, 2, ALL), (272, 0, ALL),
-    (267, 3, ALL), (271, 1, ALL), (267, 0, ALL), (314, 3, ALL),
+    (236, 4, ALL), (237, 1, ALL), (334, 1, ALL), (337, 4, ALL),
+    (337, 0, ALL), (104, 238, ALL), (104, 236, ALL), (104, 233, ALL), (104, 232, ALL), (405, 12, ALL), (405, 9, ALL),
+    (368, 2, ALL), (368, 0, ALL),
+    (363, 3, ALL), (367, 1, ALL), (363, 0, ALL), (410, 3, ALL),
     (108, 0, ALL), (108, 1, ALL),
-    (86, 33, 200), (267, 3, 309), (314, 3, 323),
+    (86, 33, 200), (363, 3, 405), (410, 3, 419),
 ]
 
 # a place in the book, the byte that is put there, and the length to which Blobs is then cut
 BLOBS_CHANGES = [
     (0, 1, ALL_BLOBS), (0, 1, 8191), (0, 1, 4096), (0, 1, 4095), (0, 1, 0),
-    (245, 1, ALL_BLOBS), (322, 0, ALL_BLOBS), (240, 16, ALL_BLOBS),
-    (245, 2, ALL_BLOBS), (242, 128, ALL_BLOBS), (322, 2, ALL_BLOBS), (239, 1, ALL_BLOBS),
-    (322, 0, 4095), (245, 2, 4096),
+    (341, 1, ALL_BLOBS), (418, 0, ALL_BLOBS), (336, 16, ALL_BLOBS),
+    (341, 2, ALL_BLOBS), (338, 128, ALL_BLOBS), (418, 2, ALL_BLOBS), (335, 1, ALL_BLOBS),
+    (418, 0, 4095), (341, 2, 4096),
 ]
 
 
@@ -51,10 +51,10 @@ class Damaged(Exception):
 
 def small_book():
     check = hmac.new(bytes([7]) * 32, b"C" + bytes(4), hashlib.sha256).digest()
-    create = b"\2\1f" + b"\3" + bytes(31) + struct.pack(">H", 2) + 2 * ZEROS + ZEROS
+    create = b"\2\1f" + b"\3" + bytes(SET - 1) + struct.pack(">H", 2) + 2 * ZEROS + ZEROS
     bodies = [b"\1\5alice", b"\1\3bob", create + struct.pack(">II", 5, 0), b"\1\5carol",
               b"\3" + struct.pack(">II", 2, 0) + b"\1" + ZEROS, b"\4" + struct.pack(">III", 2, 0, 1)]
-    head = b"\1OVERENC1\1" + bytes(4) + b"\x11" * 32 + check
+    head = b"\1OVERENC2\1" + bytes(4) + b"\x11" * 32 + check
     return head + b"".join(b"\1" + struct.pack(">I", len(b)) + b for b in bodies) + b"\0"
 
 
@@ -95,7 +95,7 @@ def update_in(fields):
     if kind == 1:
         return ("enrol", fields.name())
     if kind == 2:
-        name, users = fields.name(), int.from_bytes(fields.take(32), "little")
+        name, users = fields.name(), int.from_bytes(fields.take(SET), "little")
         tokens = fields.number(2, MAX_TOKENS)
         fields.take(32 * tokens + 32)
         return ("create", name, users, tokens, fields.number(4, MAX_FILE))

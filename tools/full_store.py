@@ -10,25 +10,26 @@ import tempfile
 
 program = pathlib.Path(sys.argv[1]).resolve()
 keys = pathlib.Path(__file__).resolve().parent.parent / "examples" / "keys.hex"
-MIB = 1_048_576
+MIB, LONGEST = 1_048_576, 16_777_216
 USERS = 12
 
 
 def full_of_bytes():
-    """67,108,864 bytes in 64 files for one user, who reads them all, and for nobody."""
-    bodies = [bytes([number]) * MIB for number in range(64)]
-    for readers in (b"a", b"-"):
+    """67,108,864 bytes in 64 files for one user, who reads them all, and for nobody, and in four of the longest."""
+    for readers, size in ((b"a", MIB), (b"-", MIB), (b"a", LONGEST)):
+        count = 64 * MIB // size
+        bodies = [bytes([number]) * size for number in range(count)]
         script = [b"enrol a\n"]
         replies = [b"ok 1\n"]
         for number, body in enumerate(bodies):
-            script += [b"create f%d %s %d\n" % (number, readers, MIB), body, b"\n"]
+            script += [b"create f%d %s %d\n" % (number, readers, size), body, b"\n"]
             replies.append(b"ok %d\n" % (number + 2))
         script += [b"create one-more %s 1\nx\n" % readers, b"create empty %s 0\n\n" % readers]
-        replies += [b"refused 9 BytesFull\n", b"ok 66\n"]
+        replies += [b"refused 9 BytesFull\n", b"ok %d\n" % (count + 2)]
         for number, body in enumerate(bodies):
             script.append(b"read a f%d\n" % number)
-            replies += [b"data a f%d %d\n" % (number, MIB), body, b"\n"] if readers == b"a" else [b"refused 4 NoPath\n"]
-        replies.append(b"end epoch 66\n")
+            replies += [b"data a f%d %d\n" % (number, size), body, b"\n"] if readers == b"a" else [b"refused 4 NoPath\n"]
+        replies.append(b"end epoch %d\n" % (count + 2))
         yield script, replies, 64 * MIB
 
 

@@ -47,8 +47,8 @@ from common import KEYS, ROOT, framed, new_folder
 from plain_machine import Machine
 
 USERS, FILES = 3, 24
-# A store has 256 users.
-MOST_SESSIONS = 80
+# A store has 1,024 users.
+MOST_SESSIONS = 340
 # The server ends a session that is silent for so many seconds, to which Linux's timers of this length may add so many:
 # 17 at 250 ticks a second, 33 at 1,000. Nobody waits for more than the slack beside that.
 SILENCE, LATE, SLACK = 300, 33, 60

@@ -15,7 +15,7 @@ are changed.
 | changed frames | a bit or a byte; cut, grown, or spliced with another; a kind, a length, a count; one to three times |
 | changed updates | so too, and then with the owner's tag over what they became, so that the update itself is read |
 | random bytes | behind a right length field, mostly with a known kind; now and then a frame of the greatest length |
-| bad length fields | at the end of a session: 0, above 1,114,112, cut, or more than what follows |
+| bad length fields | at the end of a session: 0, above 16,842,752, cut, or more than what follows |
 
 | what is compared | when |
 |---|---|
@@ -33,7 +33,7 @@ from common import KEYS, framed, keyed
 
 PER_SERVER, PER_SESSION = 10_000, 400
 MODES = ("full", "delta")
-GREATEST = 1_114_112
+GREATEST = 16_842_752
 # So many bytes may be on their way before a reply is taken: no more than what a socket holds.
 AT_ONCE = 16_384
 TAG = 32
@@ -57,7 +57,7 @@ def a_bit(chance, frame, others):
 
 
 def an_early_byte(chance, frame, others):
-    at = chance.randrange(min(len(frame), 80))
+    at = chance.randrange(min(len(frame), 176))
     frame[at] = chance.choice([0, 1, 2, 3, 4, 5, 32, 64, 65, 97, 127, 128, 255])
 
 
@@ -76,10 +76,11 @@ def growth(chance, frame, others):
 def a_number(chance, frame, others):
     width = chance.choice([1, 2, 4])
     if len(frame) >= width:
-        at = chance.randrange(min(len(frame), 100) - width + 1)
+        at = chance.randrange(min(len(frame), 196) - width + 1)
         value = int.from_bytes(frame[at : at + width], "big")
         most = (1 << 8 * width) - 1
-        value = chance.choice([value + 1, value - 1, value + 32, 0, 1, 65_535, 65_536, 65_537, most]) & most
+        limits = [1_024, 1_025, 65_535, 65_536, 65_537, 16_777_216, 16_777_217, most]
+        value = chance.choice([value + 1, value - 1, value + 32, 0, 1, *limits]) & most
         frame[at : at + width] = value.to_bytes(width, "big")
 
 

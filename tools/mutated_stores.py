@@ -6,7 +6,8 @@ Run, after `rt run` has built the program:
 
 Each hundred cases begin with a store of its own, in one mode or the other, under the example keys: the program
 and the reference run one small script, and every file that they leave is the same. The store is then changed in
-one to three places, and opened.
+one to three places, and opened. Of three stores the second is one of the first format, which the reference makes as
+an older program did, and the third is such a one that was carried over.
 
 | what is changed | how |
 |---|---|
@@ -14,6 +15,7 @@ one to three places, and opened.
 | the length of either file | cut at any byte, at a record or at a block; bytes put behind |
 | blocks of 4,096 bytes | two of `store.blobs` swapped, or one put in another's place |
 | a record | its gate, its length field, its kind, a length or a count within it, its first blocks |
+| a step record | one put before a record or at the end, or a byte put behind its body |
 | the order of records | one doubled, left out, or swapped with another |
 | the header | any byte; the mode; the first epoch, up to the last one |
 | the files together | `store.blobs` or the last records of another store of the same keys |
@@ -37,6 +39,9 @@ MODES = ("full", "delta")
 FILES = ("store.book", "store.blobs", "trace.bin")
 SECONDS = 120
 HEADER = 78
+STEP = b"\1\0\0\0\1\5"
+# From this stage of the reference on stores are of the second format.
+SECOND_FORMAT = 16
 
 
 def parsed():
@@ -122,8 +127,10 @@ def a_field(chance, book, blobs, other):
     gate, after = found
     name = book[gate + 6] if gate + 6 < after else 0
     places = [(gate, 1), (gate + 1, 4), (gate + 5, 1), (gate + 6, 1), (after - 4, 4), (after - 8, 4)]
-    # In a creation: the last byte of its set, how many tokens it has, and what may be its length.
-    places += [(gate + 7 + name + 31, 1), (gate + 7 + name + 32, 2), (after - 8, 4)]
+    # In a creation of either format: the last byte of its set, how many tokens it has, and what may be its length.
+    for width in (32, 128):
+        places += [(gate + 7 + name + width - 1, 1), (gate + 7 + name + width, 2)]
+    places += [(after - 8, 4)]
     # In a grant or a revocation: user, file, and whether a token follows.
     places += [(gate + 6, 4), (gate + 10, 4), (gate + 14, 1)]
     at, width = chance.choice(places + [(chance.randrange(gate, after), chance.choice([1, 2, 4]))])
@@ -163,6 +170,18 @@ def a_length_that_fits(chance, book, blobs, other):
     book[gate + 1 : after] = len(body).to_bytes(4, "big") + body
 
 
+def a_step(chance, book, blobs, other):
+    """A step record is put before a record or at the end, or gets a byte more."""
+    places = gates(book)
+    if not places:
+        return a_bit(chance, book, blobs, other)
+    at = chance.choice(places)
+    if book[at : at + 6] == STEP and chance.random() < 0.5:
+        book[at + 4 : at + 6] = b"\2\5" + chance.choice([b"\0", b"\5"])
+    else:
+        book[at:at] = STEP
+
+
 def the_header(chance, book, blobs, other):
     if len(book) < 79:
         return a_bit(chance, book, blobs, other)
@@ -197,6 +216,7 @@ CHANGES = [
     (a_field, 12),
     (whole_records, 4),
     (a_length_that_fits, 4),
+    (a_step, 2),
     (the_header, 2),
     (another_store, 2),
 ]
@@ -219,13 +239,19 @@ class Store:
             self.script = scripts.good(chance, empty, self.stage, chance.choice([3, 8, 20, 40]))
             if len(self.script) < 60_000:
                 break
-        self.made = self.answer(self.mode, self.script, b"", b"")
-        self.book, self.blobs = self.made[1:3]
+        self.book, self.blobs = self.made(number % 3 if self.stage.number >= SECOND_FORMAT else 0)
         self.questions = self.reads(chance)
 
-    def answer(self, mode, script, book, blobs):
+    def made(self, age):
+        """Both files behind the script: of the second format, of the first, or carried over."""
+        if age == 0:
+            return self.answer(self.mode, self.script, b"", b"")[1:3]
+        older = self.answer(self.mode, self.script, b"", b"", SECOND_FORMAT - 1)[1:3]
+        return older if age == 1 else self.answer(self.mode, CARRIED, *older)[1:3]
+
+    def answer(self, mode, script, book, blobs, stage=None):
         """The reference's answer: lines behind the status, both files, and the frames."""
-        done = self.run(["run", MODES[mode]], KEYS.read_bytes(), script, book, blobs, self.stage)
+        done = self.run(["run", MODES[mode]], KEYS.read_bytes(), script, book, blobs, stage or self.stage)
         return b"%d\n%s" % (done.status, done.out), done.book, done.blobs, done.trace
 
     def reads(self, chance):
@@ -254,6 +280,7 @@ def answered(program, folder, mode, script, book, blobs):
     return b"%d\n%s" % (done.returncode, done.stdout), *((folder / name).read_bytes() for name in FILES)
 
 
+CARRIED = b"enrol zz-new\ncreate zz-new zz-new 9\nsome text\n"
 MORE = b"enrol zz-more\ncreate zz-more zz-more 5\nabcde\nread zz-more zz-more\n"
 
 

@@ -234,7 +234,7 @@ BROKEN = [
     half_a_frame,
     a_reset,
     a_bad_length(struct.pack(">I", 0)),
-    a_bad_length(struct.pack(">I", 1_114_113)),
+    a_bad_length(struct.pack(">I", 16_842_753)),
     a_bad_length(struct.pack(">I", 2**32 - 1)),
     random_bytes,
     nobody,

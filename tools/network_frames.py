@@ -33,7 +33,7 @@ class Owner:
         return framed(b"\4" + at + spelling + keyed(UPDATE_KEY, at + spelling))
 
     def creation(self, file, users, tokens, size):
-        listed = bytes([users]) + bytes(31) + bytes([0, tokens]) + bytes(32 * tokens)
+        listed = bytes([users]) + bytes(127) + bytes([0, tokens]) + bytes(32 * tokens)
         return self.update(b"\2" + file + listed + bytes(32) + u32(size) + bytes(size))
 
 

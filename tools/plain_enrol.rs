@@ -24,7 +24,7 @@ fn is_name(text: &[u8]) -> bool {
 fn reply(users: &mut HashSet<Vec<u8>>, user: &[u8]) -> String {
     if users.contains(user) {
         "refused 1 Taken\n".to_string()
-    } else if users.len() >= 256 {
+    } else if users.len() >= 1024 {
         "refused 7 UsersFull\n".to_string()
     } else {
         users.insert(user.to_vec());

@@ -27,7 +27,7 @@ impl Journal {
     pub fn begin(path: &str, mode: u8) -> io::Result<Journal> {
         let book = OpenOptions::new().read(true).write(true).create(true).truncate(true).open(path)?;
         let mut header = vec![0u8; 79];
-        header[1..9].copy_from_slice(b"OVERENC1");
+        header[1..9].copy_from_slice(b"OVERENC2");
         header[9] = mode;
         book.write_all_at(&header, 0)?;
         book.sync_data()?;

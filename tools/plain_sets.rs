@@ -14,7 +14,8 @@ use std::io::{self, BufRead, BufReader, Read, Write};
 use std::os::fd::AsFd;
 
 pub type Key = [u8; 32];
-type Set = [u64; 4];
+const WORDS: usize = 16;
+type Set = [u64; WORDS];
 
 const ROUND: [u32; 64] = [
     0x428a2f98, 0x71374491, 0xb5c0fbcf, 0xe9b5dba5, 0x3956c25b, 0x59f111f1, 0x923f82a4, 0xab1c5ed5,
@@ -147,7 +148,7 @@ impl Layer {
 
     // The cover of a set by the order of sizes.
     fn sorted_cover(&self, set: &Set) -> Vec<u32> {
-        let (mut from, mut covered) = (Vec::new(), [0; 4]);
+        let (mut from, mut covered) = (Vec::new(), [0; WORDS]);
         for node in &self.by_size[self.place(set)..] {
             let earlier = self.set(node);
             if within(earlier, set) && !within(earlier, &covered) {
@@ -177,12 +178,12 @@ impl Layer {
         }
         let mut candidates: Vec<(u32, u32)> = Vec::new();
         for (node, earlier) in self.sets.iter().enumerate() {
-            if within(earlier, set) && earlier != set && *earlier != [0; 4] {
+            if within(earlier, set) && earlier != set && *earlier != [0; WORDS] {
                 candidates.push((node as u32, count(earlier)));
             }
         }
         candidates.sort_by_key(|(_, size)| u32::MAX - size);
-        let mut covered = [0; 4];
+        let mut covered = [0; WORDS];
         for (node, _) in candidates {
             let earlier = &self.sets[node as usize];
             if !within(earlier, &covered) {
@@ -248,12 +249,12 @@ impl Store {
         if self.users.contains_key(user) {
             return "refused 1 Taken\n".to_string();
         }
-        if number >= 256 {
+        if number >= 64 * WORDS {
             return "refused 7 UsersFull\n".to_string();
         }
         self.users.insert(user.to_vec(), number);
-        self.base.node(&with([0; 4], number));
-        self.surface.node(&with([0; 4], number));
+        self.base.node(&with([0; WORDS], number));
+        self.surface.node(&with([0; WORDS], number));
         self.accepted()
     }
 
@@ -261,7 +262,7 @@ impl Store {
         if self.files.contains_key(file) {
             return "refused 1 Taken\n".to_string();
         }
-        let mut set = [0; 4];
+        let mut set = [0; WORDS];
         for name in list.split(|byte| *byte == b',').filter(|_| list != b"-") {
             match self.users.get(name) {
                 Some(user) => set = with(set, *user),

@@ -249,7 +249,7 @@ impl Store {
         let mut spelling = vec![2, name.len() as u8];
         spelling.extend_from_slice(name.as_bytes());
         spelling.push(3);
-        spelling.extend_from_slice(&[0; 33]);
+        spelling.extend_from_slice(&[0; 129]);
         spelling.extend_from_slice(&tag);
         spelling.extend_from_slice(&length.to_be_bytes());
         self.seal(&spelling, &text);

@@ -22,8 +22,8 @@ const HEAD: usize = 4;
 // How long a call waits for a client, as in the server that this one stands beside.
 const SILENCE: Duration = Duration::from_secs(300);
 
-// A set of 256 users.
-type Set = [u64; 4];
+// A set of 1,024 users.
+type Set = [u64; 16];
 
 fn has(set: &Set, user: usize) -> bool {
     set[user / 64] >> (user % 64) & 1 == 1
@@ -64,8 +64,8 @@ impl<'a> Rest<'a> {
     }
 
     fn set(&mut self) -> io::Result<Set> {
-        let mut set = [0; 4];
-        for (at, byte) in self.bytes(32)?.iter().enumerate() {
+        let mut set = [0; 16];
+        for (at, byte) in self.bytes(128)?.iter().enumerate() {
             set[at / 8] |= u64::from(*byte) << (at % 8 * 8);
         }
         Ok(set)
@@ -109,8 +109,8 @@ impl Store {
             1 => {
                 let (name, user) = (rest.name()?.to_vec(), self.users.len());
                 self.users.insert(name, user);
-                self.base.insert(flipped([0; 4], user), number);
-                self.surface.insert(flipped([0; 4], user), number);
+                self.base.insert(flipped([0; 16], user), number);
+                self.surface.insert(flipped([0; 16], user), number);
             }
             2 => {
                 let (name, list) = (rest.name()?.to_vec(), rest.set()?);
@@ -134,7 +134,7 @@ impl Store {
         let user = *self.users.get(rest.name().ok()?)?;
         let file = *self.files.get(rest.name().ok()?)?;
         let list = self.lists[file];
-        let alone = flipped([0; 4], user);
+        let alone = flipped([0; 16], user);
         let (base_root, surface_root) = (*self.base.get(&alone)?, *self.surface.get(&alone)?);
         has(&list, user).then_some(())?;
         let node = self.surface.get(&flipped(list, user)).map_or(0, |node| node + 1);

@@ -124,14 +124,14 @@ def lines_that_are_bad():
     lacking = [
         (b"\n", "nothing stands on it"),
         (b"enrol b\r\n", "a CR stands on it"),
-        (b"create f " + b",".join(b"u%06d" % number for number in range(2600)) + b" 1\nx\n", "more than 20000 bytes"),
+        (b"create f " + b",".join(b"u%06d" % number for number in range(9000)) + b" 1\nx\n", "more than 70000 bytes"),
         (b"enroll b\n", "begins with none of"),
         (b"grant a  f\n", "just the words of its command"),
         (b"grant a\n", "just the words of its command"),
         (b"enrol Bob\n", "a name has 1 to 64"),
         (b"create f a,,b 3\nxyz\n", "LIST is `-`, or names"),
         (b"create f a 03\nxyz\n", "LENGTH is a decimal number"),
-        (b"create f a 1048577\n", "LENGTH is a decimal number"),
+        (b"create f a 16777217\n", "LENGTH is a decimal number"),
         (b"create f a 3\nxyz", "not just LENGTH bytes and an LF"),
         (b"create f a 3\nxyzw\n", "not just LENGTH bytes and an LF"),
         (b"enrol b", "stops before the LF"),
@@ -299,7 +299,7 @@ def replies_that_are_counted():
 
 
 def memory_that_is_refused():
-    """Under a limit of addresses that is enough for a user and not for the largest file, a run ends in 7, and the
+    """Under a limit of addresses that is enough for a user and not for files of 1 MiB, a run ends in 7, and the
     store is as it was."""
     script = b"enrol a\n" + b"".join(b"create f%d a 1048576\n%s\n" % (n, b"x" * 1_048_576) for n in range(8))
     refused = 0
@@ -322,7 +322,7 @@ def stores_that_do_not_open():
     good = store_folder()
     run(good, b"enrol alice\n")
     book = bytearray((good / "store.book").read_bytes())
-    older = bytes(book).replace(b"OVERENC1", b"OVERENC0")
+    older = bytes(book).replace(b"OVERENC2", b"OVERENC0")
     book[84] = 0
     for content, mode, lines, status in [
         (b"x" * 200, "delta", b"error notastore\n", 8),
@@ -346,6 +346,34 @@ def stores_that_do_not_open():
         status, lines = run(folder, b"enrol bob\n")
         assert status == 9 and lines.startswith((b"error key base ", b"error key surface ")[line])
         assert files_of(folder) == before
+
+
+def stores_of_the_first_format():
+    """They are opened as they are. The first update that isn't refused puts a step record before its own; a second
+    one, one in a new store and one with a longer body are damage."""
+    folder = store_folder()
+    run(folder, b"enrol alice\nenrol bob\n")
+    book = folder / "store.book"
+    new = book.read_bytes()
+    older, step = new.replace(b"OVERENC2", b"OVERENC1"), b"\1\0\0\0\1\5"
+    carried = older[:100] + step + b"\1\0\0\0\7\1\5carol\0"
+    for content in (older, older[:100] + step + b"\0"):
+        book.write_bytes(content)
+        expect(run(folder, b"enrol bob\ngrant alice f\n"), 0, b"refused 1 Taken\nrefused 3 NoFile\nend epoch 2\n")
+        assert book.read_bytes() == content
+        expect(run(folder, b"enrol carol\n"), 0, b"ok 3\nend epoch 3\n")
+        assert book.read_bytes() == carried, book.read_bytes()[78:]
+    script = b"create f alice,carol 5\nhello\nread carol f\n"
+    expect(run(folder, script), 0, b"ok 4\ndata carol f 5\nhello\nend epoch 4\n")
+    assert book.read_bytes().startswith(carried[:-1]) and book.read_bytes().count(step) == 1
+    for content, place in [
+        (carried[:-1] + step + b"\0", 123),
+        (older[:100] + 2 * step + b"\0", 111),
+        (new[:100] + step + b"\0", 105),
+        (older[:100] + b"\1\0\0\0\2\5\0\0", 105),
+    ]:
+        book.write_bytes(content)
+        is_refused_and_kept(folder, b"error damaged book %d\n" % place)
 
 
 def is_refused_and_kept(folder, line):
@@ -567,6 +595,7 @@ cases = [
     replies_that_are_counted,
     memory_that_is_refused,
     stores_that_do_not_open,
+    stores_of_the_first_format,
     records_that_are_not_the_owners,
     key_files_that_are_none,
     closed_streams,

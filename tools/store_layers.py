@@ -44,13 +44,13 @@ class Store:
     def __init__(self, mode, book, origin):
         self.mode, self.users, self.files, self.accesses = mode, [], [], set()
         self.base, self.surface = Layer(), Layer()
-        for body in records(book, origin):
-            self.update(body)
+        for body, set_bytes in records(book, origin):
+            self.update(body, set_bytes)
 
-    def update(self, body):
+    def update(self, body, set_bytes):
         if body[0] in (ENROLMENT, CREATION):
             name, rest = body[2 : 2 + body[1]].decode(), body[2 + body[1] :]
-            self.enrol(name) if body[0] == ENROLMENT else self.create(name, rest[:32])
+            self.enrol(name) if body[0] == ENROLMENT else self.create(name, rest[:set_bytes])
         else:
             user, file = int.from_bytes(body[1:5], "big"), int.from_bytes(body[5:9], "big")
             self.change(user, self.files[file], body[0] == GRANT)
@@ -62,7 +62,7 @@ class Store:
             layer.node_of(own)
 
     def create(self, name, bits):
-        users = frozenset(8 * byte + bit for byte in range(32) for bit in range(8) if bits[byte] >> bit & 1)
+        users = frozenset(8 * place + bit for place, byte in enumerate(bits) for bit in range(8) if byte >> bit & 1)
         self.files.append(File(name, self.base.node_of(users), users))
         self.lay(self.files[-1])
 

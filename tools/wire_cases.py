@@ -17,7 +17,8 @@ from common import literal
 GOOD = 65535
 NAME_FIRST = b"abcdefghijklmnopqrstuvwxyz0123456789"
 NAME = NAME_FIRST + b"._-"
-NODE, FILE, BYTES = 4095, 16383, 1048576
+USER, NODE, FILE, BYTES = 1023, 4095, 16383, 16777216
+USERS, SET_BYTES = USER + 1, 128
 ENROL, CREATE = (1, 7, 10, 11), (1, 2, 8, 9, 10, 11)
 GRANT, REVOKE, READ = (2, 3, 5, 10, 11), (2, 3, 6, 10, 11), (2, 3, 4)
 
@@ -67,8 +68,8 @@ class Text:
             self.name()
         elif kind == 2:
             self.name()
-            self.take(32)
-            self.take(32 * self.number(2, 0, 256))
+            self.take(SET_BYTES)
+            self.take(32 * self.number(2, 0, USERS))
             self.take(32)
             self.take(self.number(4, 0, BYTES))
         else:
@@ -88,11 +89,11 @@ class Text:
         if part == 1:
             self.name(), self.number(4, 0, NODE), self.number(4, 0, NODE)
         elif part in (2, 3):
-            self.take(32)
-            for _ in range(self.number(2, 0, 256)):
+            self.take(SET_BYTES)
+            for _ in range(self.number(2, 0, USERS)):
                 self.number(4, 0, NODE), self.take(32)
         elif part == 4:
-            self.number(4, 0, 255), self.number(4, 0, NODE), self.take(32)
+            self.number(4, 0, USER), self.number(4, 0, NODE), self.take(32)
         else:
             self.name(), self.number(4, 0, NODE), self.number(4, 0, BYTES), self.number(4), self.take(32)
             if self.byte((0, 1)):
@@ -139,11 +140,11 @@ def read_answer(request, text):
     elif answer == 0x82:
         verb = request[1]
         named, wants = verb in (3, 4), verb == 3
-        text.number(4), text.number(4, 0, 255), text.number(4, 0, NODE), text.number(4, 0, NODE)
+        text.number(4), text.number(4, 0, USER), text.number(4, 0, NODE), text.number(4, 0, NODE)
         text.number(4, 0, FILE if named else 0), text.number(4, 0, NODE if named else 0), text.byte((0, 1) if wants else (0,))
     elif answer == 0x83:
-        text.number(4), text.number(4, 0, FILE), text.take(32), text.number(4, 0, NODE), text.byte((0, 1))
-        for _ in range(text.number(2, 0, 256)):
+        text.number(4), text.number(4, 0, FILE), text.take(SET_BYTES), text.number(4, 0, NODE), text.byte((0, 1))
+        for _ in range(text.number(2, 0, USERS)):
             text.number(4, 0, NODE)
     elif answer == 0x84:
         text.number(4, number(request, 1) + 1, number(request, 1) + 1)
@@ -166,7 +167,7 @@ def read_answer(request, text):
     elif answer == 0x8c:
         text.number(4, number(request, 5) + 1)
     elif answer == 0x8f:
-        text.names(256)
+        text.names(USERS)
     text.end()
 
 
@@ -190,7 +191,7 @@ def field(name):
     return bytes([len(name)]) + name
 
 
-TOKEN, TAG, SET = bytes(range(32)), bytes(range(100, 132)), bytes([9]) + bytes(31)
+TOKEN, TAG, SET = bytes(range(32)), bytes(range(100, 132)), bytes([9]) + bytes(SET_BYTES - 1)
 ALICE, BOB, F1 = field(b"alice"), field(b"b0-b"), field(b"f1")
 ENROLMENT = b"\1" + ALICE
 CREATION = b"\2" + F1 + SET + u16(1) + TOKEN + TAG + u32(5) + b"hello"
@@ -272,12 +273,12 @@ def file_entry(node=0, size=0, surface=b"\0"):
 LAST = 2 ** 32 - 1
 SAMPLES = [
     b"\x80", b"\x81\0" + u32(0) + TAG, b"\x81\1" + u32(LAST) + TAG, b"\x81\2" + u32(0) + TAG,
-    known(), known(epoch=LAST), known(user=255), known(user=256), known(base=NODE), known(base=NODE + 1),
+    known(), known(epoch=LAST), known(user=USER), known(user=USER + 1), known(base=NODE), known(base=NODE + 1),
     known(surface=NODE), known(surface=NODE + 1), known(file=1), known(file=FILE), known(file=FILE + 1), known(node=1),
     known(node=NODE), known(node=NODE + 1), known(wants=1), known(wants=2), known(file=1, node=1, wants=1),
-    planned(), planned(file=FILE), planned(file=FILE + 1), planned(members=b"\xff" * 32), planned(node=NODE),
-    planned(node=NODE + 1), planned(fresh=1), planned(fresh=2), planned(edges=u16(256)), planned(edges=u16(257)),
-    planned(edges=u16(1) + u32(NODE)), planned(edges=u16(1) + u32(NODE + 1)),
+    planned(), planned(file=FILE), planned(file=FILE + 1), planned(members=b"\xff" * SET_BYTES), planned(node=NODE),
+    planned(node=NODE + 1), planned(fresh=1), planned(fresh=2), planned(edges=u16(USERS)),
+    planned(edges=u16(USERS + 1)), planned(edges=u16(1) + u32(NODE)), planned(edges=u16(1) + u32(NODE + 1)),
     b"\x84" + u32(7), b"\x84" + u32(8), b"\x84" + u32(9),
     chained(), chained(file=FILE), chained(file=FILE + 1), chained(size=BYTES), chained(size=BYTES + 1),
     chained(base=one_chain(b"")), chained(base=one_chain(b"B")), chained(base=one_chain(b"BB")),
@@ -289,14 +290,14 @@ SAMPLES = [
     chained(surface=b"\1" + one_chain(b"S", root=NODE + 1)), chained(surface=b"\2"),
     b"\x86", b"\x86abcdef", b"\x86abcdefg", b"\x87\0", b"\x87\2", page(ALICE + u32(NODE) + u32(NODE)),
     page(ALICE + u32(NODE + 1) + u32(0)), page(ALICE + u32(0) + u32(NODE + 1)), node_entry(u16(0)),
-    node_entry(u16(1) + u32(NODE) + TOKEN), node_entry(u16(1) + u32(NODE + 1) + TOKEN), node_entry(u16(256)),
-    node_entry(u16(257)), page(u32(255) + u32(NODE) + TOKEN), page(u32(256) + u32(0) + TOKEN),
+    node_entry(u16(1) + u32(NODE) + TOKEN), node_entry(u16(1) + u32(NODE + 1) + TOKEN), node_entry(u16(USERS)),
+    node_entry(u16(USERS + 1)), page(u32(USER) + u32(NODE) + TOKEN), page(u32(USER + 1) + u32(0) + TOKEN),
     page(u32(0) + u32(NODE + 1) + TOKEN), file_entry(), file_entry(node=NODE), file_entry(node=NODE + 1),
     file_entry(size=BYTES), file_entry(size=BYTES + 1), file_entry(surface=b"\1" + u32(NODE)),
     file_entry(surface=b"\1" + u32(NODE + 1)), file_entry(surface=b"\2"),
     b"\x89" + u32(7), b"\x89" + u32(8), b"\x89" + u32(LAST), b"\x8a", b"\x8b" + u32(0), b"\x8c" + u32(9),
     b"\x8c" + u32(10), b"\x8c" + u32(LAST), b"\x8d", b"\x8e", b"\x8f" + u16(0), b"\x8f" + u16(1) + ALICE,
-    b"\x8f" + u16(2) + ALICE + ALICE, b"\x8f" + u16(256), b"\x8f" + u16(257), b"\x90",
+    b"\x8f" + u16(2) + ALICE + ALICE, b"\x8f" + u16(USERS), b"\x8f" + u16(USERS + 1), b"\x90",
 ]
 SAMPLES += [bytes([0x88, number]) for number in range(13)]
 

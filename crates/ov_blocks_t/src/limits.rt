@@ -11,7 +11,7 @@ const _: () = prove!(MAX_EXTENT_BLOCKS == 4_096);
 const _: () = prove!(MAX_HELD == 65_535);
 
 // So many bytes, and the blocks that take them.
-const BLOCKS: [(u32, u32); 8] = [
+const BLOCKS: [(u32, u32); 9] = [
     (0, 0),
     (1, 1),
     (4_095, 1),
@@ -19,6 +19,7 @@ const BLOCKS: [(u32, u32); 8] = [
     (4_097, 2),
     (8_193, 3),
     (1_048_576, 256),
+    (16_777_216, 4_096),
     (4_294_967_295, 1_048_576),
 ];
 

@@ -23,7 +23,7 @@ const HEADER: Header = Header {
 };
 
 // A store with that header and no records.
-const NEW_STORE: [u8; 79] = *b"\x01OVERENC1\x01\x01\x02\x03\x04\
+const NEW_STORE: [u8; 79] = *b"\x01OVERENC2\x01\x01\x02\x03\x04\
     \x11\x11\x11\x11\x11\x11\x11\x11\x11\x11\x11\x11\x11\x11\x11\x11\
     \x11\x11\x11\x11\x11\x11\x11\x11\x11\x11\x11\x11\x11\x11\x11\x11\
     \x22\x22\x22\x22\x22\x22\x22\x22\x22\x22\x22\x22\x22\x22\x22\x22\
@@ -193,7 +193,7 @@ fn book(
 }
 
 // The length, the place and the value of the byte, what is behind it, and what is there.
-const BOOKS: [(usize, usize, u8, &[u8], u8); 18] = [
+const BOOKS: [(usize, usize, u8, &[u8], u8); 20] = [
     // By length, with the first gate open and closed; then one byte longer.
     (0, 0, 1, b"", b'u'),
     (1, 0, 1, b"", b'u'),
@@ -205,8 +205,11 @@ const BOOKS: [(usize, usize, u8, &[u8], u8); 18] = [
     (79, 0, 0, b"", b'u'),
     (79, 0, 2, b"", b'u'),
     (79, 0, 0, b"\0", b'f'),
-    // An older magic, a mode that can't be, and a gate of 2 before a record.
+    // The magic of the first format, an older and a later one, a mode that can't be, and a gate of 2
+    // before a record.
+    (79, 8, b'1', b"\0\0\0\x01a\0", b'0'),
     (79, 8, b'0', b"\0\0\0\x01a\0", b'f'),
+    (79, 8, b'3', b"\0\0\0\x01a\0", b'f'),
     (79, 9, 2, b"\0\0\0\x01a\0", b'm'),
     (79, 78, 2, b"\0\0\0\x01a\0", b'0'),
     // Behind an open gate: a field that is cut short, lengths, and a body that ends Book.

@@ -134,15 +134,15 @@ created_first : (firsts : List ℕ) → brief_at second_form (create_with firsts
 unfolding bytes_of
 created_first firsts = (brief_reads second_form second_has_room).again created firsts create_form.0
 
-missing_stops : StopsInRecord 1 (create_with []) 73
+missing_stops : StopsInRecord 1 (create_with []) 169
 unfolding bytes_at many_at
 missing_stops =
-    ap (λ (r : Read Brief). placed 73 (all_of (and_firsts 1 r))) (created_first [])
+    ap (λ (r : Read Brief). placed 169 (all_of (and_firsts 1 r))) (created_first [])
 
-left_over_stops : StopsInRecord 1 (create_with (block 0 ++ block 3)) 77
+left_over_stops : StopsInRecord 1 (create_with (block 0 ++ block 3)) 173
 unfolding bytes_at many_at
 left_over_stops =
-    ap (λ (r : Read Brief). placed 81 (all_of (and_firsts 1 r)))
+    ap (λ (r : Read Brief). placed 177 (all_of (and_firsts 1 r)))
     (created_first (block 0 ++ block 3))
 
 -- the creation with another number of first blocks
@@ -174,11 +174,11 @@ miscounted k blobs firsts n at_byte long are blocks stops =
 
 pub first_is_missing : FirstIsMissing
 first_is_missing k blobs long is =
-    miscounted k blobs [] 3 73 long refl (blocks-length blobs 12288 is) missing_stops
+    miscounted k blobs [] 3 169 long refl (blocks-length blobs 12288 is) missing_stops
 
 pub first_is_left_over : FirstIsLeftOver
 first_is_left_over k blobs long is =
-    miscounted k blobs (block 0 ++ block 3) 6 77 long refl (blocks-length blobs 24576 is)
+    miscounted k blobs (block 0 ++ block 3) 6 173 long refl (blocks-length blobs 24576 is)
     left_over_stops
 
 refused_gate : (k : Keys) (blobs : List ℕ) (n : ℕ) → length k.base_check ≡ 32 → blocks_in blobs ≡ n

@@ -46,21 +46,21 @@ BlocksInUseAreDamage =
     (enrol_body 97 ∷ create_body 1 (0 ∷ 0 ∷ []) (block 0) ∷ small_body 109 (block 2) ∷ []) blobs)
     (at_block 2)
 
--- A creation without its first block: its gate is at place 86, and its body, of 73 bytes, ends at
--- place 164.
+-- A creation without its first block: its gate is at place 86, and its body, of 169 bytes, ends
+-- at place 260.
 abbrev pub FirstIsMissing : Type 0
 FirstIsMissing =
     (k : Keys) (blobs : List ℕ) → length k.base_check ≡ 32 → length blobs ≡ 12288
     → HasBadRecords (header_of k (history []))
-    (store k (enrol_body 97 ∷ create_body 1 (0 ∷ 0 ∷ []) [] ∷ []) blobs) (in_book 164)
+    (store k (enrol_body 97 ∷ create_body 1 (0 ∷ 0 ∷ []) [] ∷ []) blobs) (in_book 260)
 
--- with two first blocks, of which the second begins at place 168
+-- with two first blocks, of which the second begins at place 264
 abbrev pub FirstIsLeftOver : Type 0
 FirstIsLeftOver =
     (k : Keys) (blobs : List ℕ) → length k.base_check ≡ 32 → length blobs ≡ 24576
     → HasBadRecords (header_of k (history []))
     (store k (enrol_body 97 ∷ create_body 1 (0 ∷ 0 ∷ []) (block 0 ++ block 3) ∷ []) blobs)
-    (in_book 168)
+    (in_book 264)
 
 -- A second enrolment of a name is refused, and the first block behind it isn't looked at: the place
 -- is that of the gate, 86. Behind an update that fits it would be 94, where the update ends.

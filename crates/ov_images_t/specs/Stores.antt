@@ -61,20 +61,20 @@ grant firsts = record { update = BriefGrant 1 0 None; firsts = firsts }
 abbrev pub enrol_body : ℕ → List ℕ
 enrol_body letter = 1 ∷ 1 ∷ letter ∷ []
 
--- The body of the creation of a file of 8,193 bytes: kind, name, list in 32 bytes, number of tokens
+-- The body of the creation of a file of 8,193 bytes: kind, name, list in 128 bytes, number of tokens
 -- and tokens, tag, and the number of bytes. First blocks follow.
 abbrev pub create_body : ℕ → List ℕ → List ℕ → List ℕ
 create_body list tokens firsts =
-    2 ∷ 1 ∷ 110 ∷ list ∷ zeros 31 ++ tokens ++ zeros 32 ++ (0 ∷ 0 ∷ 32 ∷ 1 ∷ []) ++ firsts
+    2 ∷ 1 ∷ 110 ∷ list ∷ zeros 127 ++ tokens ++ zeros 32 ++ (0 ∷ 0 ∷ 32 ∷ 1 ∷ []) ++ firsts
 
 -- the body of the creation of the first file, where it has no bytes
 abbrev pub empty_body : List ℕ
-empty_body = 2 ∷ 1 ∷ 110 ∷ 1 ∷ zeros 31 ++ (0 ∷ 0 ∷ []) ++ zeros 32 ++ (0 ∷ 0 ∷ 0 ∷ 0 ∷ [])
+empty_body = 2 ∷ 1 ∷ 110 ∷ 1 ∷ zeros 127 ++ (0 ∷ 0 ∷ []) ++ zeros 32 ++ (0 ∷ 0 ∷ 0 ∷ 0 ∷ [])
 
 -- the body of the creation of a file of one byte, with a name of one letter, for the first user
 abbrev pub small_body : ℕ → List ℕ → List ℕ
 small_body letter firsts =
-    2 ∷ 1 ∷ letter ∷ 1 ∷ zeros 31 ++ (0 ∷ 0 ∷ []) ++ zeros 32 ++ (0 ∷ 0 ∷ 0 ∷ 1 ∷ []) ++ firsts
+    2 ∷ 1 ∷ letter ∷ 1 ∷ zeros 127 ++ (0 ∷ 0 ∷ []) ++ zeros 32 ++ (0 ∷ 0 ∷ 0 ∷ 1 ∷ []) ++ firsts
 
 -- the body of the revocation: kind, user, file, first block
 abbrev pub revoke_body : List ℕ → List ℕ

@@ -3,16 +3,15 @@
 //! An [`Update`] is one change of a store: what its owner sends, and what its journal keeps. A
 //! contract sees it by `sealed_update` of `specs/Updates`, as a value that knows nothing of the
 //! width of the set in it. A [`Form`] says how updates are spelled: with how many words in a set,
-//! and with which limits of a creation. Frames and new records are in the form of the second
-//! format, [`Form::SECOND`]; [`Form::FIRST`] is that of the first, in which older records are. The
-//! second has room for all that the first has, and both have room in a record
-//! ([`forms_have_room`]). In each form an update has one spelling (`spelling` in `specs/Spelling`),
-//! [`write`] appends it, and [`read`] gives the update exactly where the bytes are its spelling.
-//! Elsewhere `read` names the
-//! place of the first field that no spelling continues, or the end, as `specs/Reading` says: what
-//! stands before the place goes on to a spelling, and with the field at it none does
-//! ([`bad_updates_are_placed`]). No spelling is the front of another's
-//! ([`updates_are_spelled_apart`]), and each fits a record ([`spellings_fit_records`]).
+//! and with which limits of a creation. Frames and new records are in the form of the second format,
+//! [`Form::SECOND`], and records of older stores in that of the first, [`Form::FIRST`]; both have
+//! room in their fields, and the records of both fit ([`forms_have_room`]). In each form an update
+//! has one spelling (`spelling` in `specs/Spelling`), [`write`] appends it, and [`read`] gives the
+//! update exactly where the bytes are its spelling. Elsewhere `read` names the place of the first
+//! field that no spelling continues, or the end, as `specs/Reading` says: what stands before the
+//! place goes on to a spelling, and with the field at it none does ([`bad_updates_are_placed`]). No
+//! spelling is the front of another's ([`updates_are_spelled_apart`]), and each fits a record where
+//! the longest of its form does, as that of the first ([`spellings_fit_records`]).
 //!
 //! A store that keeps the bytes of its files apart from its records spells an update as a
 //! [`Brief`], which ends before those bytes, and then the first block of each file whose stored

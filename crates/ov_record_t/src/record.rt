@@ -1,7 +1,7 @@
 //! Spellings that another program gives, and the places of wrong bytes.
 
 ghost use Rattle.std.specs.Prelude.{◌≡◌};
-ghost use Rattle.ov_record.specs.Forms.{first_form, form_of};
+ghost use Rattle.ov_record.specs.Forms.{first_form, form_of, second_form};
 
 use ov_base::limits::{MAX_FILE_BYTES, MAX_USERS, SET_WORDS};
 use ov_base::{Name, UserSet};
@@ -123,19 +123,32 @@ fn the_first_wrong_byte_is_named(rt: HostRuntime) {
     }
 }
 
-/// The form of records, which contracts see as `first_form`.
-fn first() -> Form<SET_WORDS>
+/// The form of the oldest records, which contracts see as `first_form`.
+fn first() -> Form<4>
     ensures { form_of result ≡ first_form }
 {
     Form::FIRST
 }
 
+/// The form of frames and of new records, which contracts see as `second_form`.
+fn second() -> Form<SET_WORDS>
+    ensures { form_of result ≡ second_form }
+{
+    Form::SECOND
+}
+
 #[test]
 fn limits_of_the_first_form(rt: HostRuntime) {
     let form = first();
+    assert_eq!(rt; (form.most_tokens, form.longest), (256, 1_048_576));
+}
+
+#[test]
+fn limits_of_the_second_form(rt: HostRuntime) {
+    let form = second();
     assert_eq!(rt;
         (SET_WORDS, form.most_tokens, form.longest),
-        (4, 256, 1_048_576)
+        (16, 1_024, 16_777_216)
     );
     assert_eq!(rt;
         (MAX_USERS as usize, MAX_FILE_BYTES),
@@ -144,14 +157,14 @@ fn limits_of_the_first_form(rt: HostRuntime) {
 }
 
 #[test]
-fn limits_of_the_second_form(rt: HostRuntime) {
-    let (_, form): (_, Form<16>) = forms_are_known();
-    assert_eq!(rt; (form.most_tokens, form.longest), (1_024, 16_777_216));
+fn both_forms_are_known(rt: HostRuntime) {
+    let (first, second): (Form<4>, Form<16>) = forms_are_known();
+    assert_eq!(rt; (first.most_tokens, second.most_tokens), (256, 1_024));
 }
 
 /// The place of the first wrong byte of the creation, in a form with these limits.
 fn creation_wrong_at(alloc: Global, most_tokens: u16, longest: u16) -> Option<u32> {
-    let form = Form::<SET_WORDS> {
+    let form = Form::<4> {
         most_tokens,
         longest: u32::from(longest),
     };

@@ -4,13 +4,13 @@
 ghost use Rattle.std.specs.Prelude.{IfOk};
 ghost use Rattle.ov_fields.specs.Answers.{Gives};
 ghost use Rattle.ov_record.specs.Briefs.{plain_brief, plain_front};
-ghost use Rattle.ov_record.specs.Forms.{first_form};
+ghost use Rattle.ov_record.specs.Forms.{first_form, second_form};
 ghost use Rattle.ov_record.specs.Places.{place_of};
 ghost use Rattle.ov_record.specs.Reading.{brief_of};
 ghost use Rattle.ov_record.specs.Stored.{IsBriefWithinLimits};
 
 use ov_base::UserSet;
-use ov_base::limits::{MAX_FILES, SET_WORDS};
+use ov_base::limits::MAX_FILES;
 use ov_record::*;
 use std::alloc::Global;
 use std::process::Abort;
@@ -56,7 +56,7 @@ fn joined(rt: &impl Abort, alloc: Global, front: &[u8], back: &[u8]) -> Vec<u8> 
 }
 
 /// The record with so many first blocks that the bytes spell.
-fn record(alloc: Global, bytes: &[u8], count: u32) -> Result<Stored<SET_WORDS>, RecordFault>
+fn record(alloc: Global, bytes: &[u8], count: u32) -> Result<Stored<4>, RecordFault>
     ensures { IfOk result (λ s. IsBriefWithinLimits first_form (plain_brief s.update)) }
 {
     if count > MAX_FILES {
@@ -188,4 +188,29 @@ fn a_creation_of_the_first_form_in_the_width_of_the_second(rt: HostRuntime) {
         Err(_) => assert!(rt; false),
     }
     assert!(rt; read_brief(rt.alloc(), Form::SECOND, CREATION).is_err());
+}
+
+/// The record with one first block that the bytes spell in the second form.
+fn second_record(alloc: Global, bytes: &[u8]) -> Result<Stored<16>, RecordFault>
+    ensures { IfOk result (λ s. IsBriefWithinLimits second_form (plain_brief s.update)) }
+{
+    read_stored(alloc, Form::SECOND, bytes, 1)
+}
+
+/// The creation with a set of 128 bytes is a record of the second form.
+#[test]
+fn a_creation_of_the_second_form_has_a_longer_set(rt: HostRuntime) {
+    let front = joined(&rt, rt.alloc(), &CREATION[..36], &[0; 96]);
+    let update = joined(&rt, rt.alloc(), &front, &CREATION[36..]);
+    let bytes = joined(&rt, rt.alloc(), &update, b"\0\0\0\0");
+    let mut out = Vec::new(rt.alloc());
+    match second_record(rt.alloc(), &bytes) {
+        Ok(stored) => {
+            let list = UserSet::empty().with(0).with(3);
+            assert!(rt; list_of(&stored.update) == Some((list, 2, 5)));
+            write_stored(Form::SECOND, &stored, &mut out).expect(&rt, "memory");
+        }
+        Err(_) => {}
+    }
+    assert_eq!(rt; out.as_slice(), bytes.as_slice());
 }

@@ -181,14 +181,17 @@ fn a_user_who_joins_twice(rt: HostRuntime) -> Result<(), Fail> {
 
 // The Book of one user and one file of one byte under these keys, in `full`: what a program in
 // Python gives that was written from the formats alone. In `delta` byte 9 is 1.
-const ONE_FILE: &[u8] = b"\x01OVERENC1\0\0\0\0\0\
+const ONE_FILE: &[u8] = b"\x01OVERENC2\0\0\0\0\0\
     \x2a\x4f\x6d\x54\xa4\x5f\x46\xe7\xa8\x18\xa4\xf5\x94\x51\xe9\xfb\
     \xb0\x95\x9a\xdd\x66\x60\xc9\x0f\xc1\xb8\xbf\x8d\x4b\x73\xc7\x45\
     \xe2\xe6\x63\x1a\x00\x5a\x1d\xa7\x4d\x3f\x29\x1c\x8c\xd9\xe6\x0c\
     \x7a\xbf\x3a\x2a\xb3\x3a\x71\x99\xbf\xf0\x6c\x71\x43\x32\x63\xd4\
     \x01\0\0\0\x03\x01\x01a\
-    \x01\0\0\0M\x02\x01f\
+    \x01\0\0\0\xad\x02\x01f\
     \x01\0\0\0\0\0\0\0\0\0\0\0\0\0\0\0\0\0\0\0\0\0\0\0\0\0\0\0\0\0\0\0\0\0\
+    \0\0\0\0\0\0\0\0\0\0\0\0\0\0\0\0\0\0\0\0\0\0\0\0\0\0\0\0\0\0\0\0\
+    \0\0\0\0\0\0\0\0\0\0\0\0\0\0\0\0\0\0\0\0\0\0\0\0\0\0\0\0\0\0\0\0\
+    \0\0\0\0\0\0\0\0\0\0\0\0\0\0\0\0\0\0\0\0\0\0\0\0\0\0\0\0\0\0\0\0\
     \xa8\x63\x5f\xae\xc7\x82\xbb\x11\xcb\xd1\x66\x67\xd9\xa3\x28\xa5\
     \xbf\x77\xf6\x38\xe6\x49\x97\xf3\x42\x6e\x66\xa1\x9e\x85\x5d\xe7\
     \0\0\0\x01\0\0\0\0\0";
@@ -260,8 +263,8 @@ const SAME_BLOBS: (usize, u8) = (0, 0x7f);
 fn a_record_that_is_not_the_owners(rt: HostRuntime) -> Result<(), Fail> {
     let alloc = rt.alloc();
     let line = b"error damaged book 86\n";
-    assert_refused(&rt, alloc, (128, 0xa9), SAME_BLOBS, 4096, line)?;
-    assert_refused(&rt, alloc, (159, 0x67), SAME_BLOBS, 4096, line)?;
+    assert_refused(&rt, alloc, (224, 0xa9), SAME_BLOBS, 4096, line)?;
+    assert_refused(&rt, alloc, (255, 0x67), SAME_BLOBS, 4096, line)?;
     assert_refused(&rt, alloc, SAME_BOOK, (0, 0x7e), 4096, line)
 }
 
@@ -270,7 +273,7 @@ fn a_record_that_is_not_the_owners(rt: HostRuntime) -> Result<(), Fail> {
 fn a_file_past_the_end_of_blobs(rt: HostRuntime) -> Result<(), Fail> {
     let alloc = rt.alloc();
     let next = b"error damaged blobs 4096\n";
-    assert_refused(&rt, alloc, (167, 1), SAME_BLOBS, 4096, next)?;
+    assert_refused(&rt, alloc, (263, 1), SAME_BLOBS, 4096, next)?;
     let first = b"error damaged blobs 0\n";
     assert_refused(&rt, alloc, SAME_BOOK, SAME_BLOBS, 4095, first)
 }
@@ -285,13 +288,13 @@ fn two_files() -> &'static Row<'static> {
     &TWO_FILES
 }
 
-// The second file's first block, whose last byte is at 249, is the one that the first file has.
+// The second file's first block, whose last byte is at 441, is the one that the first file has.
 #[test]
 fn a_block_in_use(rt: HostRuntime) -> Result<(), Fail> {
     let alloc = rt.alloc();
     let words = words(alloc, &["run", "delta"])?;
     let disk = left_by(&rt, alloc, &words, two_files());
-    let book = changed(alloc, disk.book(), 249, 0)?;
+    let book = changed(alloc, disk.book(), 441, 0)?;
     let line = b"error damaged blobs 0\n";
     let shut = assert_shut(&rt, alloc, "delta", &book, disk.blobs(), 8, line);
     drop(disk);

@@ -56,7 +56,7 @@ fn users_are_full(rt: HostRuntime) -> Result<(), Fail> {
     let alloc = rt.alloc();
     let end = b"enrol z\nenrol u1\n";
     let script = numbered(alloc, "enrol u", 1, MAX_USERS, "\n", end)?;
-    let end = b"refused 7 UsersFull\nrefused 1 Taken\nend epoch 256\n";
+    let end = b"refused 7 UsersFull\nrefused 1 Taken\nend epoch 1024\n";
     let lines = numbered(alloc, "ok ", 1, MAX_USERS, "\n", end)?;
     assert_lines(&rt, alloc, &script, &lines)?;
     Ok(())

@@ -123,7 +123,7 @@ fn a_fault_at_each_call(rt: HostRuntime) -> Result<(), Fail> {
     Ok(())
 }
 
-// Records have 7 to 100 bytes, and a block has 4,096.
+// Records have 8 to 242 bytes, and a block has 4,096.
 #[test]
 fn a_write_that_is_cut_short_at_each_call(rt: HostRuntime) -> Result<(), Fail> {
     let words = words(rt.alloc(), &["run", "delta"])?;

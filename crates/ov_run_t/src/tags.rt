@@ -113,7 +113,7 @@ fn a_wrong_tag(rt: HostRuntime) -> Result<(), Fail> {
     let mut disk = Flips {
         book: &book,
         blobs: &blobs,
-        place: 128,
+        place: 224,
         given: false,
         calls: 0,
     };

@@ -35,8 +35,8 @@ fn server_on(alloc: Global, disk: MemDisk) -> Result<Server<MemDisk>, Fail> {
 
 /// The first of these frames, and those behind it.
 fn split_frame(frames: &[u8]) -> Option<(&[u8], &[u8])> {
-    let (length, behind) = frames.split_first()?;
-    behind.split_at_checked(*length as usize)
+    let (length, behind) = frames.split_first_chunk::<2>()?;
+    behind.split_at_checked(u16::from_be_bytes(*length) as usize)
 }
 
 /// Whether a peer that is asked this replies so.

@@ -111,7 +111,7 @@ const ROWS: [Row; 9] = [
         written: &[],
     },
     Row {
-        input: &[0, 0x11, 0, 1, 7],
+        input: &[1, 1, 0, 1, 7],
         end: SessionEnd::Bad { at: 0 },
         written: &[],
     },

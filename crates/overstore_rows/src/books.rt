@@ -9,7 +9,7 @@ use std::alloc::Global;
 use std::test::Fail;
 
 // A place, the byte that is put there, and the length to which the book is then cut.
-static CHANGES: [(usize, u8, usize); 23] = [
+static CHANGES: [(usize, u8, usize); 25] = [
     // The length field of the record.
     (79, 1, 91),
     (79, 255, 91),
@@ -22,6 +22,7 @@ static CHANGES: [(usize, u8, usize); 23] = [
     (82, 255, 91),
     // The record's kind, the length of the name, and the name.
     (83, 0, 91),
+    (83, 5, 91),
     (83, 9, 91),
     (84, 0, 91),
     (84, 4, 91),
@@ -32,9 +33,10 @@ static CHANGES: [(usize, u8, usize); 23] = [
     (90, 1, 91),
     (90, 2, 91),
     (78, 1, 90),
-    // Magic and mode, and a store that isn't begun.
+    // Magic, of which 49 is that of the first format, and mode, and a store that isn't begun.
     (0, 2, 91),
     (8, 48, 91),
+    (8, 49, 91),
     (9, 2, 91),
     (0, 7, 79),
 ];

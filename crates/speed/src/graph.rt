@@ -3,7 +3,7 @@
 ghost use Rattle.std.specs.Prelude.{◌≤◌};
 ghost use Rattle.ov_base.specs.declared.limits.TheConstants.{MAX_SET_WORDS};
 
-use ov_base::limits::MAX_LAYER_NODES;
+use ov_base::limits::{MAX_LAYER_NODES, SET_WORDS};
 use ov_base::{Key, UserSet};
 use ov_chain::shortest;
 use ov_graph::{Graph, has_roots, plan_and_add};
@@ -66,13 +66,13 @@ fn fill<L: Layer, G: Graph<L, W>, const W: usize>(
 
 /// Fills a graph, finds the chain from a user to all twelve as often as is said, and gives the
 /// steps of all of these.
-pub fn chains<G: Graph<Base, 4>>(alloc: Global, times: u32) -> Result<usize, Fail> {
+pub fn chains<G: Graph<Base, SET_WORDS>>(alloc: Global, times: u32) -> Result<usize, Fail> {
     let mut graph = G::new(alloc)?;
-    fill::<Base, G, 4>(alloc, &mut graph, MAX_LAYER_NODES)?;
+    fill::<Base, G, SET_WORDS>(alloc, &mut graph, MAX_LAYER_NODES)?;
     let mut steps = 0usize;
     for _ in 0..times {
         if graph.count() == MAX_LAYER_NODES {
-            match shortest::<Base, G, 4>(alloc, &graph, 0, MAX_LAYER_NODES - 1)? {
+            match shortest::<Base, G, SET_WORDS>(alloc, &graph, 0, MAX_LAYER_NODES - 1)? {
                 Some(chain) => steps = steps.saturating_add(chain.steps.as_slice().len()),
                 None => {}
             }
@@ -82,7 +82,10 @@ pub fn chains<G: Graph<Base, 4>>(alloc: Global, times: u32) -> Result<usize, Fai
 }
 
 /// Sets of nodes from all over a graph.
-fn old_sets<G: Graph<Base, 4>>(alloc: Global, graph: &G) -> Result<Vec<UserSet<4>>, Fail> {
+fn old_sets<G: Graph<Base, SET_WORDS>>(
+    alloc: Global,
+    graph: &G,
+) -> Result<Vec<UserSet<SET_WORDS>>, Fail> {
     let mut sets = Vec::new(alloc);
     let nodes = graph.count();
     if nodes > 0 {
@@ -94,19 +97,23 @@ fn old_sets<G: Graph<Base, 4>>(alloc: Global, graph: &G) -> Result<Vec<UserSet<4
 }
 
 /// Sets of which no node has one: of twelve users, from all over these, and one user more.
-fn new_sets(alloc: Global) -> Result<Vec<UserSet<4>>, Fail> {
+fn new_sets(alloc: Global) -> Result<Vec<UserSet<SET_WORDS>>, Fail> {
     let mut sets = Vec::new(alloc);
     for n in 0..ASKED {
-        sets.push(set_of_bits::<4>(n * STRIDE % MAX_LAYER_NODES).with(12))?;
+        sets.push(set_of_bits::<SET_WORDS>(n * STRIDE % MAX_LAYER_NODES).with(12))?;
     }
     Ok(sets)
 }
 
 /// Fills a graph with this many nodes, finds those of 256 sets as often as is said, and says how
 /// many it found.
-pub fn finds<G: Graph<Base, 4>>(alloc: Global, nodes: u32, times: u32) -> Result<usize, Fail> {
+pub fn finds<G: Graph<Base, SET_WORDS>>(
+    alloc: Global,
+    nodes: u32,
+    times: u32,
+) -> Result<usize, Fail> {
     let mut graph = G::new(alloc)?;
-    fill::<Base, G, 4>(alloc, &mut graph, nodes)?;
+    fill::<Base, G, SET_WORDS>(alloc, &mut graph, nodes)?;
     let sets = old_sets::<G>(alloc, &graph)?;
     let mut found = 0usize;
     for _ in 0..times {
@@ -121,9 +128,13 @@ pub fn finds<G: Graph<Base, 4>>(alloc: Global, nodes: u32, times: u32) -> Result
 
 /// Fills a graph with one node fewer than this many, plans each of 256 new sets as often as is
 /// said, and says how many edges these would get.
-pub fn plans<G: Graph<Base, 4>>(alloc: Global, nodes: u32, times: u32) -> Result<usize, Fail> {
+pub fn plans<G: Graph<Base, SET_WORDS>>(
+    alloc: Global,
+    nodes: u32,
+    times: u32,
+) -> Result<usize, Fail> {
     let mut graph = G::new(alloc)?;
-    fill::<Base, G, 4>(alloc, &mut graph, nodes.saturating_sub(1))?;
+    fill::<Base, G, SET_WORDS>(alloc, &mut graph, nodes.saturating_sub(1))?;
     graph.known();
     let sets = new_sets(alloc)?;
     let mut edges = 0usize;

@@ -15,6 +15,7 @@ mod lengths;
 mod pads;
 mod wire;
 
+use ov_base::limits::SET_WORDS;
 use ov_ctr::apply_at;
 use ov_graph::ListGraph;
 use ov_index::IndexGraph;
@@ -26,9 +27,9 @@ use std::test::Fail;
 
 const SIZE: usize = 67_108_864;
 
-type Indexed = IndexGraph<Base, 4>;
+type Indexed = IndexGraph<Base, SET_WORDS>;
 
-type Listed = ListGraph<Base, 4>;
+type Listed = ListGraph<Base, SET_WORDS>;
 
 fn zeros(alloc: Global) -> Result<Vec<u8>, AllocError> {
     let mut bytes = Vec::with_capacity(alloc, SIZE)?;

@@ -1,5 +1,6 @@
 //! A stream of updates, cut into frames and read.
 use ov_base::Octets;
+use ov_base::limits::SET_BYTES;
 use ov_wire::{Decoder, read_request};
 use std::alloc::Global;
 use std::test::Fail;
@@ -8,7 +9,7 @@ use std::test::Fail;
 const PIECE: usize = 1_400;
 
 // A file of this many bytes makes a frame of 65,536.
-const BODY: usize = 65_426;
+const BODY: usize = 65_330;
 
 // Frames of updates, each of which creates a file for nobody.
 fn stream(alloc: Global) -> Result<Vec<u8>, Fail> {
@@ -16,7 +17,7 @@ fn stream(alloc: Global) -> Result<Vec<u8>, Fail> {
     for _ in 0..64u8 {
         bytes.extend_from_slice(&65_536u32.to_be_bytes())?;
         bytes.extend_from_slice(&[4, 0, 0, 0, 0, 2, 1, b'f'])?;
-        bytes.extend_from_slice(&[0; 32])?;
+        bytes.extend_from_slice(&[0; SET_BYTES])?;
         bytes.extend_from_slice(&[0; 2])?;
         bytes.extend_from_slice(&[7; 32])?;
         bytes.extend_from_slice(&(BODY as u32).to_be_bytes())?;

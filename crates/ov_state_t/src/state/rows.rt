@@ -115,11 +115,11 @@ pub static FAULTS: [(Step, PrepareFault); 11] = [
     // A token too many, and one too few.
     (
         Step::Create(b"f6", &[0, 1], 1),
-        PrepareFault::BadPlan { at: 1 + 3 + 32 },
+        PrepareFault::BadPlan { at: 1 + 3 + 128 },
     ),
     (
         Step::Create(b"f6", &[0, 2], 1),
-        PrepareFault::BadPlan { at: 1 + 3 + 32 },
+        PrepareFault::BadPlan { at: 1 + 3 + 128 },
     ),
     // No access token to a node that the user doesn't hold, and one to a node that the user holds.
     (
