@@ -145,7 +145,7 @@ def lines_that_are_bad():
     status, lines, said = told(store_folder(), "run", "full", script=many + b"enrol Bob\n" + many)
     assert status == 3 and said.startswith("overstore: error: line 20001: a name"), said
     # One whose beginning is forgotten, since what was taken behind it is long: nothing wrong is said of it.
-    for start in range(98_270, 98_300):
+    for start in range(131_038, 131_068):
         before = b"epoch\n" * ((start - 40) // 6)
         before += b"list " + b"a" * (start - len(before) - 6) + b"\n"
         script = before + b"create epoch - 300000\n" + b"x" * 100_000

@@ -10,7 +10,7 @@ use std::alloc::{AllocError, AllocFailed};
 pub enum JournalFault {
     /// A call of the disk failed.
     Disk,
-    /// There is another file, or a store of another format.
+    /// There is another file, or a store of an unknown format.
     NotAStore,
     /// The header can't be: the place of the first byte that is wrong.
     Damaged { offset: u64 },
