@@ -5,7 +5,7 @@ use ov_io::{Fault, Source};
 use std::alloc::Global;
 
 // As much as is kept at least, where so much was taken: two buffers of a script.
-const KEPT: usize = 65_536;
+const KEPT: usize = 262_144;
 
 /// A source that remembers the last bytes that were taken, how many lines ended before them, and
 /// whether they begin inside a line, which isn't remembered then.
