@@ -145,10 +145,10 @@ def lines_that_are_bad():
     status, lines, said = told(store_folder(), "run", "full", script=many + b"enrol Bob\n" + many)
     assert status == 3 and said.startswith("overstore: error: line 20001: a name"), said
     # One whose beginning is forgotten, since what was taken behind it is long: nothing wrong is said of it.
-    for start in range(131_038, 131_068):
+    for start in range(393_182, 393_212):
         before = b"epoch\n" * ((start - 40) // 6)
         before += b"list " + b"a" * (start - len(before) - 6) + b"\n"
-        script = before + b"create epoch - 300000\n" + b"x" * 100_000
+        script = before + b"create epoch - 1200000\n" + b"x" * 400_000
         status, lines, said = told(store_folder(), "run", "full", script=script)
         assert status == 3 and ("LENGTH bytes" in said or "names a bad line" in said), (start, said)
 

@@ -8,11 +8,11 @@ use Rattle.ov_record.specs.Forms.{second_form}
 use Rattle.ov_wire.specs.RequestReading.{spelling_at}
 use Rattle.ov_wire.specs.Updates.{IsSpelling}
 
--- a frame's reader takes just the bytes from which an update of the first form is read, or fails at
--- the same byte
+-- a frame's reader takes just the bytes from which an update of the second form is read, or fails
+-- at the same byte
 abbrev pub FramesHoldSpellings : Type 0
 FramesHoldSpellings = (bytes : List ℕ) → spelling_at bytes ≡ spanned (update_at second_form) bytes
 
--- a frame can have the spelling of each update that has the first form
+-- a frame can have the spelling of each update that has the second form
 abbrev pub FramesTakeUpdates : Type 0
 FramesTakeUpdates = (u : SealedUpdate) → HasForm second_form u → IsSpelling (spelling second_form u)

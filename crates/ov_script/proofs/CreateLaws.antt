@@ -73,7 +73,7 @@ commas-cons : (name : List ℕ) (names : List (List ℕ)) → commas (name ∷ n
 commas-cons name names = let parts : length (name ++ with_commas names) ≡ length name + commas names = length-append name (with_commas names) in omega arith
 
 commas-append : (names others : List (List ℕ)) → commas (names ++ others) ≡ commas names + commas others
-commas-append [] others = refl
+commas-append [] others = let same : commas ([] ++ others) ≡ commas others = refl in omega arith
 commas-append (name ∷ names) others =
     let rest : commas (names ++ others) ≡ commas names + commas others = commas-append names others in
     let all : commas (name ∷ (names ++ others)) ≡ 1 + length name + commas (names ++ others) = commas-cons name (names ++ others) in

@@ -12,7 +12,7 @@ use std::marker::Model;
 
 /// How many bytes a feed has room for: more than the longest line of an item, so that there is
 /// always room for the rest of a line.
-pub const CAPACITY: usize = 32_768;
+pub const CAPACITY: usize = 131_072;
 
 /// The room of a feed for bytes that were taken and not yet used.
 #[derive(Drop)]

@@ -9,12 +9,13 @@ use crate::chains::{put_chain, put_chain_or_none};
 use crate::names::put_names;
 use crate::{Answer, Chained, Known, Plan, Welcome, kinds};
 use ov_base::Memory;
+use ov_base::limits::SET_BYTES;
 use ov_fields::{put_set, put_u16, put_u32};
 use ov_tokens::Numbers;
 
 /// For how many bytes there is room before an answer is written: enough for most answers without
 /// their body, so that those take memory once.
-const FRONT: usize = 64;
+const FRONT: usize = 32 + SET_BYTES;
 
 /// The flag of a truth.
 fn flag(value: bool) -> u8

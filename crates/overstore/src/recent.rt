@@ -4,9 +4,8 @@ ghost use Rattle.std.specs.Prelude.{◌≡◌};
 use ov_io::{Fault, Source};
 use std::alloc::Global;
 
-// As much as is kept at least, where so much was taken: four buffers of a script. The longest line
-// and the buffer in which it ends have less.
-const KEPT: usize = 131_072;
+// As much as is kept at least, where so much was taken: two buffers of a script.
+const KEPT: usize = 262_144;
 
 /// A source that remembers the last bytes that were taken, how many lines ended before them, and
 /// whether they begin inside a line, which isn't remembered then.
