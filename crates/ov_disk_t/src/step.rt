@@ -41,10 +41,21 @@ fn opened<D: Disk>(alloc: Global, disk: &mut D) -> Option<Journal>
     ensures count { IfSome result (λ journal. length journal.offsets < 9) }
     ensures stands { IfSome result (λ journal. Stands D.tells journal disk.new) }
 {
-    let Ok(Found::Born { journal, bad: None, .. }) = Journal::begin(alloc, disk) else {
+    let Ok(
+        Found::Born {
+            journal,
+            bad: None,
+            ..
+        },
+    ) = Journal::begin(alloc, disk)
+    else {
         return None;
     };
-    if journal.count() < 9 { Some(journal) } else { None }
+    if journal.count() < 9 {
+        Some(journal)
+    } else {
+        None
+    }
 }
 
 // Makes sure of how many records an old store with these bytes has, of how many of them are in the
@@ -73,8 +84,22 @@ fn which_records_are_old(rt: HostRuntime) -> Result<(), Fail> {
     expect_old(&rt, alloc, b"\0", 0, 0, true)?;
     expect_old(&rt, alloc, &TWO, 2, 2, true)?;
     // The step record in front of all records, behind all, and between two.
-    expect_old(&rt, alloc, b"\x01\0\0\0\x01\x05\x01\0\0\0\x01a\0", 1, 0, false)?;
-    expect_old(&rt, alloc, b"\x01\0\0\0\x01a\x01\0\0\0\x01\x05\0", 1, 1, false)?;
+    expect_old(
+        &rt,
+        alloc,
+        b"\x01\0\0\0\x01\x05\x01\0\0\0\x01a\0",
+        1,
+        0,
+        false,
+    )?;
+    expect_old(
+        &rt,
+        alloc,
+        b"\x01\0\0\0\x01a\x01\0\0\0\x01\x05\0",
+        1,
+        1,
+        false,
+    )?;
     let between = b"\x01\0\0\0\x01a\x01\0\0\0\x01\x05\x01\0\0\0\x01b\0";
     expect_old(&rt, alloc, between, 2, 1, false)?;
     // A body of two bytes is none, whatever the first is.
@@ -89,7 +114,10 @@ fn a_second_step_record_is_a_body(rt: HostRuntime) -> Result<(), Fail> {
     expect_old(&rt, alloc, twice, 2, 1, false)?;
     let mut disk = old_store(alloc, twice)?;
     let journal = opened(alloc, &mut disk).ok_or("a store")?;
-    assert_eq!(rt; bodies(alloc, &mut disk, &journal)?.as_slice(), b"ab\x05".as_slice());
+    assert_eq!(rt;
+        bodies(alloc, &mut disk, &journal)?.as_slice(),
+        b"ab\x05".as_slice()
+    );
     Ok(())
 }
 
@@ -124,10 +152,16 @@ fn the_next_append_writes_no_other(rt: HostRuntime) -> Result<(), Fail> {
     let (mut disk, _, _) = stepped(&rt, alloc, 99)?;
     let mut journal = opened(alloc, &mut disk).ok_or("a store")?;
     put(&mut journal, &mut disk, b"d")?;
-    assert_eq!(rt; disk.book().get(118..), Some(b"\x01\0\0\0\x01d\0".as_slice()));
+    assert_eq!(rt;
+        disk.book().get(118..),
+        Some(b"\x01\0\0\0\x01d\0".as_slice())
+    );
     let journal = opened(alloc, &mut disk).ok_or("a store")?;
     let all = bodies(alloc, &mut disk, &journal)?;
-    assert_eq!(rt; all.as_slice(), b"\x01\x05alice\x01\x03bob\x01\x05carold".as_slice());
+    assert_eq!(rt;
+        all.as_slice(),
+        b"\x01\x05alice\x01\x03bob\x01\x05carold".as_slice()
+    );
     Ok(())
 }
 

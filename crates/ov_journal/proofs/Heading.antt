@@ -86,11 +86,13 @@ step_body_is (x ∷ y ∷ body) count byte long first =
 
 -- what follows the gate is a step record, or no step record
 pub is_one : (is_due : Bool) (bytes : List ℕ) (count : ℕ) → BeginsRecord count bytes → (is_due && (count == 1 && get_or bytes 5 0 == 5)) ≡ true
-    → (is_due ≡ true) × ((b : BeginsRecord 1 bytes) × (is_step b.body ≡ true))
+    → (is_due ≡ true) × (b : BeginsRecord 1 bytes) × (is_step b.body ≡ true)
 is_one is_due bytes count b is =
     let parts = and_parts is_due (count == 1 && get_or bytes 5 0 == 5) is in
     let one : count ≡ 1 = eqb-true count 1 (and_parts (count == 1) (get_or bytes 5 0 == 5) parts.1).0 in
-    (parts.0, subst (λ (n : ℕ). (b : BeginsRecord n bytes) × (is_step b.body ≡ true)) one (b, step_body_is b.body count (get_or bytes 5 0) b.long b.first_byte ∙ parts.1))
+    let step = step_body_is b.body count (get_or bytes 5 0) b.long b.first_byte ∙ parts.1 in
+    let both = subst (λ (n : ℕ). (b : BeginsRecord n bytes) × (is_step b.body ≡ true)) one (b, step) in
+    (parts.0, both.0, both.1)
 
 pub is_none : (is_due : Bool) (bytes : List ℕ) (count : ℕ) → BeginsRecord count bytes → (is_due && (count == 1 && get_or bytes 5 0 == 5)) ≡ false
     → (b : BeginsRecord count bytes) × (is_due ≡ true → is_step b.body ≡ false)

@@ -57,7 +57,7 @@ log_of log book Due first offsets end bad step due =
     (λ k. place_if (bad k) (end k)) old (due ∙ sym s.due)
 log_of log book (Made old) first offsets end bad step due =
     let run = run_after 78 book in
-    let s = is_stepped book old first.0 first.1.0 first.1.1 in
+    let s = is_stepped book old first.0 first.1 first.2 in
     let one : made log ≡ Some old = made_settled log due ∙ step in
     let gates = offsets ∙ gates_made run.bodies old s.split ∙ ap (λ (o : Option ℕ). gates_of o (remove run.bodies old)) (sym step) in
     let last = end ∙ end_made run.bodies old s.split ∙ ap (λ (o : Option ℕ). gate_behind o (remove run.bodies old)) (sym one) in

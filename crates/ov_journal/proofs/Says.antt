@@ -75,7 +75,9 @@ cases_of book =
 pub low_of : (book : List ℕ) → IsLow (contents_of book).records.step (contents_of book).records.bodies
 low_of book = elim (cases_of book) [
   | inl s ↦ subst (λ (r : Records). IsLow r.step r.bodies) (sym s.records) tt
-  | inr (inl s) ↦ subst (λ (r : Records). IsLow r.step r.bodies) (sym s.records) (omega arith)
+  | inr (inl s) ↦
+      let low : length (run_after 78 book).bodies ≤ length (run_after 78 book).bodies = omega arith in
+      subst (λ (r : Records). IsLow r.step r.bodies) (sym s.records) low
   | inr (inr s) ↦
       let low : s.old ≤ length (remove (run_after 78 book).bodies s.old) = omega (arith, ap length s.split.without, length-append s.split.front s.split.rest, s.split.long) in
       subst (λ (r : Records). IsLow r.step r.bodies) (sym s.records) low

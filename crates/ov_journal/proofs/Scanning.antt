@@ -37,7 +37,7 @@ finished going bad end offsets step book is scanned = subst (λ (o : Bool). IsSc
 shown_none : (step : Step) (first : Bool) → IsStepIn step first [] → [] ≡ shown step []
 shown_none Never first is = refl
 shown_none Due first is = refl
-shown_none (Made old) first is = absurd (omega (arith, is.1.1))
+shown_none (Made old) first is = absurd (omega (arith, is.2))
 
 pub read_none : (book : List ℕ) (step : Step) (first : Bool) → first ≡ is_first (take 78 book) → IsStepIn step first [] → ReadTo 78 [] step book
 read_none book step first same is = record {
@@ -71,10 +71,8 @@ step_more Due first bodies body is none =
       before_push bodies body test ∙ ap (λ (b : Bool). length bodies + cond b 0 1) (none refl) ∙ sym (length-append bodies (body ∷ [])),
     )
 step_more (Made old) first bodies body is none =
-    let test : has_no_step bodies ≡ false = has_step bodies (omega (arith, is.1.0, is.1.1)) in (
-      is.0,
-      (before_stays bodies body test ∙ is.1.0, omega (arith, is.1.1, length-append bodies (body ∷ []))),
-    )
+    let test : has_no_step bodies ≡ false = has_step bodies (omega (arith, is.1, is.2)) in
+    (is.0, before_stays bodies body test ∙ is.1, omega (arith, is.2, length-append bodies (body ∷ [])))
 
 pub made_due : (step : Step) (count : ℕ) → awaits step ≡ true → made_behind step count ≡ Made count
 made_due Never count due = absurd (cc due)
@@ -88,13 +86,13 @@ step_read Due made first bodies body is due step same =
     let test : has_no_step bodies ≡ true = eq-eqb (before_step bodies) (length bodies) is.1 in
     let zero : length bodies + 0 ≡ length bodies = omega arith in
     let here : before_step (bodies ++ body ∷ []) ≡ length bodies = before_push bodies body test ∙ ap (λ (b : Bool). length bodies + cond b 0 1) step ∙ zero in
-    subst (λ (s : Step). IsStepIn s first (bodies ++ body ∷ [])) (sym same) (is.0, (here, omega (arith, length-append bodies (body ∷ []))))
+    subst (λ (s : Step). IsStepIn s first (bodies ++ body ∷ [])) (sym same) (is.0, here, omega (arith, length-append bodies (body ∷ [])))
 step_read (Made old) made first bodies body is due step same = absurd (cc due)
 
 shown_more : (step : Step) (first : Bool) (bodies : List (List ℕ)) (gates : List ℕ) (gate : ℕ) → length gates ≡ length bodies → IsStepIn step first bodies → shown step (gates ++ gate ∷ []) ≡ shown step gates ++ gate ∷ []
 shown_more Never first bodies gates gate long is = refl
 shown_more Due first bodies gates gate long is = refl
-shown_more (Made old) first bodies gates gate long is = remove-append_left gates (gate ∷ []) old (omega (arith, long, is.1.1))
+shown_more (Made old) first bodies gates gate long is = remove-append_left gates (gate ∷ []) old (omega (arith, long, is.2))
 
 -- before the step record was read all gates are shown
 shown_due : (step : Step) (gates : List ℕ) → awaits step ≡ true → shown step gates ≡ gates

@@ -1,15 +1,15 @@
 -- The step record before a record, and what the two of them make of a Book's contents.
-use Rattle.std.proofs.Common.{◌≡◌, inl, inr, ⊎_elim, ℕ, ◌+◌, List, [], ◌∷◌, length, Bool, true, false, Some, refl, sym, ◌∙◌, ap, subst, arith}
+use Rattle.std.proofs.Common.{◌≡◌, inl, inr, ℕ, ◌+◌, ◌-◌, List, [], ◌∷◌, ◌++◌, length, Bool, true, false, Option, Some, refl, sym, ◌∙◌, ap, subst, arith}
 use Rattle.ov_disk.specs.Disk.{Image, OnlyBook, Told}
 use Rattle.ov_disk.specs.Tells.{DiskTells}
 use Rattle.ov_disk.proofs.Runs.{started, then_on, weaker}
 use Rattle.ov_journal.specs.Book.{contents_of, is_due, with_body}
 use Rattle.ov_journal.specs.Frames.{EndsAt, IsLaidOut, IsReady, IsWithoutOrWith, Layout, MakesReady, Puts, PutsAtMost, SaysNoMore, SaysTheSame, layout_of}
 use Rattle.ov_journal.specs.Lasting.{AddsAtMost, Lasts}
-use Rattle.ov_journal.specs.Log.{IsBeforeOrAfter}
+use Rattle.ov_journal.specs.Log.{IsBeforeOrAfter, Log, appended}
 use Rattle.ov_journal.specs.Making.{awaits, made_behind, old_of}
 use Rattle.ov_journal.specs.Runs.{end_from}
-use Rattle.ov_journal.specs.Steps.{step_body}
+use Rattle.ov_journal.specs.Steps.{step_body, step_size}
 use Rattle.ov_journal.specs.declared.step.Step.{Step}
 use Rattle.ov_journal.specs.declared.step.Step.TheVariants.{Never, Due, Made}
 use Rattle.ov_journal.proofs.Says.{contents_in, due_in, says_record, says_step, stays_settled, step_settles}
@@ -26,6 +26,22 @@ pub same_old : (step : Step) (count more : ℕ) → old_of (made_behind step cou
 same_old Never count more = refl
 same_old Due count more = refl
 same_old (Made old) count more = refl
+
+-- the journal with these parts
+abbrev pub log_of : List ℕ → ℕ → Bool → ℕ → ℕ → Option ℕ → Bool → Log
+log_of offsets end bad room longest step due = record { offsets = offsets; end = end; bad = bad; room = room; longest = longest; step = step; due = due }
+
+-- the journal with one record more
+pub is_appended : (offsets items : List ℕ) (end gate last n room longest count : ℕ) (bad : Bool) (step made : Step) → gate ≡ end + step_size (awaits step) → items ≡ offsets ++ gate ∷ []
+    → last ≡ gate + (5 + n) → made ≡ made_behind step count → count ≡ length offsets
+    → log_of items last bad (room - 1) longest (old_of made (length items)) (awaits made) ≡ appended n (log_of offsets end bad room longest (old_of step (length offsets)) (awaits step))
+is_appended offsets items end gate last n room longest count bad step made is_gate is_items is_last is_made is_count =
+    let items_are : items ≡ offsets ++ (end + step_size (awaits step)) ∷ [] = is_items ∙ ap (λ (g : ℕ). offsets ++ g ∷ []) is_gate in
+    let end_is : last ≡ end + step_size (awaits step) + 5 + n = omega (arith, is_last, is_gate) in
+    let step_is : old_of made (length items) ≡ old_of step (length offsets) =
+    ap (λ (s : Step). old_of s (length items)) is_made ∙ same_old step count (length items) ∙ ap (old_of step) is_count in
+    let due_is : awaits made ≡ false = ap awaits is_made ∙ settled step count in
+    λ k. record { offsets = items_are k; end = end_is k; bad = bad; room = room - 1; longest = longest; step = step_is k; due = due_is k }
 
 module _ {D : Type 0} (tells : DiskTells D) where
   -- each image has whole records and ends at this gate, with nothing pending
@@ -58,14 +74,16 @@ module _ {D : Type 0} (tells : DiskTells D) where
 
   -- ---- where it is put
 
+  step_alone : (d : D) (i : Image) → tells.reads d ≡ Some i → (layout_of i.book).run.bad ≡ false → is_due i.book ≡ true
+      → (c : Image) → IsWithoutOrWith (tells.may_leave d) i step_body c → SaysTheSame (tells.may_leave d) i c
+  step_alone d i is whole due c (inl same) = (ap contents_in same.0, same.1, same.2, same.3)
+  step_alone d i is whole due c (inr more) = (ap contents_in more.0 ∙ says_step (layout_of i.book) whole due, i, tells.reads_one d i is, more.1)
+
   pub says_step_alone : (d0 d1 : D) (end : ℕ) → Ends end d0 → Told (tells.reads d0) (λ i. is_due i.book ≡ true) → PutsAtMost tells step_body d0 d1 → SaysNoMore tells d0 d1
   says_step_alone d0 d1 end stands due puts = record {
     leaves = λ i is.
-        let whole = (stands i is).0.whole in
-        let m = tells.may_leave d0 in
-        weaker tells d0 d1 (IsWithoutOrWith m i step_body) (SaysTheSame m i) (puts.leaves i is) (λ c. ⊎_elim
-        (λ same. (ap contents_in same.0, same.1, same.2, same.3))
-        (λ more. (ap contents_in more.0 ∙ says_step (layout_of i.book) whole (due i is), i, tells.reads_one d0 i is, more.1)));
+        weaker tells d0 d1 (IsWithoutOrWith (tells.may_leave d0) i step_body) (SaysTheSame (tells.may_leave d0) i) (puts.leaves i is)
+        (step_alone d0 i is (stands i is).0.whole (due i is));
     untold = puts.untold;
     told = puts.told;
   }
@@ -111,20 +129,23 @@ module _ {D : Type 0} (tells : DiskTells D) where
           let one : ready.now ≡ k = cc (ready.is_read, is) in
           subst (λ (j : Image). EndsAt gate j.book × OnlyBook j.book (tells.may_leave d1)) one (ready.ends, ready.only)
 
+      body_behind : (body : List ℕ) (i : Image) (is : tells.reads d0 ≡ Some i) → (ready : IsReady tells gate d1 i)
+          → (c : Image) → IsWithoutOrWith (tells.may_leave d1) ready.now body c → IsBeforeOrAfter (tells.may_leave d0) i body c
+      body_behind body i is ready c (inl same) =
+          let from = makes.blobs i is same.1 same.2 in
+          inl (ap contents_in same.0 ∙ ready.says, from.0, from.1, same.3 ∙ from.2)
+      body_behind body i is ready c (inr more) = inr (
+        ap contents_in more.0 ∙ says_record (layout_of ready.now.book) body ready.ends.whole ready.settled ∙ ap (with_body body) ready.says,
+        more.1 ∙ ready.blobs_same,
+      )
+
       module _ (d2 : D) (body : List ℕ) where
         pub adds_body : SaysNoMore tells d0 d1 → PutsAtMost tells body d1 d2 → AddsAtMost tells body d0 d2
         adds_body says puts = record {
           leaves = λ i is.
               let ready = makes.ready i is in
-              let P = IsBeforeOrAfter (tells.may_leave d0) i body in
-              then_on tells d0 d1 d2 P (IsWithoutOrWith (tells.may_leave d1) ready.now body) ((adds_no_body body says).leaves i is) (puts.leaves ready.now ready.is_read) (λ c. ⊎_elim
-              (λ same.
-                  let from = makes.blobs i is same.1 same.2 in
-                  inl (ap contents_in same.0 ∙ ready.says, from.0, from.1, same.3 ∙ from.2))
-              (λ more. inr (
-                ap contents_in more.0 ∙ says_record (layout_of ready.now.book) body ready.ends.whole ready.settled ∙ ap (with_body body) ready.says,
-                more.1 ∙ ready.blobs_same,
-              )));
+              then_on tells d0 d1 d2 (IsBeforeOrAfter (tells.may_leave d0) i body) (IsWithoutOrWith (tells.may_leave d1) ready.now body)
+              ((adds_no_body body says).leaves i is) (puts.leaves ready.now ready.is_read) (body_behind body i is ready);
           untold = λ none. puts.untold (says.untold none);
           told = λ i is. let one = says.told i is in puts.told one.0 one.1;
         }

@@ -195,7 +195,8 @@ IsLow (Some old) bodies = old ≤ length bodies
 
 pub gates_of-push : (step : Option ℕ) (bodies : List (List ℕ)) (body : List ℕ) → IsLow step bodies → gates_of step (bodies ++ body ∷ []) ≡ gates_of step bodies ++ gate_behind step bodies ∷ []
 gates_of-push None bodies body low = gates_push 78 bodies body
-gates_of-push (Some old) bodies body low =
+gates_of-push (Some old) bodies body inside =
+    let low : old ≤ length bodies = inside in
     let g78 = gates_from 78 bodies in
     let g84 = gates_from 84 bodies in
     let e84 = end_from 84 bodies in
@@ -208,7 +209,8 @@ gates_of-push (Some old) bodies body low =
 
 pub gate_behind-push : (step : Option ℕ) (bodies : List (List ℕ)) (body : List ℕ) → IsLow step bodies → gate_behind step (bodies ++ body ∷ []) ≡ gate_behind step bodies + 5 + length body
 gate_behind-push None bodies body low = end_push 78 bodies body
-gate_behind-push (Some old) bodies body low =
+gate_behind-push (Some old) bodies body inside =
+    let low : old ≤ length bodies = inside in
     let one = le-leb old (length bodies) low in
     let two = le-leb old (length (bodies ++ body ∷ [])) (omega (arith, low, length-append bodies (body ∷ []))) in
     let same : end_from 78 (bodies ++ body ∷ []) + 6 ≡ end_from 78 bodies + 6 + 5 + length body = omega (arith, end_push 78 bodies body) in
@@ -236,5 +238,6 @@ gate_next (Some old) bodies body =
     let long : length (bodies ++ body ∷ []) ≡ n + 1 = length-append bodies (body ∷ []) in
     let end = end_push 78 bodies body in
     let between : step_size (leb old (n + 1)) ≡ step_size (leb old n) + step_size (n + 1 == old) = step_between old n in
-    ap (λ (m : ℕ). end_from 78 (bodies ++ body ∷ []) + step_size (leb old m)) long
-    ∙ omega (arith, end, between)
+    let further : end_from 78 (bodies ++ body ∷ []) + step_size (leb old (n + 1)) ≡ end_from 78 bodies + step_size (leb old n) + 5 + length body + step_size (n + 1 == old) =
+    omega (arith, end, between) in
+    ap (λ (m : ℕ). end_from 78 (bodies ++ body ∷ []) + step_size (leb old m)) long ∙ further

@@ -43,7 +43,7 @@ abbrev pub Nexts : Bool → List ℕ → Next → Type 0
 Nexts is_due bytes Closed = run_after 0 bytes ≡ record { bodies = []; bad = false }
 Nexts is_due bytes Bad = run_after 0 bytes ≡ record { bodies = []; bad = true }
 Nexts is_due bytes StepRecord =
-    (is_due ≡ true) × ((begins : BeginsRecord 1 bytes) × (is_step begins.body ≡ true))
+    (is_due ≡ true) × (begins : BeginsRecord 1 bytes) × (is_step begins.body ≡ true)
 Nexts is_due bytes (Record count) =
     (begins : BeginsRecord count bytes) × (is_due ≡ true → is_step begins.body ≡ false)
 

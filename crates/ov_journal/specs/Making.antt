@@ -28,7 +28,7 @@ abbrev pub IsStepIn : Step → Bool → List (List ℕ) → Type 0
 IsStepIn Never first bodies = first ≡ false
 IsStepIn Due first bodies = (first ≡ true) × (before_step bodies ≡ length bodies)
 IsStepIn (Made old) first bodies =
-    (first ≡ true) × ((before_step bodies ≡ old) × (old < length bodies))
+    (first ≡ true) × (before_step bodies ≡ old) × (old < length bodies)
 
 -- the gates of all records but the step record, of those of all
 abbrev pub shown : Step → List ℕ → List ℕ
