@@ -8,7 +8,7 @@ use Rattle.ov_disk.specs.Disk.{Image, OnlyBook}
 use Rattle.ov_disk.specs.Tells.{DiskTells}
 use Rattle.ov_journal.specs.Book.{Records, Contents, contents_of, is_due, is_first, place_if, with_body}
 use Rattle.ov_journal.specs.Frames.{EndsAt}
-use Rattle.ov_journal.specs.Log.{Log, latest_gate, AreInReach, IsLogOf, IsLogOfFirst, appended, made, next_gate, IsKept}
+use Rattle.ov_journal.specs.Log.{Log, latest_gate, AreInReach, HasSameRecords, IsLogOf, IsLogOfFirst, appended, made, next_gate, IsKept}
 use Rattle.ov_journal.specs.Making.{IsStepIn, awaits, old_of, shown}
 use Rattle.ov_journal.specs.Runs.{run_after, gates_from, end_from}
 use Rattle.ov_journal.specs.Steps.{gate_behind, gates_of, step_size}
@@ -117,6 +117,18 @@ whole_of book end ends =
     let run = run_after 78 book in
     records_bad (is_first (take 78 book)) run ∙ ap (λ (b : Bool). place_if b (end_from 78 run.bodies)) ends.whole
 
+-- journals with the same records stand for the same Books
+pub log_same : (old new : Log) (book : List ℕ) → HasSameRecords old new → IsLogOf old book → IsLogOf new book
+log_same old new book same is =
+    let made_same : made new ≡ made old = λ k. cond (same.due k) None (same.step k) in
+    record {
+      offsets = same.offsets ∙ is.offsets ∙ ap (λ (o : Option ℕ). gates_of o (contents_of book).records.bodies) (sym same.step);
+      end = same.end ∙ is.end ∙ ap (λ (o : Option ℕ). gate_behind o (contents_of book).records.bodies) (sym made_same);
+      bad = (λ k. place_if (same.bad k) (same.end k)) ∙ is.bad;
+      step = same.step ∙ is.step;
+      due = same.due ∙ is.due;
+    }
+
 -- ---- one record more
 
 pub log_appended : (log : Log) (book more : List ℕ) (body : List ℕ) → IsLogOf log book → log.bad ≡ false → contents_of more ≡ with_body body (contents_of book) → is_due more ≡ false
@@ -168,6 +180,20 @@ still_first log book more rest is split step = record {
   step = is.step ∙ sym step;
   all_old = all_old log book is;
 }
+
+-- journals with the same records have the first records of the same Books
+pub first_same : (old new : Log) (book : List ℕ) → HasSameRecords old new → IsLogOfFirst old book → IsLogOfFirst new book
+first_same old new book same is =
+    let made_same : made new ≡ made old = λ k. cond (same.due k) None (same.step k) in
+    record {
+      front = is.front;
+      rest = is.rest;
+      split = is.split;
+      offsets = same.offsets ∙ is.offsets ∙ ap (λ (o : Option ℕ). gates_of o is.front) (sym same.step);
+      end = same.end ∙ is.end ∙ ap (λ (o : Option ℕ). gate_behind o is.front) (sym made_same);
+      step = same.step ∙ is.step;
+      all_old = λ due. same.step ∙ is.all_old (sym same.due ∙ due);
+    }
 
 -- ---- gates in reach
 
