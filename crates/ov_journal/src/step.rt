@@ -86,9 +86,10 @@ pub fn put_step<D: Disk>(
     ensures capacity { vec_capacity frame.old ≤ vec_capacity frame.new }
     ensures call { IsDiskCall D.tells (IsErr result) disk.old disk.new }
 {
-    if !step.is_due() {
-        return Ok(end);
+    if step.is_due() {
+        put_record(disk, end, frame, &[STEP])?;
+        Ok(end + STEP_BYTES)
+    } else {
+        Ok(end)
     }
-    put_record(disk, end, frame, &[STEP])?;
-    Ok(end + STEP_BYTES)
 }
