@@ -12,13 +12,13 @@ use crate::record::put_record;
 use ov_disk::{Disk, DiskFault};
 
 /// The one byte that is the body of a step record.
-pub(crate) const STEP: u8 = 5;
+pub(crate) const STEP_MARK: u8 = 5;
 
 /// How many bytes of Book a step record takes.
 pub(crate) const STEP_BYTES: u64 = 6;
 
 /// Which records of a store are in the second form.
-#[derive(Clone, Copy, Debug, PartialEq, Eq)]
+#[derive(Clone, Copy)]
 pub enum Step {
     /// All: the store is of the second format, and has no step record.
     Never,
@@ -87,7 +87,7 @@ pub fn put_step<D: Disk>(
     ensures call { IsDiskCall D.tells (IsErr result) disk.old disk.new }
 {
     if step.is_due() {
-        put_record(disk, end, frame, &[STEP])?;
+        put_record(disk, end, frame, &[STEP_MARK])?;
         Ok(end + STEP_BYTES)
     } else {
         Ok(end)
