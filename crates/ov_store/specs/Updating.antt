@@ -19,8 +19,7 @@ use Rattle.ov_store.specs.declared.fault.StoreFault.TheVariants.{Refused, BadPla
 
 -- ---- what is answered
 
--- Why an update isn't made, whose sets have four words. A fault of the disk comes only to one that
--- is taken. Memory may be refused at any time, and that a store failed has a clause of its own.
+-- Why an update isn't made. A fault of the disk comes only to one that is taken. Memory may be refused at any time, and that a store failed has a clause of its own.
 abbrev pub IsFaultFor : Catalogue → Brief → StoreFault → Type 0
 IsFaultFor c b (Refused why) = refusal_shown c b ≡ Some why
 IsFaultFor c b (BadPlan place) =
