@@ -79,17 +79,14 @@ fn a_file_goes_to_and_fro(rt: HostRuntime) {
 #[test]
 fn a_creation_of_either_format_is_replayed_as_that(rt: HostRuntime) {
     let alloc = rt.alloc();
-    let (old, new) = (
-        create_of_first_format(&rt, alloc),
-        create(&rt, alloc, &[0]),
-    );
+    let (old, new) = (create_of_first_format(&rt, alloc), create(&rt, alloc, &[0]));
     let mut it = PlacedCatalogue::new(alloc, Mode::Full, 0).expect(&rt, "memory");
     assert!(rt; replayed_as(alloc, &mut it, Format::First, &enrol(&rt, alloc, b"a")).is_ok());
     assert!(rt; replayed(alloc, &mut it, &enrol(&rt, alloc, b"b")).is_ok());
-    // The set of 128 bytes ends past the end of the old body. In the first format the tokens of the
-    // new one are counted in its set, and bytes are left at the end.
-    assert!(rt; replayed_as(alloc, &mut it, Format::Second, &old) == in_book(GATE + 5 + 134));
-    assert!(rt; replayed_as(alloc, &mut it, Format::First, &new) == in_book(GATE + 5 + 75));
+    // With a set of 128 bytes the old body ends in the tag. With one of 32 the new body has no token,
+    // which isn't what the layers want.
+    assert!(rt; replayed_as(alloc, &mut it, Format::Second, &old) == in_book(GATE + 5 + 141));
+    assert!(rt; replayed_as(alloc, &mut it, Format::First, &new) == in_book(GATE));
     assert!(rt; replayed_as(alloc, &mut it, Format::First, &old).is_ok());
     assert!(rt; holds(&it, 0));
 }

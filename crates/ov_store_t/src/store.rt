@@ -5,6 +5,7 @@ ghost use Rattle.ov_history.specs.Briefs.{brief};
 ghost use Rattle.ov_state.specs.Plans.{IsFitting};
 
 mod callers;
+mod carried;
 mod damage;
 mod stored;
 
@@ -177,7 +178,7 @@ fn has(rt: &impl Abort, disk: &MemDisk, call: u64, from: usize, bytes: &[u8]) ->
 
 /// The Book of a new store in Delta mode.
 fn first_book(rt: &impl Abort, alloc: Global) -> Vec<u8> {
-    let mut book = b"\x01OVERENC1\x01\0\0\0\0"
+    let mut book = b"\x01OVERENC2\x01\0\0\0\0"
         .as_slice()
         .to_vec(alloc)
         .expect(rt, "memory");

@@ -7,8 +7,8 @@ use std::alloc::Global;
 use std::process::Abort;
 
 /// The number of bytes in the book of the small store. The gates of its records are at 78, 90, 100,
-/// 246, 258 and 305, and the last gate at 323.
-const ALL: usize = 324;
+/// 342, 354 and 401, and the last gate at 419.
+const ALL: usize = 420;
 
 /// The number of bytes in its Blobs: two blocks, of which the creation filled the first, and the
 /// revocation the second.
@@ -22,16 +22,16 @@ const ROWS: [(usize, u8, usize, Option<u64>); 47] = [
     (9, 2, ALL, Some(9)),
     (78, 0, ALL, None),
     (90, 2, ALL, None),
-    (323, 1, ALL, Some(324)),
+    (419, 1, ALL, Some(420)),
     // Lengths: no room for the body, past the longest, none.
     (79, 1, ALL, Some(79)),
     (80, 17, ALL, Some(79)),
     (82, 0, ALL, Some(79)),
-    (248, 1, ALL, Some(247)),
+    (344, 1, ALL, Some(343)),
     // Cut: behind the last body, in a length, behind a body, behind a gate, within a body.
-    (0, 1, 323, Some(306)),
-    (0, 1, 309, Some(306)),
-    (0, 1, 305, Some(259)),
+    (0, 1, 419, Some(402)),
+    (0, 1, 405, Some(402)),
+    (0, 1, 401, Some(355)),
     (0, 1, 91, Some(91)),
     (0, 1, 90, Some(79)),
     // No kind; another kind; lengths and bytes of a name; a body that goes on, or ends, too early.
@@ -47,34 +47,34 @@ const ROWS: [(usize, u8, usize, Option<u64>); 47] = [
     (82, 8, ALL, Some(90)),
     (82, 6, ALL, Some(89)),
     // A creation's number of tokens, and its length.
-    (140, 1, ALL, Some(140)),
-    (141, 1, ALL, Some(100)),
-    (238, 1, ALL, Some(238)),
-    (241, 4, ALL, None),
+    (236, 4, ALL, Some(236)),
+    (237, 1, ALL, Some(100)),
+    (334, 1, ALL, Some(334)),
+    (337, 4, ALL, None),
     // A file without bytes, which has no first block; bodies that go on behind the first blocks, or end
     // in one, before it, or in the update.
-    (241, 0, ALL, Some(242)),
-    (104, 142, ALL, Some(246)),
-    (104, 140, ALL, Some(245)),
-    (104, 137, ALL, Some(242)),
-    (104, 136, ALL, Some(241)),
-    (309, 12, ALL, Some(322)),
-    (309, 9, ALL, Some(319)),
+    (337, 0, ALL, Some(338)),
+    (104, 238, ALL, Some(342)),
+    (104, 236, ALL, Some(341)),
+    (104, 233, ALL, Some(338)),
+    (104, 232, ALL, Some(337)),
+    (405, 12, ALL, Some(418)),
+    (405, 9, ALL, Some(415)),
     // A grant's flag: another one, and one that isn't the plan's.
-    (272, 2, ALL, Some(272)),
-    (272, 0, ALL, Some(258)),
+    (368, 2, ALL, Some(368)),
+    (368, 0, ALL, Some(354)),
     // A grant of no user, of no file, and to a user on the list; a revocation from no user.
-    (267, 3, ALL, Some(258)),
-    (271, 1, ALL, Some(258)),
-    (267, 0, ALL, Some(258)),
-    (314, 3, ALL, Some(305)),
+    (363, 3, ALL, Some(354)),
+    (367, 1, ALL, Some(354)),
+    (363, 0, ALL, Some(354)),
+    (410, 3, ALL, Some(401)),
     // A list with nobody, and one that wants no tokens.
     (108, 0, ALL, Some(100)),
     (108, 1, ALL, Some(100)),
     // Two that are wrong: the first in order is told.
     (86, 33, 200, Some(86)),
-    (267, 3, 309, Some(258)),
-    (314, 3, 323, Some(306)),
+    (363, 3, 405, Some(354)),
+    (410, 3, 419, Some(402)),
 ];
 
 /// A place in the book and the byte that is put there, the length to which Blobs is then cut, and
@@ -87,17 +87,17 @@ const BLOBS_ROWS: [(usize, u8, usize, Option<u64>); 14] = [
     (0, 1, 4095, Some(0)),
     (0, 1, 0, Some(0)),
     // A block in use: by a later record, by the one before, and by a file that is longer.
-    (245, 1, ALL_BLOBS, Some(4096)),
-    (322, 0, ALL_BLOBS, Some(0)),
-    (240, 16, ALL_BLOBS, Some(4096)),
+    (341, 1, ALL_BLOBS, Some(4096)),
+    (418, 0, ALL_BLOBS, Some(0)),
+    (336, 16, ALL_BLOBS, Some(4096)),
     // Past the end of Blobs: by one block, by the most, by the last record, by a longer file.
-    (245, 2, ALL_BLOBS, Some(8192)),
-    (242, 128, ALL_BLOBS, Some(8_796_093_022_208)),
-    (322, 2, ALL_BLOBS, Some(8192)),
-    (239, 1, ALL_BLOBS, Some(0)),
+    (341, 2, ALL_BLOBS, Some(8192)),
+    (338, 128, ALL_BLOBS, Some(8_796_093_022_208)),
+    (418, 2, ALL_BLOBS, Some(8192)),
+    (335, 1, ALL_BLOBS, Some(0)),
     // Two that are wrong: the first record is told.
-    (322, 0, 4095, Some(0)),
-    (245, 2, 4096, Some(8192)),
+    (418, 0, 4095, Some(0)),
+    (341, 2, 4096, Some(8192)),
 ];
 
 /// A disk with one byte of its book changed, and both areas cut.
