@@ -1,13 +1,11 @@
--- An append, call by call.
+-- The append of a record, call by call.
 use Rattle.std.proofs.Common.{◌≡◌, inl, inr, ⊎_elim, ℕ, ◌+◌, ◌≤◌, List, [], ◌∷◌, length, Some, refl, ◌∙◌, ap, subst, arith}
 use Rattle.ov_disk.specs.Disk.{Image, overwritten, written, Torn, TornIn, Follows, Narrows, Only, OnlyBook}
 use Rattle.ov_disk.specs.Moments.{Elapses, LeavesOnly}
 use Rattle.ov_disk.specs.Tells.{DiskTells}
 use Rattle.ov_disk.specs.declared.area.Area.TheVariants.{Book}
 use Rattle.ov_disk.proofs.Runs.{started, goes_on}
-use Rattle.ov_journal.specs.Book.{contents_of, with_body}
-use Rattle.ov_journal.specs.Frames.{framed, EndsAt}
-use Rattle.ov_journal.specs.Log.{IsBeforeOrAfter, IsKept}
+use Rattle.ov_journal.specs.Frames.{framed, EndsAt, IsLaidOut, IsWithoutOrWith, layout_of, with_record}
 use Rattle.ov_journal.specs.Taking.{IsBody}
 use Rattle.ov_journal.proofs.Ends.{torn_same, torn_either, staged, opened, is_staged, is_opened, opened_reads, staged_long}
 
@@ -26,7 +24,7 @@ pub record Appends (outcomes : Image → Type 0) (i : Image) (end : ℕ) (body f
 
 module _ {D : Type 0} (tells : DiskTells D) (d0 : D) {i : Image} {end : ℕ} {body frame : List ℕ} (b : Appends (tells.may_leave d0) i end body frame) where
   abbrev P : Image → Type 0
-  P = IsBeforeOrAfter (tells.may_leave d0) i body
+  P = IsWithoutOrWith (tells.may_leave d0) i body
 
   -- with the record behind the gate
   abbrev pub i1 : Image
@@ -49,7 +47,7 @@ module _ {D : Type 0} (tells : DiskTells D) (d0 : D) {i : Image} {end : ℕ} {bo
       ⊎_elim (λ same. inl (same, i, b.mine, blobs)) (λ more. inr (more, blobs)) (torn_either end i.book b.stands.0 body b.size.some b.size.most c.book torn)
 
   at_start : LeavesOnly tells d0 d0 P
-  at_start = started tells d0 P (λ c now. inl (ap contents_of (b.stands.1 c now), c, now, refl))
+  at_start = started tells d0 P (λ c now. inl (ap layout_of (b.stands.1 c now), c, now, refl))
 
   module _ (d1 : D) (time1 : Elapses tells d0 d1) (crash1 : Follows (TornIn Book (end + 1) (length frame)) (tells.may_leave d0) (tells.may_leave d1)) where
     pub first : LeavesOnly tells d0 d1 P
@@ -69,14 +67,14 @@ module _ {D : Type 0} (tells : DiskTells D) (d0 : D) {i : Image} {end : ℕ} {bo
 -- after the last call
 pub is_kept : {D : Type 0} (tells : DiskTells D) (disk : D) (i : Image) (end : ℕ) (ends : EndsAt end i.book) (body frame : List ℕ) → IsBody body
     → frame ≡ framed body → tells.reads disk ≡ Some (written Book end (1 ∷ []) (written Book (end + 1) frame i))
-    → Only (written Book end (1 ∷ []) (written Book (end + 1) frame i)) (tells.may_leave disk) → IsKept tells disk (with_body body (contents_of i.book)) i.blobs
+    → Only (written Book end (1 ∷ []) (written Book (end + 1) frame i)) (tells.may_leave disk) → IsLaidOut tells disk (with_record body (layout_of i.book)) i.blobs
 is_kept tells disk i end ends body frame size is_frame is only =
     let book : overwritten end (1 ∷ []) (overwritten (end + 1) frame i.book) ≡ opened end i.book ends body =
     ap (λ (l : List ℕ). overwritten end (1 ∷ []) (overwritten (end + 1) l i.book)) is_frame ∙ ap (overwritten end (1 ∷ [])) (is_staged end i.book ends body) ∙ is_opened end i.book ends body in
     record {
       now = written Book end (1 ∷ []) (written Book (end + 1) frame i);
       is_read = is;
-      book = ap contents_of book ∙ opened_reads end i.book ends body size.some size.most;
+      book = ap layout_of book ∙ opened_reads end i.book ends body size.some size.most;
       blobs_same = refl;
       only = only;
     }

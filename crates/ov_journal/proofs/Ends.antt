@@ -5,8 +5,8 @@ use Rattle.ov_base.specs.declared.limits.TheConstants.{MAX_RECORD_BYTES}
 use Rattle.std.proofs.lemmas.List.{take_at, drop_at, drop_more, length-take-le}
 use Rattle.std.proofs.lemmas.Bool.{cases_eq}
 use Rattle.ov_disk.specs.Disk.{overwritten, Torn}
-use Rattle.ov_journal.specs.Book.{Records, records_after, contents_of, with_body}
-use Rattle.ov_journal.specs.Frames.{framed, EndsAt}
+use Rattle.ov_journal.specs.Runs.{Run, run_after}
+use Rattle.ov_journal.specs.Frames.{framed, EndsAt, layout_of, with_record}
 use Rattle.ov_journal.proofs.Reading.{prepended, end_from-size, take_front, closed_reads, IsFront, front_reads, frame_reads}
 
 drop_further : (front : List ℕ) (g : ℕ) (rest : List ℕ) (p n : ℕ) → p ≡ length front → drop (p + 1 + n) (front ++ g ∷ rest) ≡ drop n rest
@@ -57,7 +57,7 @@ module _ (front : List ℕ) (p : ℕ) (size : length front ≡ p) where
 -- a Book with whole records and a gate at `end` that isn't open
 module _ (end : ℕ) (book : List ℕ) (ends : EndsAt end book) where
   abbrev bodies : List (List ℕ)
-  bodies = (records_after 78 book).bodies
+  bodies = (run_after 78 book).bodies
 
   pub is_front : IsFront 78 end book
   is_front = front_reads book 78 end ends.whole (ends.end_is ∙ end_from-size 78 bodies)
@@ -81,19 +81,19 @@ module _ (end : ℕ) (book : List ℕ) (ends : EndsAt end book) where
   parts = sym (take-append-drop end book) ∙ ap (λ (l : List ℕ). front ++ l) (drop_more book end 0 is_front.inside)
 
   -- what is at the end decides the rest
-  on_front : (t : List ℕ) (r : Records) → 1 ≤ length t → records_after 0 t ≡ r → contents_of (front ++ t) ≡ record { head = take 78 book; records = prepended bodies r }
+  on_front : (t : List ℕ) (r : Run) → 1 ≤ length t → run_after 0 t ≡ r → layout_of (front ++ t) ≡ record { head = take 78 book; run = prepended bodies r }
   on_front t r some is =
-      let records : records_after 78 (front ++ t) ≡ prepended bodies r = is_front.reads t some ∙ ap (prepended bodies) is in
-      λ i. record { head = take_front 78 end book t past_header (omega (arith, is_front.inside)) i; records = records i }
+      let run : run_after 78 (front ++ t) ≡ prepended bodies r = is_front.reads t some ∙ ap (prepended bodies) is in
+      λ i. record { head = take_front 78 end book t past_header (omega (arith, is_front.inside)) i; run = run i }
 
-  -- the contents of Book are the same with any gate there that isn't open, whatever follows it
-  pub shut_same : (g : ℕ) (more c : List ℕ) → g ≢ 1 → c ≡ front ++ g ∷ more → contents_of c ≡ contents_of book
+  -- Book stands the same with any gate there that isn't open, whatever follows it
+  pub shut_same : (g : ℕ) (more c : List ℕ) → g ≢ 1 → c ≡ front ++ g ∷ more → layout_of c ≡ layout_of book
   shut_same g more c shut is =
-      let none : Records = record { bodies = []; bad = false } in
-      ap contents_of is ∙ on_front (g ∷ more) none (omega arith) (closed_reads g more shut)
-      ∙ sym (ap contents_of parts ∙ on_front (gate ∷ rest) none (omega arith) (closed_reads gate rest is_front.closed))
+      let none : Run = record { bodies = []; bad = false } in
+      ap layout_of is ∙ on_front (g ∷ more) none (omega arith) (closed_reads g more shut)
+      ∙ sym (ap layout_of parts ∙ on_front (gate ∷ rest) none (omega arith) (closed_reads gate rest is_front.closed))
 
-  pub torn_same : (n : ℕ) (c : List ℕ) → Torn (end + 1) n book c → contents_of c ≡ contents_of book
+  pub torn_same : (n : ℕ) (c : List ℕ) → Torn (end + 1) n book c → layout_of c ≡ layout_of book
   torn_same n c torn = shut_same gate (drop (end + 1) c) c is_front.closed (torn_behind front end front_long gate n rest c (subst (λ (l : List ℕ). Torn (end + 1) n l c) parts torn))
 
   module _ (body : List ℕ) where
@@ -117,16 +117,16 @@ module _ (end : ℕ) (book : List ℕ) (ends : EndsAt end book) where
     staged_long = omega (arith, long front end front_long gate more)
 
     module _ (some : 1 ≤ length body) (most : length body ≤ MAX_RECORD_BYTES) where
-      pub opened_reads : contents_of opened ≡ with_body body (contents_of book)
+      pub opened_reads : layout_of opened ≡ with_record body (layout_of book)
       opened_reads =
           on_front (1 ∷ more) (record { bodies = body ∷ []; bad = false }) (omega arith) (frame_reads body (drop (length (framed body)) rest) some most)
-          ∙ (λ i. record { head = take 78 book; records = record { bodies = bodies ++ body ∷ []; bad = sym ends.whole i } })
+          ∙ (λ i. record { head = take 78 book; run = record { bodies = bodies ++ body ∷ []; bad = sym ends.whole i } })
 
       -- with the body or without, whatever the gate
-      pub torn_either : (c : List ℕ) → Torn end 1 staged c → (contents_of c ≡ contents_of book) ⊎ (contents_of c ≡ with_body body (contents_of book))
+      pub torn_either : (c : List ℕ) → Torn end 1 staged c → (layout_of c ≡ layout_of book) ⊎ (layout_of c ≡ with_record body (layout_of book))
       torn_either c torn =
           let is = torn_gate front end front_long gate more c torn in
           elim (cases_eq (get_or c end 0) 1) [
-            | inl open_gate ↦ inr (ap contents_of (is ∙ ap (λ (g : ℕ). front ++ g ∷ more) open_gate) ∙ opened_reads)
+            | inl open_gate ↦ inr (ap layout_of (is ∙ ap (λ (g : ℕ). front ++ g ∷ more) open_gate) ∙ opened_reads)
             | inr shut ↦ inl (shut_same (get_or c end 0) more c shut is)
           ]

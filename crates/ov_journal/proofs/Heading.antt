@@ -7,9 +7,10 @@ use Rattle.std.proofs.lemmas.Nat.{be_bytes_4}
 use Rattle.std.specs.Int.{w32, to_be_bytes, from_be_bytes}
 use Rattle.ov_base.specs.Modes.{mode_byte}
 use Rattle.ov_journal.specs.declared.header.Header.{Header}
-use Rattle.ov_journal.specs.Book.{magic, spelled, length_in, body_in, Records, past_gate, records_after}
+use Rattle.ov_journal.specs.Book.{magic, spelled}
+use Rattle.ov_journal.specs.Runs.{length_in, body_in, Run, past_gate, run_after}
 use Rattle.ov_journal.specs.Heads.{BeginsRecord}
-use Rattle.ov_journal.proofs.Reading.{Fits, fits_is, length-body_in, records_after-drop}
+use Rattle.ov_journal.proofs.Reading.{Fits, fits_is, length-body_in, run_after-drop}
 
 -- a part of some bytes is bytes
 part_fits : (l : List ℕ) → ((i : ℕ) → get_or l i 0 < 256) → (n k i : ℕ) → get_or (take k (drop n l)) i 0 < 256
@@ -39,19 +40,19 @@ begins [] count gate is some most room = absurd (omega (arith, room))
 begins (g ∷ rest) count gate is some most room =
     let f : Fits rest = record { some = omega (arith, is, some); most = omega (arith, is, most); room = omega (arith, is, room) } in
     let skip : 4 + count ≡ length_in rest + 4 = omega (arith, is) in
-    let tail : records_after (length_in rest + 4) rest ≡ records_after 0 (drop (4 + count) rest) =
-    records_after-drop (length_in rest + 4) rest ∙ ap (λ (m : ℕ). records_after 0 (drop m rest)) (sym skip) in
+    let tail : run_after (length_in rest + 4) rest ≡ run_after 0 (drop (4 + count) rest) =
+    run_after-drop (length_in rest + 4) rest ∙ ap (λ (m : ℕ). run_after 0 (drop m rest)) (sym skip) in
     let behind : drop (5 + count) (g ∷ rest) ≡ drop (4 + count) rest =
     let next : 5 + count ≡ suc (4 + count) = omega arith in ap (λ (m : ℕ). drop m (g ∷ rest)) next in
-    let here : records_after 0 (g ∷ rest) ≡ record { bodies = body_in rest ∷ (records_after 0 (drop (4 + count) rest)).bodies; bad = (records_after 0 (drop (4 + count) rest)).bad } =
-    ap (λ (x : ℕ). records_after 0 (x ∷ rest)) gate ∙ (λ i. past_gate true (fits_is rest f i) (body_in rest) (tail i)) in
+    let here : run_after 0 (g ∷ rest) ≡ record { bodies = body_in rest ∷ (run_after 0 (drop (4 + count) rest)).bodies; bad = (run_after 0 (drop (4 + count) rest)).bad } =
+    ap (λ (x : ℕ). run_after 0 (x ∷ rest)) gate ∙ (λ i. past_gate true (fits_is rest f i) (body_in rest) (tail i)) in
     record {
       body = body_in rest;
       long = length-body_in rest f ∙ sym is;
       most = most;
       inside = omega (arith, room);
-      bodies = ap (λ (r : Records). r.bodies) here ∙ ap (λ (l : List ℕ). body_in rest ∷ (records_after 0 l).bodies) (sym behind);
-      bad = ap (λ (r : Records). r.bad) here ∙ ap (λ (l : List ℕ). (records_after 0 l).bad) (sym behind);
+      bodies = ap (λ (r : Run). r.bodies) here ∙ ap (λ (l : List ℕ). body_in rest ∷ (run_after 0 l).bodies) (sym behind);
+      bad = ap (λ (r : Run). r.bad) here ∙ ap (λ (l : List ℕ). (run_after 0 l).bad) (sym behind);
     }
 
 -- the length field of a record whose first five bytes were read

@@ -6,12 +6,11 @@ use Rattle.std.proofs.lemmas.Bool.{le-leb, leb-true, and_parts}
 use Rattle.std.proofs.lemmas.Bool.Decides.{nat_tests}
 use Rattle.std.proofs.lemmas.Nat.{from_be_bytes-to_be_bytes_4}
 use Rattle.std.specs.Int.{w32, to_be_bytes, from_be_bytes}
-use Rattle.ov_journal.specs.Book.{length_in, is_length, body_in, Records, past_gate, records_after}
+use Rattle.ov_journal.specs.Runs.{length_in, is_length, body_in, Run, past_gate, run_after, end_from}
 use Rattle.ov_journal.specs.Frames.{framed}
-use Rattle.ov_journal.specs.Log.{end_from}
 
 -- these bodies, and then what follows
-abbrev pub prepended : List (List ℕ) → Records → Records
+abbrev pub prepended : List (List ℕ) → Run → Run
 prepended bodies more = record { bodies = bodies ++ more.bodies; bad = more.bad }
 
 -- how many bytes the records of these bodies have
@@ -24,10 +23,10 @@ end_from-size place [] = omega arith
 end_from-size place (body ∷ bodies) = omega (arith, end_from-size (place + 5 + length body) bodies)
 
 -- passing over bytes is dropping them
-pub records_after-drop : (skip : ℕ) (bytes : List ℕ) → records_after skip bytes ≡ records_after 0 (drop skip bytes)
-records_after-drop zero bytes = refl
-records_after-drop (suc skip) [] = refl
-records_after-drop (suc skip) (byte ∷ rest) = records_after-drop skip rest
+pub run_after-drop : (skip : ℕ) (bytes : List ℕ) → run_after skip bytes ≡ run_after 0 (drop skip bytes)
+run_after-drop zero bytes = refl
+run_after-drop (suc skip) [] = refl
+run_after-drop (suc skip) (byte ∷ rest) = run_after-drop skip rest
 
 -- what begins a list begins what begins it
 pub take_front : (m n : ℕ) (xs t : List ℕ) → m ≤ n → n ≤ length xs → take m (take n xs ++ t) ≡ take m xs
@@ -60,25 +59,25 @@ pub is_closed : (gate : ℕ) → gate ≢ 1 → (gate == 1) ≡ false
 is_closed gate shut = grind (arith, nat_tests)
 
 -- a gate that isn't open ends the records
-pub closed_reads : (gate : ℕ) (rest : List ℕ) → gate ≢ 1 → records_after 0 (gate ∷ rest) ≡ record { bodies = []; bad = false }
-closed_reads gate rest shut = ap (λ (b : Bool). past_gate b (is_length rest) (body_in rest) (records_after (length_in rest + 4) rest)) (is_closed gate shut)
+pub closed_reads : (gate : ℕ) (rest : List ℕ) → gate ≢ 1 → run_after 0 (gate ∷ rest) ≡ record { bodies = []; bad = false }
+closed_reads gate rest shut = ap (λ (b : Bool). past_gate b (is_length rest) (body_in rest) (run_after (length_in rest + 4) rest)) (is_closed gate shut)
 
 -- Whole records are the front of a Book: at their end is a gate that isn't open, and whatever is there
 -- instead, they are read before it.
 pub record IsFront (skip end : ℕ) (bytes : List ℕ) : Type 0 where
   pub inside : end < length bytes
   pub closed : get_or bytes end 0 ≢ 1
-  pub reads : (t : List ℕ) → 1 ≤ length t → records_after skip (take end bytes ++ t) ≡ prepended (records_after skip bytes).bodies (records_after 0 t)
+  pub reads : (t : List ℕ) → 1 ≤ length t → run_after skip (take end bytes ++ t) ≡ prepended (run_after skip bytes).bodies (run_after 0 t)
 
 -- Whole records are the front of the bytes from a gate on: at their end is a gate that isn't open,
 -- and whatever comes instead of it, these bodies are read before it.
 record IsFrontOf (end : ℕ) (bytes : List ℕ) (bodies : List (List ℕ)) : Type 0 where
   inside : end < length bytes
   closed : get_or bytes end 0 ≢ 1
-  reads : (t : List ℕ) → 1 ≤ length t → records_after 0 (take end bytes ++ t) ≡ prepended bodies (records_after 0 t)
+  reads : (t : List ℕ) → 1 ≤ length t → run_after 0 (take end bytes ++ t) ≡ prepended bodies (run_after 0 t)
 
-open_reads : (rest x : List ℕ) → Fits rest → length_in rest + 4 < length x → take (length_in rest + 4) x ≡ take (length_in rest + 4) rest → records_after 0 (1 ∷ x)
-    ≡ record { bodies = body_in rest ∷ (records_after (length_in rest + 4) x).bodies; bad = (records_after (length_in rest + 4) x).bad }
+open_reads : (rest x : List ℕ) → Fits rest → length_in rest + 4 < length x → take (length_in rest + 4) x ≡ take (length_in rest + 4) rest → run_after 0 (1 ∷ x)
+    ≡ record { bodies = body_in rest ∷ (run_after (length_in rest + 4) x).bodies; bad = (run_after (length_in rest + 4) x).bad }
 open_reads rest x f long same =
     let n = length_in rest in
     let whole : n + 4 ≡ 4 + n = omega arith in
@@ -90,11 +89,11 @@ open_reads rest x f long same =
     ap (λ (m : ℕ). take m (drop 4 x)) number ∙ sym (drop-take 4 n x) ∙ ap (λ (m : ℕ). drop 4 (take m x)) (sym whole) ∙ ap (λ (l : List ℕ). drop 4 l) same
     ∙ ap (λ (m : ℕ). drop 4 (take m rest)) whole ∙ drop-take 4 n rest in
     let test : is_length x ≡ true = fits_is x (record { some = omega (arith, number, f.some); most = omega (arith, number, f.most); room = omega (arith, number, long) }) in
-    λ i. past_gate true (test i) (body i) (records_after (number i + 4) x)
+    λ i. past_gate true (test i) (body i) (run_after (number i + 4) x)
 
 at_gate : (gate : ℕ) (rest : List ℕ) (open_gate can : Bool) → (gate == 1) ≡ open_gate → is_length rest ≡ can → (end : ℕ)
-    → let r = past_gate open_gate can (body_in rest) (records_after (length_in rest + 4) rest) in r.bad ≡ false → end ≡ size_of r.bodies
-    → ((e : ℕ) → (records_after (length_in rest + 4) rest).bad ≡ false → e ≡ length_in rest + 4 + size_of (records_after (length_in rest + 4) rest).bodies → IsFront (length_in rest + 4) e rest)
+    → let r = past_gate open_gate can (body_in rest) (run_after (length_in rest + 4) rest) in r.bad ≡ false → end ≡ size_of r.bodies
+    → ((e : ℕ) → (run_after (length_in rest + 4) rest).bad ≡ false → e ≡ length_in rest + 4 + size_of (run_after (length_in rest + 4) rest).bodies → IsFront (length_in rest + 4) e rest)
     → IsFrontOf end (gate ∷ rest) r.bodies
 at_gate gate rest false can is fit zero whole end_is on = record {
   inside = omega arith;
@@ -116,12 +115,12 @@ at_gate gate rest true true is fit (suc e) whole end_is on =
       reads = λ t some.
           let x = take e rest ++ t in
           let long : length x ≡ e + length t = omega (arith, length-append (take e rest) t, length-take-le e rest (omega (arith, behind.inside))) in
-          ap (λ (g : ℕ). records_after 0 (g ∷ x)) is_open
+          ap (λ (g : ℕ). run_after 0 (g ∷ x)) is_open
           ∙ open_reads rest x f (omega (arith, long, past, some)) (take_front (n + 4) e rest t past (omega (arith, behind.inside)))
-          ∙ ap (λ (r : Records). record { bodies = body_in rest ∷ r.bodies; bad = r.bad }) (behind.reads t some);
+          ∙ ap (λ (r : Run). record { bodies = body_in rest ∷ r.bodies; bad = r.bad }) (behind.reads t some);
     }
 
-pub front_reads : (bytes : List ℕ) (skip end : ℕ) → (records_after skip bytes).bad ≡ false → end ≡ skip + size_of (records_after skip bytes).bodies → IsFront skip end bytes
+pub front_reads : (bytes : List ℕ) (skip end : ℕ) → (run_after skip bytes).bad ≡ false → end ≡ skip + size_of (run_after skip bytes).bodies → IsFront skip end bytes
 front_reads [] skip end whole end_is = absurd (cc whole)
 front_reads (byte ∷ rest) (suc skip) zero whole end_is = absurd (omega (arith, end_is))
 front_reads (byte ∷ rest) (suc skip) (suc end) whole end_is =
@@ -132,7 +131,7 @@ front_reads (gate ∷ rest) zero end whole end_is =
     record { inside = here.inside; closed = here.closed; reads = here.reads }
 
 -- a record that was written behind an open gate
-pub frame_reads : (body rest : List ℕ) → 1 ≤ length body → length body ≤ MAX_RECORD_BYTES → records_after 0 (1 ∷ (framed body ++ rest)) ≡ record { bodies = body ∷ []; bad = false }
+pub frame_reads : (body rest : List ℕ) → 1 ≤ length body → length body ≤ MAX_RECORD_BYTES → run_after 0 (1 ∷ (framed body ++ rest)) ≡ record { bodies = body ∷ []; bad = false }
 frame_reads body rest some most =
     let size = to_be_bytes w32 (length body) in
     let x = framed body ++ rest in
@@ -147,5 +146,5 @@ frame_reads body rest some most =
     let whole : length_in x + 4 ≡ 4 + length body = omega (arith, number) in
     ap (λ (m : ℕ). drop m x) whole ∙ ap (λ (l : List ℕ). drop (4 + length body) l) (append_assoc (size ++ body) (0 ∷ []) rest)
     ∙ drop_at (size ++ body) (0 ∷ rest) (4 + length body) (omega (arith, length-append size body)) in
-    let more : records_after (length_in x + 4) x ≡ record { bodies = []; bad = false } = records_after-drop (length_in x + 4) x ∙ ap (records_after 0) tail in
+    let more : run_after (length_in x + 4) x ≡ record { bodies = []; bad = false } = run_after-drop (length_in x + 4) x ∙ ap (run_after 0) tail in
     λ i. past_gate true (test i) (is_body i) (more i)

@@ -1,11 +1,11 @@
--- What a Book says, read from the whole of it: a header of 78 bytes, and then records. A record is
--- a gate of one byte, the length of its body in four bytes, and the body. The first gate that isn't
--- open ends the records, and what follows it doesn't count.
-use Rattle.std.specs.Prelude.{◌≡◌, ◌⊎◌, ◌<◌, ◌^◌, ℕ, zero, suc, ◌+◌, List, [], ◌∷◌, ◌++◌, length, take, drop}
-use Rattle.std.specs.Prelude.{Bool, true, false, ◌==◌, ◌&&◌, leb, codes}
-use Rattle.ov_base.specs.declared.limits.TheConstants.{MAX_RECORD_BYTES}
-use Rattle.std.specs.Int.{w32, to_be_bytes, from_be_bytes}
+-- What a Book says, read from the whole of it: a header of 78 bytes, and then records. In a store of
+-- the first format one of them may be a step record, and it says only in which form the others are.
+use Rattle.std.specs.Prelude.{◌≡◌, ◌⊎◌, ◌<◌, ◌^◌, ℕ, ◌+◌, List, [], ◌∷◌, ◌++◌, length, take, slice_index}
+use Rattle.std.specs.Prelude.{Bool, true, false, ◌==◌, ◌&&◌, codes, Option, Some, None}
+use Rattle.std.specs.Int.{w32, to_be_bytes}
 use Rattle.ov_base.specs.Modes.{mode_byte}
+use Rattle.ov_journal.specs.Runs.{Run, run_after, end_from}
+use Rattle.ov_journal.specs.Steps.{before_step, without_step, has_no_step}
 use Rattle.ov_journal.specs.declared.header.Header.{Header}
 
 -- the formats of stores
@@ -16,8 +16,8 @@ IsFormat format = (format ≡ 1) ⊎ (format ≡ 2)
 abbrev pub magic : ℕ → List ℕ
 magic format = codes "OVERENC" ++ (48 + format) ∷ []
 
--- a header behind its gate: the magic of its format, the mode, the epoch at which the store began, and the check
--- values of the base master and of the surface master
+-- a header behind its gate: the magic of its format, the mode, the epoch at which the store began,
+-- and the check values of the base master and of the surface master
 abbrev pub header_bytes : Header → List ℕ
 header_bytes h =
     magic h.format ++ mode_byte h.mode ∷ to_be_bytes w32 h.first ++ h.base_check ++ h.surface_check
@@ -38,39 +38,36 @@ HeadersAreSpelledApart =
     (one other : Header) → HasHeaderForm one → HasHeaderForm other
     → header_bytes one ≡ header_bytes other → one ≡ other
 
--- the length field that begins these bytes
-abbrev pub length_in : List ℕ → ℕ
-length_in rest = from_be_bytes w32 (take 4 rest)
+-- a Book that begins with these bytes is of the first format, by the last digit of its magic
+abbrev pub is_first : List ℕ → Bool
+is_first head = slice_index head 8 == 49
 
--- a length from 1 to 1,114,112 that leaves room for the body and one more byte
-abbrev pub is_length : List ℕ → Bool
-is_length rest =
-    leb 1 (length_in rest) && leb (length_in rest) MAX_RECORD_BYTES
-    && leb (length_in rest + 5) (length rest)
+-- the place of a length that can't be, behind the gate at this place
+abbrev pub place_if : Bool → ℕ → Option ℕ
+place_if false gate = None
+place_if true gate = Some (gate + 1)
 
--- the body behind the length field
-abbrev pub body_in : List ℕ → List ℕ
-body_in rest = take (length_in rest) (drop 4 rest)
-
--- The bodies of the records before the first gate that isn't open. `bad` says that an open gate
--- with a length that can't be, or no gate at all, ended them in its place.
+-- What the records of a Book say. `bodies` are those of all records but the step record. `step` is
+-- how many of them come before it, in a store of the first format: all, where it has none yet. So a
+-- step record that was written behind the last record, and nothing more, changes nothing of this.
+-- `bad` is the place of the length that can't be and ended the records, where one did.
 pub record Records : Type 0 where
   pub bodies : List (List ℕ)
-  pub bad : Bool
+  pub step : Option ℕ
+  pub bad : Option ℕ
 
--- what a gate says: whether it is open, whether its length can be, its body, and the records behind
--- it
-abbrev pub past_gate : Bool → Bool → List ℕ → Records → Records
-past_gate false fits body more = record { bodies = []; bad = false }
-past_gate true false body more = record { bodies = []; bad = true }
-past_gate true true body more = record { bodies = body ∷ more.bodies; bad = more.bad }
-
--- the records of these bytes, after this many that are passed over
-abbrev pub records_after : ℕ → List ℕ → Records
-records_after skip [] = record { bodies = []; bad = true }
-records_after (suc skip) (byte ∷ rest) = records_after skip rest
-records_after zero (gate ∷ rest) =
-    past_gate (gate == 1) (is_length rest) (body_in rest) (records_after (length_in rest + 4) rest)
+-- what these records say in a store of the first format, or of the second, which has no step record
+abbrev pub records_in : Bool → Run → Records
+records_in true run = record {
+  bodies = without_step run.bodies;
+  step = Some (before_step run.bodies);
+  bad = place_if run.bad (end_from 78 run.bodies);
+}
+records_in false run = record {
+  bodies = run.bodies;
+  step = None;
+  bad = place_if run.bad (end_from 78 run.bodies);
+}
 
 -- a Book's first 78 bytes, and its records
 pub record Contents : Type 0 where
@@ -79,22 +76,41 @@ pub record Contents : Type 0 where
 
 -- what a Book says
 abbrev pub contents_of : List ℕ → Contents
-contents_of book = record { head = take 78 book; records = records_after 78 book }
+contents_of book = record {
+  head = take 78 book;
+  records = records_in (is_first (take 78 book)) (run_after 78 book);
+}
 
--- a store with this header and these bodies, whole
-abbrev pub born : Header → List (List ℕ) → Contents
-born h bodies = record { head = spelled h; records = record { bodies = bodies; bad = false } }
+-- The Book is of the first format and has no step record, so that its next record has to follow
+-- one.
+abbrev pub is_due : List ℕ → Bool
+is_due book = is_first (take 78 book) && has_no_step (run_after 78 book).bodies
+
+-- a store with this header, this many bodies before its step record, and these bodies, whole
+abbrev pub born : Header → Option ℕ → List (List ℕ) → Contents
+born h step bodies = record {
+  head = spelled h;
+  records = record { bodies = bodies; step = step; bad = None };
+}
 
 -- a store with one body more, behind the others
 abbrev pub with_body : List ℕ → Contents → Contents
 with_body body c = record {
   head = c.head;
-  records = record { bodies = c.records.bodies ++ body ∷ []; bad = c.records.bad };
+  records = record {
+    bodies = c.records.bodies ++ body ∷ [];
+    step = c.records.step;
+    bad = c.records.bad;
+  };
 }
 
 -- a store with these bodies behind its own, in this order
 abbrev pub with_bodies : List (List ℕ) → Contents → Contents
 with_bodies bodies c = record {
   head = c.head;
-  records = record { bodies = c.records.bodies ++ bodies; bad = c.records.bad };
+  records = record {
+    bodies = c.records.bodies ++ bodies;
+    step = c.records.step;
+    bad = c.records.bad;
+  };
 }

@@ -1,5 +1,5 @@
 -- What opening a journal answers.
-use Rattle.std.specs.Prelude.{◌≡◌, ℕ, ◌+◌, List, Bool, true, false, Option, Some, None, Result, Ok, Err, ⊤}
+use Rattle.std.specs.Prelude.{◌≡◌, ℕ, List, false, Option, None, Result, Ok, Err, ⊤}
 use Rattle.ov_journal.specs.declared.fault.JournalFault.{JournalFault}
 use Rattle.ov_journal.specs.declared.fault.JournalFault.TheVariants.{Disk, NotAStore, Damaged, Memory}
 use Rattle.ov_journal.specs.declared.fault.CheckFault.{CheckFault}
@@ -8,14 +8,9 @@ use Rattle.ov_journal.specs.declared.fault.CheckFault.TheVariants.{Memory as NoM
 use Rattle.ov_journal.specs.declared.found.Found.{Found}
 use Rattle.ov_journal.specs.declared.found.Found.TheVariants.{Unborn, Born}
 use Rattle.ov_journal.specs.declared.header.Header.{Header}
-use Rattle.ov_journal.specs.Book.{contents_of, spelled}
+use Rattle.ov_journal.specs.Book.{contents_of, place_if, spelled}
 use Rattle.ov_journal.specs.Log.{Log, IsLogOf}
 use Rattle.ov_journal.specs.Standing.{IsUnborn, HasMagic, IsForeign, HasNoMode}
-
--- the place of a length that can't be
-abbrev pub place_if : Bool → ℕ → Option ℕ
-place_if false end = None
-place_if true end = Some (end + 1)
 
 -- A store that was found with a bad place has a journal that is bad there; one that was found
 -- without is whole.
@@ -28,8 +23,8 @@ IsWholeUnlessBad (Born log header bad) =
 pub record IsStore (log : Log) (header : Header) (bad : Option ℕ) (book : List ℕ) : Type 0 where
   pub magic : HasMagic book
   pub head : (contents_of book).head ≡ spelled header
-  pub records : IsLogOf log (contents_of book).records
-  pub place : bad ≡ place_if log.bad log.end
+  pub records : IsLogOf log book
+  pub place : bad ≡ (contents_of book).records.bad
 
 -- the answer is this Book's; refused memory and a fault of the disk say nothing of it
 abbrev pub Finds : List ℕ → Result Found JournalFault → Type 0

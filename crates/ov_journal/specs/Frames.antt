@@ -1,8 +1,12 @@
--- Inner: no public contract needs this. What an append writes, and where.
-use Rattle.std.specs.Prelude.{◌≡◌, ◌≤◌, ◌<◌, ◌+◌, ◌^◌, ℕ, List, [], ◌∷◌, ◌++◌, length, false}
+-- Inner: no public contract needs this. What a record's append writes, and where, and what it makes
+-- of the records as they stand, whatever its body means.
+use Rattle.std.specs.Prelude.{◌≡◌, ◌⊎◌, ◌≤◌, ◌<◌, ◌+◌, ◌^◌, ℕ, List, [], ◌∷◌, ◌++◌, length, take, false, Some}
 use Rattle.std.specs.Int.{w32, to_be_bytes}
-use Rattle.ov_journal.specs.Book.{contents_of}
-use Rattle.ov_journal.specs.Log.{end_from}
+use Rattle.ov_disk.specs.Disk.{Image, Only, OnlyBook, StaysTold, StaysUntold, Told}
+use Rattle.ov_disk.specs.Moments.{LeavesOnly}
+use Rattle.ov_disk.specs.Tells.{DiskTells}
+use Rattle.ov_journal.specs.Book.{contents_of, is_due}
+use Rattle.ov_journal.specs.Runs.{Run, run_after, end_from}
 use Rattle.ov_journal.specs.Taking.{IsBody}
 
 -- a record behind its gate, and a closed gate
@@ -16,7 +20,87 @@ pub record Fits (end room : ℕ) (body : List ℕ) : Type 0 where
   pub buffer : length body + 5 ≤ room
   pub place : end < 2 ^ 62
 
+-- a Book's first 78 bytes, and its records as they stand
+pub record Layout : Type 0 where
+  pub head : List ℕ
+  pub run : Run
+
+-- how a Book stands
+abbrev pub layout_of : List ℕ → Layout
+layout_of book = record { head = take 78 book; run = run_after 78 book }
+
+-- one record more, behind the others
+abbrev pub with_record : List ℕ → Layout → Layout
+with_record body l = record {
+  head = l.head;
+  run = record { bodies = l.run.bodies ++ body ∷ []; bad = l.run.bad };
+}
+
 -- whole records, and a gate at this place that isn't open
 pub record EndsAt (end : ℕ) (book : List ℕ) : Type 0 where
-  pub whole : (contents_of book).records.bad ≡ false
-  pub end_is : end ≡ end_from 78 (contents_of book).records.bodies
+  pub whole : (run_after 78 book).bad ≡ false
+  pub end_is : end ≡ end_from 78 (run_after 78 book).bodies
+
+-- Book as it stood, beside Blobs that the start might have left; or with the record, beside the
+-- Blobs that were read at the start
+abbrev pub IsWithoutOrWith : (Image → Type 0) → Image → List ℕ → Image → Type 0
+IsWithoutOrWith may_leave i body c =
+    ((layout_of c.book ≡ layout_of i.book) × (d : Image) × may_leave d × (c.blobs ≡ d.blobs))
+    ⊎ ((layout_of c.book ≡ with_record body (layout_of i.book)) × (c.blobs ≡ i.blobs))
+
+-- a call puts at most a record with this body, whatever it answers
+pub record PutsAtMost {D : Type 0} (tells : DiskTells D) (body : List ℕ) (old new : D)
+    : Type 0 where
+  pub leaves : Told (tells.reads old) (λ i.
+      LeavesOnly tells old new (IsWithoutOrWith (tells.may_leave old) i body))
+  pub untold : StaysUntold (tells.reads old) (tells.reads new)
+  pub told : StaysTold (tells.reads old) (tells.reads new)
+
+-- the disk has a Book that stands so, and these Blobs, and nothing is pending
+pub record IsLaidOut {D : Type 0} (tells : DiskTells D) (disk : D) (layout : Layout)
+    (blobs : List ℕ) : Type 0 where
+  pub now : Image
+  pub is_read : tells.reads disk ≡ Some now
+  pub book : layout_of now.book ≡ layout
+  pub blobs_same : now.blobs ≡ blobs
+  pub only : Only now (tells.may_leave disk)
+
+-- the record with this body was put, and lasts
+pub record Puts {D : Type 0} (tells : DiskTells D) (body : List ℕ) (old new : D) : Type 0 where
+  pub kept : Told (tells.reads old) (λ i.
+      IsLaidOut tells new (with_record body (layout_of i.book)) i.blobs)
+  pub told_before : Told (tells.reads new) (λ _. (i : Image) × (tells.reads old ≡ Some i))
+
+-- ---- the step record before it
+
+-- Book says what it said, beside Blobs that the start might have left
+abbrev pub SaysTheSame : (Image → Type 0) → Image → Image → Type 0
+SaysTheSame may_leave i c =
+    (contents_of c.book ≡ contents_of i.book) × (d : Image) × may_leave d × (c.blobs ≡ d.blobs)
+
+-- a call changes nothing of what Book says, whatever it answers
+pub record SaysNoMore {D : Type 0} (tells : DiskTells D) (old new : D) : Type 0 where
+  pub leaves : Told (tells.reads old) (λ i.
+      LeavesOnly tells old new (SaysTheSame (tells.may_leave old) i))
+  pub untold : StaysUntold (tells.reads old) (tells.reads new)
+  pub told : StaysTold (tells.reads old) (tells.reads new)
+
+-- The disk has a Book that says what this one did, with a gate at this place that isn't open, where
+-- the next record needs no step record before it; and Blobs with the same bytes.
+pub record IsReady {D : Type 0} (tells : DiskTells D) (gate : ℕ) (disk : D) (i : Image) : Type 0
+  where
+    pub now : Image
+    pub is_read : tells.reads disk ≡ Some now
+    pub says : contents_of now.book ≡ contents_of i.book
+    pub blobs_same : now.blobs ≡ i.blobs
+    pub ends : EndsAt gate now.book
+    pub settled : is_due now.book ≡ false
+    pub only : OnlyBook now.book (tells.may_leave disk)
+
+-- A disk that told its bytes is ready for a record at this gate, with no Blobs that it might not
+-- have left before; and one that tells its bytes told them before.
+pub record MakesReady {D : Type 0} (tells : DiskTells D) (gate : ℕ) (old new : D) : Type 0 where
+  pub ready : Told (tells.reads old) (IsReady tells gate new)
+  pub blobs : (c : Image) → tells.may_leave new c
+      → (d : Image) × tells.may_leave old d × (c.blobs ≡ d.blobs)
+  pub told_before : Told (tells.reads new) (λ _. (i : Image) × (tells.reads old ≡ Some i))

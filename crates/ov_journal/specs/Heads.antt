@@ -1,13 +1,16 @@
 -- Inner: no public contract needs this. What the code finds of a Book before it has read all of it.
-use Rattle.std.specs.Prelude.{◌≡◌, ℕ, ◌+◌, ◌≤◌, ◌<◌, List, [], ◌∷◌, ◌++◌, length, take, drop, true, false, ⊤}
+use Rattle.std.specs.Prelude.{◌≡◌, ℕ, ◌+◌, ◌≤◌, ◌<◌, List, [], ◌∷◌, ◌++◌, length, take, drop, Bool, true, false, ⊤}
 use Rattle.ov_base.specs.declared.limits.TheConstants.{MAX_RECORD_BYTES}
 use Rattle.ov_journal.specs.declared.open.Head.{Head}
 use Rattle.ov_journal.specs.declared.open.Head.TheVariants.{Unborn, Foreign, NoMode, Store}
 use Rattle.ov_journal.specs.declared.scan.Next.{Next}
-use Rattle.ov_journal.specs.declared.scan.Next.TheVariants.{Closed, Bad, Record}
-use Rattle.ov_journal.specs.Book.{records_after, contents_of, spelled}
-use Rattle.ov_journal.specs.Log.{gates_from, end_from}
+use Rattle.ov_journal.specs.declared.scan.Next.TheVariants.{Closed, Bad, StepRecord, Record}
+use Rattle.ov_journal.specs.Book.{is_first, spelled}
+use Rattle.ov_journal.specs.Making.{IsStepIn, shown}
+use Rattle.ov_journal.specs.Runs.{run_after, gates_from, end_from}
+use Rattle.ov_journal.specs.declared.step.Step.{Step}
 use Rattle.ov_journal.specs.Standing.{IsUnborn, HasMagic, IsForeign, HasNoMode}
+use Rattle.ov_journal.specs.Steps.{is_step}
 
 -- what a Book's length and first bytes say
 abbrev pub Heads : List ℕ → Head → Type 0
@@ -29,27 +32,32 @@ pub record BeginsRecord (count : ℕ) (bytes : List ℕ) : Type 0 where
   pub long : length body ≡ count
   pub most : count ≤ MAX_RECORD_BYTES
   pub inside : 5 + count < length bytes
-  pub bodies : (records_after 0 bytes).bodies
-      ≡ body ∷ (records_after 0 (drop (5 + count) bytes)).bodies
-  pub bad : (records_after 0 bytes).bad ≡ (records_after 0 (drop (5 + count) bytes)).bad
+  pub bodies : (run_after 0 bytes).bodies
+      ≡ body ∷ (run_after 0 (drop (5 + count) bytes)).bodies
+  pub bad : (run_after 0 bytes).bad ≡ (run_after 0 (drop (5 + count) bytes)).bad
 
--- what the bytes from a gate on say
-abbrev pub Nexts : List ℕ → Next → Type 0
-Nexts bytes Closed = records_after 0 bytes ≡ record { bodies = []; bad = false }
-Nexts bytes Bad = records_after 0 bytes ≡ record { bodies = []; bad = true }
-Nexts bytes (Record count) = BeginsRecord count bytes
+-- What the bytes from a gate on say, in a store whose next record has to follow a step record, or in
+-- any other.
+abbrev pub Nexts : Bool → List ℕ → Next → Type 0
+Nexts is_due bytes Closed = run_after 0 bytes ≡ record { bodies = []; bad = false }
+Nexts is_due bytes Bad = run_after 0 bytes ≡ record { bodies = []; bad = true }
+Nexts is_due bytes StepRecord =
+    (is_due ≡ true) × ((begins : BeginsRecord 1 bytes) × (is_step begins.body ≡ true))
+Nexts is_due bytes (Record count) =
+    (begins : BeginsRecord count bytes) × (is_due ≡ true → is_step begins.body ≡ false)
 
 -- a record that was found is one in this many bytes
 abbrev pub LiesIn : ℕ → Next → Type 0
 LiesIn left Closed = ⊤
 LiesIn left Bad = ⊤
+LiesIn left StepRecord = 6 < left
 LiesIn left (Record count) = (count ≤ MAX_RECORD_BYTES) × (5 + count < left)
 
--- these records were read, up to this place
-pub record ReadTo (end : ℕ) (offsets : List ℕ) (book : List ℕ) : Type 0 where
+-- These records were read, up to this place, and all that isn't the step record is among the gates.
+pub record ReadTo (end : ℕ) (offsets : List ℕ) (step : Step) (book : List ℕ) : Type 0 where
   pub so_far : List (List ℕ)
-  pub offsets_are : offsets ≡ gates_from 78 so_far
+  pub step_is : IsStepIn step (is_first (take 78 book)) so_far
+  pub offsets_are : offsets ≡ shown step (gates_from 78 so_far)
   pub end_is : end ≡ end_from 78 so_far
-  pub bodies : (contents_of book).records.bodies
-      ≡ so_far ++ (records_after 0 (drop end book)).bodies
-  pub bad : (contents_of book).records.bad ≡ (records_after 0 (drop end book)).bad
+  pub bodies : (run_after 78 book).bodies ≡ so_far ++ (run_after 0 (drop end book)).bodies
+  pub bad : (run_after 78 book).bad ≡ (run_after 0 (drop end book)).bad

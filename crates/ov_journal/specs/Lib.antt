@@ -5,5 +5,8 @@ pub mod Frames
 pub mod Heads
 pub mod Lasting
 pub mod Log
+pub mod Making
+pub mod Runs
 pub mod Standing
+pub mod Steps
 pub mod Taking

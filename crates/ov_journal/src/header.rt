@@ -2,7 +2,7 @@
 ghost use Rattle.std.specs.Prelude.{◌≡◌, ◌≤◌, ℕ, length, take, drop, slice_index, IfNone, IfOk, IfSome};
 ghost use Rattle.ov_base.specs.Modes.{mode_byte};
 ghost use Rattle.ov_journal.specs.Birth.{IsHeaderFrame};
-ghost use Rattle.ov_journal.specs.Book.{IsFormat, magic, spelled};
+ghost use Rattle.ov_journal.specs.Book.{IsFormat, is_first, magic, spelled};
 
 use ov_base::{Memory, Mode};
 use std::alloc::Global;
@@ -20,6 +20,15 @@ pub struct Header {
     pub base_check: [u8; 32],
     /// The check value of the surface master.
     pub surface_check: [u8; 32],
+}
+
+impl Header {
+    // Whether the store is of the first format.
+    pub(crate) fn is_first(&self) -> bool
+        ensures { result ≡ is_first (spelled self.now) }
+    {
+        self.format == 1
+    }
 }
 
 /// How many bytes a header has, its gate among them.

@@ -36,6 +36,7 @@ mod open;
 mod read;
 mod record;
 mod scan;
+mod step;
 
 pub use fault::{CheckFault, JournalFault};
 pub use found::Found;
