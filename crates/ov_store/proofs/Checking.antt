@@ -26,7 +26,7 @@ use Rattle.ov_history.proofs.Showing.{history_is_shown}
 use Rattle.ov_journal.specs.Book.{contents_of}
 use Rattle.ov_journal.specs.Log.{Log, IsLogOfFirst}
 use Rattle.ov_journal.specs.Steps.{gate_behind, gates_of}
-use Rattle.ov_journal.proofs.Gates.{gates_of-at, length-gates_of}
+use Rattle.ov_journal.proofs.Steps.{gates_at, length-gates_of}
 use Rattle.ov_state.specs.Plans.{IsTaken}
 use Rattle.ov_images.specs.Damage.{BeginsWith}
 use Rattle.ov_images.specs.Records.{AllHaveFormFrom, HasRecordForm, bodies_from, bodies_of}
@@ -289,7 +289,7 @@ module _ (k : Masters) (log : Log) (store : PlacedStore) (g : SealedHistory) (d 
           };
           gate = at_gate ∙ ap (λ (l : List ℕ). get_or l i 0) is.offsets
               ∙ ap (λ (l : List (List ℕ)). get_or (gates_of log.step l) i 0) (first_bodies is)
-              ∙ gates_of-at log.step bodies i low_body
+              ∙ gates_at log.step bodies i low_body
               ∙ ap (gate_behind log.step) (take-bodies log.step 0 ps i);
         }
 

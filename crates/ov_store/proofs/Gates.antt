@@ -1,16 +1,15 @@
 -- Where the records of a journal end.
 use Rattle.std.proofs.Common.{◌≡◌, ℕ, zero, suc, ◌+◌, ◌≤◌, ◌<◌, Bool, true, false, List, [], ◌∷◌, length}
-use Rattle.std.proofs.Common.{take, get_or, Option, Some, None, sym, ◌∙◌, ap, subst, arith}
+use Rattle.std.proofs.Common.{take, get_or, Option, Some, None, sym, ap, subst, arith}
 use Rattle.std.specs.Prelude.{cond, leb}
 use Rattle.std.proofs.lemmas.Bool.{le-leb, leb-true, lt-leb}
 use Rattle.std.proofs.lemmas.List.{length-take-le}
 use Rattle.ov_journal.specs.Book.{contents_of}
-use Rattle.ov_journal.specs.Log.{IsLogOf, IsLogOfFirst, Log, made}
+use Rattle.ov_journal.specs.Log.{IsLogOf, Log}
 use Rattle.ov_journal.specs.Runs.{end_from}
 use Rattle.ov_journal.specs.Steps.{gate_behind, step_size}
-use Rattle.ov_journal.proofs.Gates.{length-gates_of}
+use Rattle.ov_journal.proofs.Logs.{all_old}
 use Rattle.ov_journal.proofs.Reading.{end_from-size}
-use Rattle.ov_journal.proofs.Records.{all_first}
 
 -- ---- a step record
 
@@ -61,16 +60,6 @@ ends_by (Some old) true bodies i lt all_old =
       ap step_size (lt-leb old (length (take i bodies)) before),
     )
 
--- Where the step record is due, all records are before it.
-pub all_are_old : (log : Log) (book : List ℕ) → IsLogOf log book → log.due ≡ true
-    → log.step ≡ Some (length (contents_of book).records.bodies)
-all_are_old log book is due =
-    let first = all_first log book is in
-    let many : length first.front ≡ length (contents_of book).records.bodies =
-    sym (length-gates_of log.step first.front) ∙ ap length (sym first.offsets ∙ is.offsets)
-    ∙ length-gates_of log.step (contents_of book).records.bodies in
-    first.all_old due ∙ (λ j. Some (many j))
-
 -- each record of a journal ends where it ends, or before
 pub record_ends : (log : Log) (book : List ℕ) (i : ℕ) → IsLogOf log book
     → i < length (contents_of book).records.bodies
@@ -81,4 +70,4 @@ record_ends log book i is lt =
     let bodies : List (List ℕ) = (contents_of book).records.bodies in
     subst (λ (n : ℕ).
     gate_behind log.step (take i bodies) + 5 + length (get_or bodies i []) ≤ n) (sym is.end)
-    (ends_by log.step log.due bodies i lt (all_are_old log book is))
+    (ends_by log.step log.due bodies i lt (all_old log book is))

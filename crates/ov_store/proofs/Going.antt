@@ -29,6 +29,7 @@ use Rattle.ov_journal.specs.Book.{Contents, contents_of}
 use Rattle.ov_journal.specs.Log.{HasSameRecords, IsLogOf, IsLogOfFirst, Log, Stands, appended}
 use Rattle.ov_journal.specs.Log.{next_gate}
 use Rattle.ov_journal.specs.Steps.{gate_behind, gates_of}
+use Rattle.ov_journal.proofs.Logs.{still_first}
 use Rattle.ov_images.specs.Extents.{IsLaidOut, blocks_in, catalogue_at, extents_in_use, stored_in}
 use Rattle.ov_images.specs.Images.{HasRecords, Keeps, KeepsAt, KeepsEither, Keys}
 use Rattle.ov_images.specs.Laws.{placed_as}
@@ -46,7 +47,6 @@ use Rattle.ov_updating.proofs.Using.{of_file}
 use Rattle.ov_updating.specs.Updating.{HasSameStep, KeepsAtOrMore}
 use Rattle.ov_store.specs.Opened.{BeginsWith, IsSafe, Opened, Serves, stored_by}
 use Rattle.ov_store.specs.Updating.{LeavesEither, ServesMore}
-use Rattle.ov_store.proofs.Gates.{all_are_old}
 use Rattle.ov_store.proofs.Histories.{begins_with, safe_of, stored_same}
 use Rattle.ov_store.proofs.Looking.{store_of}
 use Rattle.ov_store.proofs.Said.{cut_out, said, told_by}
@@ -343,18 +343,21 @@ module _ {D : Type 0} (tells : DiskTells D) (k : Keys) (d0 d1 : D) (store : Plac
         ∙ ap (λ (s : Option ℕ). bodies_of s p.updates) (sym here ∙ sym was.step)
 
     first_now : (later : Log) → HasSameRecords log later → IsLogOfFirst later j.book
-    first_now later same = record {
-      front = bodies_of log.step p.updates;
-      rest = begins_now.rest;
-      split = begins_now.split;
-      offsets = same.offsets ∙ was.offsets ∙ (λ n. gates_of (sym same.step n) (bodies_before n));
-      end = same.end ∙ was.end
-          ∙ (λ n. gate_behind (cond (sym same.due n) None (sym same.step n)) (bodies_before n));
-      step = same.step ∙ sym step_now;
-      all_old = λ due.
-          same.step ∙ all_are_old log i.book was (sym same.due ∙ due)
-          ∙ (λ n. Some (length (bodies_before n)));
-    }
+    first_now later same =
+        let split = begins_now.split
+        ∙ ap (λ (l : List (List ℕ)). l ++ begins_now.rest) (sym bodies_before) in
+        let first = still_first log i.book j.book begins_now.rest was split left_now.2 in
+        record {
+          front = first.front;
+          rest = first.rest;
+          split = first.split;
+          offsets = same.offsets ∙ first.offsets
+              ∙ ap (λ (s : Option ℕ). gates_of s first.front) (sym same.step);
+          end = same.end ∙ first.end
+              ∙ (λ n. gate_behind (cond (sym same.due n) None (sym same.step n)) first.front);
+          step = same.step ∙ first.step;
+          all_old = λ due. same.step ∙ first.all_old (sym same.due ∙ due);
+        }
 
   pub safe_failed : (later : Log) → HasSameRecords log later
       → IsSafe tells later store (store_of tells d1 k store true)

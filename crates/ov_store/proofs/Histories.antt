@@ -17,7 +17,7 @@ use Rattle.ov_history.proofs.Showing.{history_is_shown}
 use Rattle.ov_history.proofs.TextLists.{brief-with_texts, zeros_fit}
 use Rattle.ov_journal.specs.Book.{Contents, contents_of}
 use Rattle.ov_journal.specs.Log.{IsLogOf, Log}
-use Rattle.ov_journal.proofs.Records.{all_first}
+use Rattle.ov_journal.proofs.Logs.{all_first}
 use Rattle.ov_images.specs.Extents.{stored_in}
 use Rattle.ov_images.specs.Images.{HasRecords, Keeps, KeepsAt, Keys}
 use Rattle.ov_images.specs.Records.{bodies_of}

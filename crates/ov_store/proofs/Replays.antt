@@ -10,7 +10,7 @@ use Rattle.ov_history.specs.Placed.{PlacedHistory, PlacedUpdate, blank_placed, w
 use Rattle.ov_history.proofs.Placed.{replays_begin}
 use Rattle.ov_journal.specs.Book.{contents_of}
 use Rattle.ov_journal.specs.Log.{Log, IsLogOf, IsLogOfFirst}
-use Rattle.ov_journal.proofs.Gates.{length-gates_of}
+use Rattle.ov_journal.proofs.Steps.{length-gates_of}
 use Rattle.ov_journal.specs.declared.fault.CheckFault.{CheckFault}
 use Rattle.ov_journal.specs.declared.fault.CheckFault.TheVariants.{Disk as CheckDisk}
 use Rattle.ov_journal.specs.declared.fault.CheckFault.TheVariants.{Memory as CheckMemory}

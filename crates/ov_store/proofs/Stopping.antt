@@ -10,7 +10,7 @@ use Rattle.ov_journal.specs.Finding.{IsStore}
 use Rattle.ov_journal.specs.declared.header.Header.{Header}
 use Rattle.ov_journal.specs.Log.{Log, IsLogOf}
 use Rattle.ov_journal.specs.Steps.{gate_behind}
-use Rattle.ov_journal.proofs.Gates.{gates_of-at}
+use Rattle.ov_journal.proofs.Steps.{gates_at}
 use Rattle.ov_record.specs.Forms.{Form}
 use Rattle.ov_images.specs.Damage.{HasBadLength, HasBadRecord, HasHeader, IsBadBody, IsFor, Spot}
 use Rattle.ov_images.specs.Damage.{HasBadRecordsUnder, in_book}
@@ -52,7 +52,7 @@ module _ (master : List ℕ) (mode : Mode) (first blocks : ℕ) (reads : Option 
     stands : gate ≡ gate_behind log.step (take i all)
     stands =
         at_gate ∙ ap (λ (l : List ℕ). get_or l i 0) (log_is d at).offsets
-        ∙ gates_of-at log.step all i next.0
+        ∙ gates_at log.step all i next.0
 
     -- the record ends where the journal does, or before
     ends : EndsInBook gate body

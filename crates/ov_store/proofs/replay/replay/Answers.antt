@@ -1,7 +1,7 @@
 use Rattle.std.proofs.Common.{rules, ◌≡◌, ◌<◌, length, sym, ◌∙◌, subst, arith}
 use Rattle.std.proofs.lemmas.Result.{err_from_is_err_and}
 use Rattle.ov_disk.proofs.Runs.{untouched, looks_then}
-use Rattle.ov_journal.proofs.Records.{all_first}
+use Rattle.ov_journal.proofs.Logs.{all_first}
 use Rattle.ov_record.specs.Forms.{Form}
 use Rattle.ov_placed.specs.Faults.{IsBadFor, NamesSpot}
 use Rattle.ov_placed.specs.Replaying.{TakesRecord}
