@@ -1,4 +1,4 @@
--- Small stores with literal records.
+-- Small stores of the second format with literal records.
 use Rattle.std.specs.Prelude.{ℕ, List, [], ◌∷◌, ◌++◌, length, replicate, Some, None}
 use Rattle.ov_base.specs.declared.mode.Mode.{Mode}
 use Rattle.ov_base.specs.declared.mode.Mode.TheVariants.{Full}
@@ -61,20 +61,20 @@ grant firsts = record { update = BriefGrant 1 0 None; firsts = firsts }
 abbrev pub enrol_body : ℕ → List ℕ
 enrol_body letter = 1 ∷ 1 ∷ letter ∷ []
 
--- The body of the creation of a file of 8,193 bytes: kind, name, list in 32 bytes, number of tokens
+-- The body of the creation of a file of 8,193 bytes: kind, name, list in 128 bytes, number of tokens
 -- and tokens, tag, and the number of bytes. First blocks follow.
 abbrev pub create_body : ℕ → List ℕ → List ℕ → List ℕ
 create_body list tokens firsts =
-    2 ∷ 1 ∷ 110 ∷ list ∷ zeros 31 ++ tokens ++ zeros 32 ++ (0 ∷ 0 ∷ 32 ∷ 1 ∷ []) ++ firsts
+    2 ∷ 1 ∷ 110 ∷ list ∷ zeros 127 ++ tokens ++ zeros 32 ++ (0 ∷ 0 ∷ 32 ∷ 1 ∷ []) ++ firsts
 
 -- the body of the creation of the first file, where it has no bytes
 abbrev pub empty_body : List ℕ
-empty_body = 2 ∷ 1 ∷ 110 ∷ 1 ∷ zeros 31 ++ (0 ∷ 0 ∷ []) ++ zeros 32 ++ (0 ∷ 0 ∷ 0 ∷ 0 ∷ [])
+empty_body = 2 ∷ 1 ∷ 110 ∷ 1 ∷ zeros 127 ++ (0 ∷ 0 ∷ []) ++ zeros 32 ++ (0 ∷ 0 ∷ 0 ∷ 0 ∷ [])
 
 -- the body of the creation of a file of one byte, with a name of one letter, for the first user
 abbrev pub small_body : ℕ → List ℕ → List ℕ
 small_body letter firsts =
-    2 ∷ 1 ∷ letter ∷ 1 ∷ zeros 31 ++ (0 ∷ 0 ∷ []) ++ zeros 32 ++ (0 ∷ 0 ∷ 0 ∷ 1 ∷ []) ++ firsts
+    2 ∷ 1 ∷ letter ∷ 1 ∷ zeros 127 ++ (0 ∷ 0 ∷ []) ++ zeros 32 ++ (0 ∷ 0 ∷ 0 ∷ 1 ∷ []) ++ firsts
 
 -- the body of the revocation: kind, user, file, first block
 abbrev pub revoke_body : List ℕ → List ℕ
@@ -98,9 +98,9 @@ abbrev pub recorded : List (List ℕ) → List ℕ
 recorded [] = 0 ∷ []
 recorded (body ∷ bodies) = 1 ∷ u32 (length body) ++ body ++ recorded bodies
 
--- the Book of a store of this mode with these records
+-- the Book of a store of the second format, of this mode, with these records
 abbrev pub book_in : Mode → Keys → List (List ℕ) → List ℕ
-book_in mode k bodies = spelled (header_of k (history_in mode [])) ++ recorded bodies
+book_in mode k bodies = spelled (header_of k 2 (history_in mode [])) ++ recorded bodies
 
 -- the store with these records beside these bytes of Blobs, in this mode
 abbrev pub store_in : Mode → Keys → List (List ℕ) → List ℕ → Image
