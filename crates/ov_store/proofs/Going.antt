@@ -3,7 +3,7 @@ use Rattle.std.proofs.Common.{◌≡◌, inl, inr, ⊎_elim, ℕ, ◌+◌, ◌*�
 use Rattle.std.proofs.Common.{suc, Bool, true, false, Option, Some, None, refl, sym, ◌∙◌, ap, subst, arith}
 use Rattle.std.proofs.Common.{length-append}
 use Rattle.std.proofs.lemmas.List.{append-nil}
-use Rattle.std.specs.Prelude.{Contains, ◌<◌, cond, option_map, slice_index_or}
+use Rattle.std.specs.Prelude.{Contains, ◌<◌, option_map, slice_index_or}
 use Rattle.ov_blocks.specs.Extents.{blocks_of, end_from}
 use Rattle.ov_blocks.specs.declared.extents.Extent.{Extent}
 use Rattle.ov_blocks.specs.declared.extents.TheConstants.{BLOCK_BYTES}
@@ -28,8 +28,7 @@ use Rattle.ov_history.proofs.Placed.{files_are_placed, replays_go_on}
 use Rattle.ov_journal.specs.Book.{Contents, contents_of}
 use Rattle.ov_journal.specs.Log.{HasSameRecords, IsLogOf, IsLogOfFirst, Log, Stands, appended}
 use Rattle.ov_journal.specs.Log.{next_gate}
-use Rattle.ov_journal.specs.Steps.{gate_behind, gates_of}
-use Rattle.ov_journal.proofs.Logs.{still_first}
+use Rattle.ov_journal.proofs.Logs.{first_same, still_first}
 use Rattle.ov_images.specs.Extents.{IsLaidOut, blocks_in, catalogue_at, extents_in_use, stored_in}
 use Rattle.ov_images.specs.Images.{HasRecords, Keeps, KeepsAt, KeepsEither, Keys}
 use Rattle.ov_images.specs.Laws.{placed_as}
@@ -346,18 +345,8 @@ module _ {D : Type 0} (tells : DiskTells D) (k : Keys) (d0 d1 : D) (store : Plac
     first_now later same =
         let split = begins_now.split
         ∙ ap (λ (l : List (List ℕ)). l ++ begins_now.rest) (sym bodies_before) in
-        let first = still_first log i.book j.book begins_now.rest was split left_now.2 in
-        record {
-          front = first.front;
-          rest = first.rest;
-          split = first.split;
-          offsets = same.offsets ∙ first.offsets
-              ∙ ap (λ (s : Option ℕ). gates_of s first.front) (sym same.step);
-          end = same.end ∙ first.end
-              ∙ (λ n. gate_behind (cond (sym same.due n) None (sym same.step n)) first.front);
-          step = same.step ∙ first.step;
-          all_old = λ due. same.step ∙ first.all_old (sym same.due ∙ due);
-        }
+        first_same log later j.book same
+        (still_first log i.book j.book begins_now.rest was split left_now.2)
 
   pub safe_failed : (later : Log) → HasSameRecords log later
       → IsSafe tells later store (store_of tells d1 k store true)
