@@ -6,7 +6,7 @@ use Rattle.ov_history.specs.Catalogue.{Catalogue, empty_catalogue}
 use Rattle.ov_history.specs.Placed.{IsReplayedTo, PlacedHistory, blank_placed, with_placed}
 use Rattle.ov_history.proofs.Placed.{replays_begin}
 use Rattle.ov_images.specs.Damage.{HasBadRecord, IsBadBody, Spot}
-use Rattle.ov_images.specs.Records.{bodies_of, form_behind}
+use Rattle.ov_images.specs.Records.{form_behind}
 use Rattle.ov_images.proofs.Records.{bodies-push, form-push, length-bodies_from}
 use Rattle.ov_placed.specs.Contents.{PlacedStore}
 use Rattle.ov_placed.specs.Faults.{EndsInBook, IsBadFor}

@@ -1,6 +1,6 @@
 -- A store that is opened again.
-use Rattle.std.proofs.Common.{◌≡◌, inr, ⊎_elim, ℕ, ◌+◌, ◌<◌, ◌^◌, List, length, take, drop, get_or}
-use Rattle.std.proofs.Common.{Bool, false, Option, Some, refl, sym, ◌∙◌, ap, subst, arith, lit<}
+use Rattle.std.proofs.Common.{◌≡◌, inr, ⊎_elim, ℕ, ◌+◌, ◌<◌, ◌^◌, List, take, drop, get_or}
+use Rattle.std.proofs.Common.{Bool, false, Option, Some, sym, ◌∙◌, ap, subst, arith, lit<}
 use Rattle.std.proofs.lemmas.List.{get_or-drop, get_or-take}
 use Rattle.ov_base.specs.declared.mode.Mode.{Mode}
 use Rattle.ov_disk.specs.Disk.{Image, Only, Told}
@@ -10,7 +10,7 @@ use Rattle.ov_history.specs.Placed.{PlacedHistory}
 use Rattle.ov_history.specs.Sealed.{SealedHistory}
 use Rattle.ov_history.specs.Texts.{BriefHistory}
 use Rattle.ov_history.proofs.Showing.{history_is_shown}
-use Rattle.ov_journal.specs.Book.{IsFormat, contents_of, place_if, spelled}
+use Rattle.ov_journal.specs.Book.{IsFormat, place_if, spelled}
 use Rattle.ov_journal.specs.Finding.{IsStore}
 use Rattle.ov_journal.specs.Log.{Log}
 use Rattle.ov_journal.specs.Standing.{HasMagic}

@@ -1,12 +1,11 @@
 -- Stores whose next update carries them over to the second format.
-use Rattle.std.proofs.Common.{◌≡◌, inl, inr, List, ℕ, Bool, true, false, sym, ◌∙◌, ap, arith}
+use Rattle.std.proofs.Common.{◌≡◌, inl, inr, List, ℕ, Bool, false, sym, ◌∙◌, arith}
 use Rattle.std.specs.Prelude.{◌↔◌, IsTrue}
-use Rattle.ov_disk.specs.Disk.{Image, Told}
+use Rattle.ov_disk.specs.Disk.{Told}
 use Rattle.ov_disk.specs.Moments.{IsUntouched, LeavesOnly}
 use Rattle.ov_disk.specs.Tells.{DiskTells}
 use Rattle.ov_images.proofs.Keeping.{is_born}
 use Rattle.ov_images.specs.Images.{Keys}
-use Rattle.ov_journal.specs.Finding.{IsStore}
 use Rattle.ov_journal.specs.Log.{IsLogOf, Log}
 use Rattle.ov_journal.specs.Standing.{HasMagic, IsUnborn}
 use Rattle.ov_placed.specs.Contents.{PlacedStore}

@@ -1,12 +1,12 @@
 -- A replay, record by record.
-use Rattle.std.proofs.Common.{◌≡◌, ℕ, suc, ◌+◌, ◌<◌, ◌≤◌, List, [], ◌∷◌, ◌++◌, length, take}
+use Rattle.std.proofs.Common.{◌≡◌, ℕ, ◌+◌, ◌<◌, ◌≤◌, List, [], ◌∷◌, ◌++◌, length, take}
 use Rattle.std.proofs.Common.{get_or, Option, refl, sym, ◌∙◌, ap, subst, arith, length-append}
 use Rattle.std.proofs.lemmas.List.{take_more, take_all}
 use Rattle.ov_base.specs.Causes.{Rose}
 use Rattle.ov_base.specs.declared.mode.Mode.{Mode}
 use Rattle.ov_disk.specs.Disk.{Image, Told}
 use Rattle.ov_history.specs.Catalogue.{empty_catalogue}
-use Rattle.ov_history.specs.Placed.{PlacedHistory, PlacedUpdate, blank_placed, with_placed}
+use Rattle.ov_history.specs.Placed.{PlacedHistory, blank_placed, with_placed}
 use Rattle.ov_history.proofs.Placed.{replays_begin}
 use Rattle.ov_journal.specs.Book.{contents_of}
 use Rattle.ov_journal.specs.Log.{Log, IsLogOf, IsLogOfFirst}
