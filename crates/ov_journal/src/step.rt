@@ -12,13 +12,13 @@ use crate::record::put_record;
 use ov_disk::{Disk, DiskFault};
 
 /// The one byte that is the body of a step record.
-pub(crate) const STEP: u8 = 5;
+pub(crate) const STEP_MARK: u8 = 5;
 
 /// How many bytes of Book a step record takes.
 pub(crate) const STEP_BYTES: u64 = 6;
 
 /// Which records of a store are in the second form.
-#[derive(Clone, Copy, Debug, PartialEq, Eq)]
+#[derive(Clone, Copy)]
 pub enum Step {
     /// All: the store is of the second format, and has no step record.
     Never,
@@ -86,9 +86,10 @@ pub fn put_step<D: Disk>(
     ensures capacity { vec_capacity frame.old ≤ vec_capacity frame.new }
     ensures call { IsDiskCall D.tells (IsErr result) disk.old disk.new }
 {
-    if !step.is_due() {
-        return Ok(end);
+    if step.is_due() {
+        put_record(disk, end, frame, &[STEP_MARK])?;
+        Ok(end + STEP_BYTES)
+    } else {
+        Ok(end)
     }
-    put_record(disk, end, frame, &[STEP])?;
-    Ok(end + STEP_BYTES)
 }
