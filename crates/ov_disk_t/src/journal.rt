@@ -1,7 +1,6 @@
 //! Rows of bytes, stops at each call with each tear, and books that are no store.
 ghost use Rattle.std.specs.Prelude.{◌≡◌, ◌≤◌, ◌<◌, ◌+◌, OnOk, length, false};
 ghost use Rattle.ov_disk.specs.Disk.{Told, OnlyBook};
-ghost use Rattle.ov_journal.specs.Book.{contents_of};
 ghost use Rattle.ov_journal.specs.Log.{IsLogOf, Stands};
 ghost use Rattle.ov_journal.specs.Standing.{IsUnborn};
 
@@ -22,15 +21,19 @@ const HEADER: Header = Header {
     surface_check: [0x22; 32],
 };
 
-// A store with that header and no records.
-const NEW_STORE: [u8; 79] = *b"\x01OVERENC1\x01\x01\x02\x03\x04\
+/// A store with that header and no records.
+pub const NEW_STORE: [u8; 79] = *b"\x01OVERENC2\x01\x01\x02\x03\x04\
     \x11\x11\x11\x11\x11\x11\x11\x11\x11\x11\x11\x11\x11\x11\x11\x11\
     \x11\x11\x11\x11\x11\x11\x11\x11\x11\x11\x11\x11\x11\x11\x11\x11\
     \x22\x22\x22\x22\x22\x22\x22\x22\x22\x22\x22\x22\x22\x22\x22\x22\
     \x22\x22\x22\x22\x22\x22\x22\x22\x22\x22\x22\x22\x22\x22\x22\x22\0";
 
-// The bodies of all records, one behind the other.
-fn bodies<D: Disk>(alloc: Global, disk: &mut D, journal: &Journal) -> Result<Vec<u8>, CheckFault>
+/// The bodies of all records, one behind the other.
+pub fn bodies<D: Disk>(
+    alloc: Global,
+    disk: &mut D,
+    journal: &Journal,
+) -> Result<Vec<u8>, CheckFault>
     requires { Told (D.tells.reads disk.old) (λ i. IsLogOf journal.now i.book) }
 {
     let mut all = Vec::new(alloc);
@@ -40,9 +43,9 @@ fn bodies<D: Disk>(alloc: Global, disk: &mut D, journal: &Journal) -> Result<Vec
     Ok(all)
 }
 
-// What is on a disk: u for unborn, f for another file, m for no mode, b for a length that can't
-// be, and else the number of records.
-fn standing(alloc: Global, disk: &mut MemDisk) -> u8 {
+/// What is on a disk: u for unborn, f for another file, m for no mode, b for a length that can't
+/// be, and else the number of records.
+pub fn standing(alloc: Global, disk: &mut MemDisk) -> u8 {
     match Journal::begin(alloc, disk) {
         Ok(Found::Unborn) => b'u',
         Ok(Found::Born { journal, bad, .. }) => match bad {
@@ -55,8 +58,8 @@ fn standing(alloc: Global, disk: &mut MemDisk) -> u8 {
     }
 }
 
-// One more record.
-fn put<D: Disk>(journal: &mut Journal, disk: &mut D, body: &[u8]) -> Result<(), CheckFault>
+/// One more record.
+pub fn put<D: Disk>(journal: &mut Journal, disk: &mut D, body: &[u8]) -> Result<(), CheckFault>
     requires whole { journal.old.bad ≡ false }
     requires count { length journal.old.offsets < 9 }
     requires body { (1 ≤ length body.now) × (length body.now ≤ 9) }
@@ -126,8 +129,8 @@ fn stops(alloc: Global, disk: &MemDisk, tear: Tear) -> Result<Vec<u8>, Fail> {
     Err(Fail::from("too many calls"))
 }
 
-// Makes sure of what is left, if the disk tears in each of these ways.
-fn expect_stops(
+/// Makes sure of what is left by a stop after each call, if the disk tears in each of these ways.
+pub fn expect_stops(
     rt: &impl Abort,
     alloc: Global,
     disk: &MemDisk,
@@ -193,7 +196,7 @@ fn book(
 }
 
 // The length, the place and the value of the byte, what is behind it, and what is there.
-const BOOKS: [(usize, usize, u8, &[u8], u8); 18] = [
+const BOOKS: [(usize, usize, u8, &[u8], u8); 21] = [
     // By length, with the first gate open and closed; then one byte longer.
     (0, 0, 1, b"", b'u'),
     (1, 0, 1, b"", b'u'),
@@ -205,8 +208,11 @@ const BOOKS: [(usize, usize, u8, &[u8], u8); 18] = [
     (79, 0, 0, b"", b'u'),
     (79, 0, 2, b"", b'u'),
     (79, 0, 0, b"\0", b'f'),
-    // An older magic, a mode that can't be, and a gate of 2 before a record.
+    // The magic of the first format, and of no format; a mode that can't be; a gate of 2 before a
+    // record.
+    (79, 8, b'1', b"\0\0\0\x01a\0", b'0'),
     (79, 8, b'0', b"\0\0\0\x01a\0", b'f'),
+    (79, 8, b'3', b"\0\0\0\x01a\0", b'f'),
     (79, 9, 2, b"\0\0\0\x01a\0", b'm'),
     (79, 78, 2, b"\0\0\0\x01a\0", b'0'),
     // Behind an open gate: a field that is cut short, lengths, and a body that ends Book.
@@ -215,6 +221,8 @@ const BOOKS: [(usize, usize, u8, &[u8], u8); 18] = [
     (79, 78, 1, b"\0\x11\0\x01\0", b'b'),
     (79, 78, 1, b"\0\0\0\x02ab", b'b'),
     (79, 78, 1, b"\0\0\0\x02ab\0", b'1'),
+    // The body of a step record, in a store of the second format.
+    (79, 78, 1, b"\0\0\0\x01\x05\0", b'1'),
 ];
 
 #[test]

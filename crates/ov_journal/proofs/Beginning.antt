@@ -1,5 +1,5 @@
 -- A birth, call by call.
-use Rattle.std.proofs.Common.{◌≡◌, ◌≢◌, ◌⊎◌, inl, inr, ℕ, ◌+◌, ◌≤◌, List, [], ◌∷◌, ◌++◌, length, take, drop, get_or, Some, false, refl, sym, ◌∙◌, ap, subst, arith, length-append, length-drop, take-append-drop}
+use Rattle.std.proofs.Common.{◌≡◌, ◌≢◌, ◌⊎◌, inl, inr, ℕ, ◌+◌, ◌≤◌, List, [], ◌∷◌, ◌++◌, length, take, drop, get_or, ◌==◌, Some, None, false, refl, sym, ◌∙◌, ap, subst, arith, length-append, length-drop, take-append-drop}
 use Rattle.std.proofs.lemmas.List.{drop_more, drop_all, drop_at, take_at, append-nil}
 use Rattle.std.proofs.lemmas.Bool.{cases_eq}
 use Rattle.ov_disk.specs.Disk.{Image, overwritten, written, Torn, TornIn, Follows, Narrows, Only, OnlyBook}
@@ -9,15 +9,16 @@ use Rattle.ov_disk.specs.declared.area.Area.TheVariants.{Book}
 use Rattle.ov_disk.proofs.Runs.{started, goes_on}
 use Rattle.ov_journal.specs.declared.header.Header.{Header}
 use Rattle.ov_journal.specs.Birth.{IsCleared, IsHeaderFrame}
-use Rattle.ov_journal.specs.Book.{header_bytes, spelled, records_after, contents_of, born}
+use Rattle.ov_journal.specs.Book.{header_bytes, spelled, is_first, records_in, contents_of, born}
 use Rattle.ov_journal.specs.Log.{IsUnbornOrEmpty, IsKept}
+use Rattle.ov_journal.specs.Runs.{run_after}
 use Rattle.ov_journal.specs.Standing.{IsUnborn}
-use Rattle.ov_journal.proofs.Reading.{records_after-drop}
+use Rattle.ov_journal.proofs.Reading.{run_after-drop}
 
 unborn : (gate : ℕ) (rest : List ℕ) → length rest ≤ 78 → gate ≢ 1 → IsUnborn (gate ∷ rest)
 unborn gate rest short shut = inr (omega (arith, short), shut)
 
-module _ (book : List ℕ) (r : IsCleared book) (h : Header) (frame : List ℕ) (long : length frame ≡ 78) (ends : frame ≡ header_bytes h ++ 0 ∷ []) where
+module _ (book : List ℕ) (r : IsCleared book) (h : Header) (frame : List ℕ) (long : length frame ≡ 78) (ends : frame ≡ header_bytes h ++ 0 ∷ []) (format : h.format ≡ 2) where
   pub now_unborn : IsUnborn book
   now_unborn = subst IsUnborn (sym r.parts) (unborn r.gate r.rest r.short r.closed)
 
@@ -36,16 +37,17 @@ module _ (book : List ℕ) (r : IsCleared book) (h : Header) (frame : List ℕ) 
   pub is_open : overwritten 0 (1 ∷ []) (overwritten 1 frame book) ≡ 1 ∷ frame
   is_open = ap (overwritten 0 (1 ∷ [])) is_headed
 
-  pub reads_empty : contents_of (1 ∷ frame) ≡ born h []
+  pub reads_empty : contents_of (1 ∷ frame) ≡ born h None []
   reads_empty =
       let whole : 1 ∷ frame ≡ spelled h ++ 0 ∷ [] = ap (λ (l : List ℕ). 1 ∷ l) ends in
       let size : length (spelled h) ≡ 78 = omega (arith, long, ap length ends, length-append (header_bytes h) (0 ∷ [])) in
       let tail : drop 78 (1 ∷ frame) ≡ 0 ∷ [] = ap (λ (l : List ℕ). drop 78 l) whole ∙ drop_at (spelled h) (0 ∷ []) 78 size in
       let head : take 78 (1 ∷ frame) ≡ spelled h = ap (λ (l : List ℕ). take 78 l) whole ∙ take_at (spelled h) (0 ∷ []) 78 size in
-      let records : records_after 78 (1 ∷ frame) ≡ record { bodies = []; bad = false } = records_after-drop 78 (1 ∷ frame) ∙ ap (records_after 0) tail in
-      λ i. record { head = head i; records = records i }
+      let run : run_after 78 (1 ∷ frame) ≡ record { bodies = []; bad = false } = run_after-drop 78 (1 ∷ frame) ∙ ap (run_after 0) tail in
+      let second : is_first (take 78 (1 ∷ frame)) ≡ false = ap is_first head ∙ ap (λ (f : ℕ). (48 + f) == 49) format in
+      λ i. record { head = head i; records = records_in (second i) (run i) }
 
-  pub torn_gate : (c : List ℕ) → Torn 0 1 (overwritten 1 frame book) c → IsUnborn c ⊎ (contents_of c ≡ born h [])
+  pub torn_gate : (c : List ℕ) → Torn 0 1 (overwritten 1 frame book) c → IsUnborn c ⊎ (contents_of c ≡ born h None [])
   torn_gate c torn =
       let headed = ap length is_headed in
       let after : drop 1 c ≡ frame = torn.after ∙ ap (λ (l : List ℕ). drop 1 l) is_headed in
@@ -68,15 +70,15 @@ module _ {D : Type 0} (tells : DiskTells D) (d0 : D) {i : Image} {h : Header} {f
   head_crash new follows c left =
       let from = follows c left in
       let torn : Torn 1 (length frame) i.book c.book = subst (λ (l : List ℕ). Torn 1 (length frame) l c.book) (b.cleared.1 from.0 from.1) from.2.0 in
-      inl (torn_head i.book b.cleared.0 h frame b.is_frame.long b.is_frame.bytes c.book (subst (λ (n : ℕ). Torn 1 n i.book c.book) b.is_frame.long torn))
+      inl (torn_head i.book b.cleared.0 h frame b.is_frame.long b.is_frame.bytes b.is_frame.format c.book (subst (λ (n : ℕ). Torn 1 n i.book c.book) b.is_frame.long torn))
 
   gate_crash : (old new : Image → Type 0) → Only (written Book 1 frame i) old → Follows (TornIn Book 0 1) old new → (c : Image) → new c → P c
   gate_crash old new only follows c left =
       let from = follows c left in
-      torn_gate i.book b.cleared.0 h frame b.is_frame.long b.is_frame.bytes c.book (subst (λ (l : List ℕ). Torn 0 1 l c.book) (ap (λ (j : Image). j.book) (only from.0 from.1)) from.2.0)
+      torn_gate i.book b.cleared.0 h frame b.is_frame.long b.is_frame.bytes b.is_frame.format c.book (subst (λ (l : List ℕ). Torn 0 1 l c.book) (ap (λ (j : Image). j.book) (only from.0 from.1)) from.2.0)
 
   at_start : LeavesOnly tells d0 d0 P
-  at_start = started tells d0 P (λ c now. inl (subst IsUnborn (sym (b.cleared.1 c now)) (now_unborn i.book b.cleared.0 h frame b.is_frame.long b.is_frame.bytes)))
+  at_start = started tells d0 P (λ c now. inl (subst IsUnborn (sym (b.cleared.1 c now)) (now_unborn i.book b.cleared.0 h frame b.is_frame.long b.is_frame.bytes b.is_frame.format)))
 
   module _ (d1 : D) (time1 : Elapses tells d0 d1) (crash1 : Follows (TornIn Book 1 (length frame)) (tells.may_leave d0) (tells.may_leave d1)) where
     pub first : LeavesOnly tells d0 d1 P
@@ -96,11 +98,11 @@ module _ {D : Type 0} (tells : DiskTells D) (d0 : D) {i : Image} {h : Header} {f
 -- after the last call
 pub is_born : {D : Type 0} (tells : DiskTells D) (disk : D) (i : Image) (r : IsCleared i.book) (h : Header) (frame : List ℕ) → IsHeaderFrame h frame
     → tells.reads disk ≡ Some (written Book 0 (1 ∷ []) (written Book 1 frame i)) → Only (written Book 0 (1 ∷ []) (written Book 1 frame i)) (tells.may_leave disk)
-    → IsKept tells disk (born h []) i.blobs
+    → IsKept tells disk (born h None []) i.blobs
 is_born tells disk i r h frame is_frame is only = record {
   now = written Book 0 (1 ∷ []) (written Book 1 frame i);
   is_read = is;
-  book = ap contents_of (is_open i.book r h frame is_frame.long is_frame.bytes) ∙ reads_empty i.book r h frame is_frame.long is_frame.bytes;
+  book = ap contents_of (is_open i.book r h frame is_frame.long is_frame.bytes is_frame.format) ∙ reads_empty i.book r h frame is_frame.long is_frame.bytes is_frame.format;
   blobs_same = refl;
   only = only;
 }

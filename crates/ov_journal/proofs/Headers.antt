@@ -1,6 +1,8 @@
 -- Headers and their bytes.
-use Rattle.std.proofs.Common.{◌≡◌, ℕ, ◌++◌, List, take, drop, get_or, refl, sym, ◌∙◌, ap, arith, ◌+◌}
+use Rattle.std.proofs.Common.{◌≡◌, inl, inr, ℕ, ◌++◌, List, take, drop, get_or, ◌==◌, refl, sym, ◌∙◌, ap, arith, ◌+◌}
 use Rattle.std.specs.Int.{w32, to_be_bytes, from_be_bytes}
+use Rattle.std.proofs.lemmas.Bool.{eq-eqb, ne_eqb}
+use Rattle.std.proofs.lemmas.Bool.Decides.{eqb_tells}
 use Rattle.std.proofs.lemmas.List.{take_at, drop_at}
 use Rattle.std.proofs.lemmas.Nat.{from_be_bytes-to_be_bytes_4}
 use Rattle.ov_base.proofs.Modes.{one_byte}
@@ -25,3 +27,10 @@ spelled_apart a b p q e =
     let digit : 48 + a.format ≡ 48 + b.format = ap (λ (l : List ℕ). get_or l 7 0) e in
     let format : a.format ≡ b.format = omega (arith, digit) in
     λ i. record { format = format i; mode = mode i; first = first i; base_check = base i; surface_check = surface i }
+
+-- the format as a number and as a digit
+pub digit : (format : ℕ) → (format == 1) ≡ ((48 + format) == 49)
+digit format = elim (eqb_tells format 1) [
+  | inl one ↦ one.0 ∙ sym (eq-eqb (48 + format) 49 (omega (arith, one.1)))
+  | inr other ↦ other.0 ∙ sym (ne_eqb (48 + format) 49 (λ same. other.1 (omega (arith, same))))
+]

@@ -1,16 +1,17 @@
 -- A header as it is read, and what a gate says as it is read.
-use Rattle.std.proofs.Common.{◌≡◌, inl, inr, ℕ, suc, ◌+◌, ◌-◌, ◌≤◌, ◌<◌, min, List, [], ◌∷◌, ◌++◌, length, take, drop, get_or, true, sym, ◌∙◌, ap, subst, arith, take-append-drop, length-drop, lit<}
+use Rattle.std.proofs.Common.{◌≡◌, inl, inr, ℕ, suc, ◌+◌, ◌-◌, ◌≤◌, ◌<◌, min, List, [], ◌∷◌, ◌++◌, length, take, drop, get_or, Bool, true, false, ◌==◌, ◌&&◌, refl, sym, ◌∙◌, ap, subst, arith, take-append-drop, length-drop, lit<}
 use Rattle.ov_base.specs.declared.limits.TheConstants.{MAX_RECORD_BYTES}
-use Rattle.std.proofs.lemmas.List.{take_all, drop_more, drop-take, drop-drop, get_or_past, get_or-take, get_or-drop, length-take}
-use Rattle.std.proofs.lemmas.Bool.{cases_lt}
+use Rattle.std.proofs.lemmas.List.{take-take, take_all, drop_more, drop-take, drop-drop, get_or_past, get_or-take, get_or-drop, length-take}
+use Rattle.std.proofs.lemmas.Bool.{cases_lt, eqb-true, ne_eqb, and_parts, false_from_ne_true}
 use Rattle.std.proofs.lemmas.Nat.{be_bytes_4}
 use Rattle.std.specs.Int.{w32, to_be_bytes, from_be_bytes}
 use Rattle.ov_base.specs.Modes.{mode_byte}
 use Rattle.ov_journal.specs.declared.header.Header.{Header}
 use Rattle.ov_journal.specs.Book.{magic, spelled}
-use Rattle.ov_journal.specs.Runs.{length_in, body_in, Run, past_gate, run_after}
+use Rattle.ov_journal.specs.Runs.{length_in, is_length, body_in, Run, past_gate, run_after}
 use Rattle.ov_journal.specs.Heads.{BeginsRecord}
-use Rattle.ov_journal.proofs.Reading.{Fits, fits_is, length-body_in, run_after-drop}
+use Rattle.ov_journal.specs.Steps.{is_step}
+use Rattle.ov_journal.proofs.Reading.{Fits, fits, fits_is, length-body_in, run_after-drop}
 
 -- a part of some bytes is bytes
 part_fits : (l : List ℕ) → ((i : ℕ) → get_or l i 0 < 256) → (n k i : ℕ) → get_or (take k (drop n l)) i 0 < 256
@@ -35,7 +36,7 @@ header_whole front h long fits gate is_magic mode first base surface =
     drop_more front 0 0 (omega (arith, long)) ∙ (λ i. gate i ∷ more i)
 
 -- a record, gate and length
-pub begins : (bytes : List ℕ) (count : ℕ) → get_or bytes 0 0 ≡ 1 → count ≡ length_in (drop 1 bytes) → 1 ≤ count → count ≤ MAX_RECORD_BYTES → count + 5 ≤ length bytes - 1 → BeginsRecord count bytes
+begins : (bytes : List ℕ) (count : ℕ) → get_or bytes 0 0 ≡ 1 → count ≡ length_in (drop 1 bytes) → 1 ≤ count → count ≤ MAX_RECORD_BYTES → count + 5 ≤ length bytes - 1 → BeginsRecord count bytes
 begins [] count gate is some most room = absurd (omega (arith, room))
 begins (g ∷ rest) count gate is some most room =
     let f : Fits rest = record { some = omega (arith, is, some); most = omega (arith, is, most); room = omega (arith, is, room) } in
@@ -51,13 +52,24 @@ begins (g ∷ rest) count gate is some most room =
       long = length-body_in rest f ∙ sym is;
       most = most;
       inside = omega (arith, room);
+      first_byte = get_or-take (length_in rest) (drop 4 rest) 0 0 (omega (arith, f.some)) ∙ get_or-drop 4 rest 0 0;
       bodies = ap (λ (r : Run). r.bodies) here ∙ ap (λ (l : List ℕ). body_in rest ∷ (run_after 0 l).bodies) (sym behind);
       bad = ap (λ (r : Run). r.bad) here ∙ ap (λ (l : List ℕ). (run_after 0 l).bad) (sym behind);
     }
 
--- the length field of a record whose first five bytes were read
-pub field_in : (bytes : List ℕ) → length_in (drop 1 bytes) ≡ from_be_bytes w32 (drop 1 (take 5 bytes))
-field_in bytes = ap (λ (l : List ℕ). from_be_bytes w32 l) (sym (drop-take 1 4 bytes))
+-- the length field of a record whose first six bytes were read
+field_in : (bytes : List ℕ) → length_in (drop 1 bytes) ≡ from_be_bytes w32 (take 4 (drop 1 (take 6 bytes)))
+field_in bytes =
+    let front : take 4 (drop 1 bytes) ≡ take 4 (drop 1 (take 6 bytes)) = sym (take-take 4 5 (drop 1 bytes) (omega arith)) ∙ ap (λ (l : List ℕ). take 4 l) (sym (drop-take 1 5 bytes)) in
+    ap (λ (l : List ℕ). from_be_bytes w32 l) front
+
+-- a record by its first six bytes
+pub begins_in : (front bytes : List ℕ) (count : ℕ) → front ≡ take 6 bytes → get_or front 0 0 ≡ 1 → count ≡ from_be_bytes w32 (take 4 (drop 1 front))
+    → 1 ≤ count → count ≤ MAX_RECORD_BYTES → count + 5 ≤ length bytes - 1 → BeginsRecord count bytes
+begins_in front bytes count is gate field some most room =
+    let open_gate : get_or bytes 0 0 ≡ 1 = sym (get_or-take 6 bytes 0 0 (lit< tt)) ∙ sym (ap (λ (l : List ℕ). get_or l 0 0) is) ∙ gate in
+    let number : count ≡ length_in (drop 1 bytes) = field ∙ ap (λ (l : List ℕ). from_be_bytes w32 (take 4 (drop 1 l))) is ∙ sym (field_in bytes) in
+    begins bytes count open_gate number some most room
 
 take_long : (n : ℕ) (l : List ℕ) → take (min n (length l)) l ≡ take n l
 take_long n l = elim (cases_lt n (length l)) [
@@ -70,3 +82,37 @@ pub front_read : (x l : List ℕ) (n k : ℕ) → x ≡ take n l → length x �
 front_read x l n k is long =
     let size : min n (length l) ≡ min k (length l) = omega (arith, sym (length-take n l), ap length is, long) in
     is ∙ sym (take_long n l) ∙ ap (λ (m : ℕ). take m l) size ∙ take_long k l
+
+-- an open gate with a length that can't be
+pub bad_length : (bytes : List ℕ) → get_or bytes 0 0 ≡ 1 → (Fits (drop 1 bytes) → ⊥) → run_after 0 bytes ≡ record { bodies = []; bad = true }
+bad_length [] gate no = refl
+bad_length (g ∷ rest) gate no =
+    let none : is_length rest ≡ false = false_from_ne_true (is_length rest) (λ is. no (fits rest is)) in
+    ap (λ (x : ℕ). run_after 0 (x ∷ rest)) gate ∙ (λ i. past_gate true (none i) (body_in rest) (run_after (length_in rest + 4) rest))
+
+-- ---- whether it is a step record
+
+step_body_is : (body : List ℕ) (count byte : ℕ) → length body ≡ count → get_or body 0 0 ≡ byte → is_step body ≡ (count == 1 && byte == 5)
+step_body_is [] count byte long first = let none : (count == 1) ≡ false = ap (λ (n : ℕ). n == 1) (sym long) in ap (λ (b : Bool). b && byte == 5) (sym none)
+step_body_is (x ∷ []) count byte long first = (λ k. 1 == 1 && first k == 5) ∙ ap (λ (n : ℕ). n == 1 && byte == 5) long
+step_body_is (x ∷ y ∷ body) count byte long first =
+    let many : (count == 1) ≡ false = ne_eqb count 1 (λ one. omega (arith, one, long)) in
+    ap (λ (b : Bool). b && byte == 5) (sym many)
+
+first_is : (front bytes : List ℕ) (count : ℕ) → front ≡ take 6 bytes → (b : BeginsRecord count bytes) → get_or b.body 0 0 ≡ get_or front 5 0
+first_is front bytes count is b = b.first_byte ∙ sym (get_or-take 6 bytes 5 0 (lit< tt)) ∙ sym (ap (λ (l : List ℕ). get_or l 5 0) is)
+
+-- what the first six bytes say of a step record: that it is one, or none
+pub is_one : (is_due : Bool) (front bytes : List ℕ) (count : ℕ) → front ≡ take 6 bytes → BeginsRecord count bytes → (is_due && (count == 1 && get_or front 5 0 == 5)) ≡ true
+    → (is_due ≡ true) × (b : BeginsRecord 1 bytes) × (is_step b.body ≡ true)
+is_one is_due front bytes count is b test =
+    let parts = and_parts is_due (count == 1 && get_or front 5 0 == 5) test in
+    let one : count ≡ 1 = eqb-true count 1 (and_parts (count == 1) (get_or front 5 0 == 5) parts.1).0 in
+    let step = step_body_is b.body count (get_or front 5 0) b.long (first_is front bytes count is b) ∙ parts.1 in
+    let both = subst (λ (n : ℕ). (b : BeginsRecord n bytes) × (is_step b.body ≡ true)) one (b, step) in
+    (parts.0, both.0, both.1)
+
+pub is_none : (is_due : Bool) (front bytes : List ℕ) (count : ℕ) → front ≡ take 6 bytes → BeginsRecord count bytes → (is_due && (count == 1 && get_or front 5 0 == 5)) ≡ false
+    → (b : BeginsRecord count bytes) × (is_due ≡ true → is_step b.body ≡ false)
+is_none is_due front bytes count is b test =
+    (b, λ due. step_body_is b.body count (get_or front 5 0) b.long (first_is front bytes count is b) ∙ ap (λ (d : Bool). d && (count == 1 && get_or front 5 0 == 5)) (sym due) ∙ test)

@@ -23,14 +23,14 @@ item_is (x ∷ bodies) (suc n) body lt is = item_is bodies n body (omega (arith,
 
 -- no body more
 pub with_none : (c : Contents) → with_bodies [] c ≡ c
-with_none c = λ i. record { head = c.head; records = record { bodies = append-nil c.records.bodies i; bad = c.records.bad } }
+with_none c = λ i. record { head = c.head; records = record { bodies = append-nil c.records.bodies i; step = c.records.step; bad = c.records.bad } }
 
 -- one more of a list of bodies
 pub one_more : (bodies : List (List ℕ)) (n : ℕ) (body : List ℕ) (c k : Contents) → n < length bodies → get_or bodies n [] ≡ body → k ≡ with_bodies (take n bodies) c → with_body body k ≡ with_bodies (take (n + 1) bodies) c
 one_more bodies n body c k lt item is =
     let next : take (n + 1) bodies ≡ take n bodies ++ body ∷ [] = take_more bodies n [] lt ∙ ap (λ (b : List ℕ). take n bodies ++ b ∷ []) item in
     ap (with_body body) is
-    ∙ (λ i. record { head = c.head; records = record { bodies = (append_assoc c.records.bodies (take n bodies) (body ∷ []) ∙ ap (λ (l : List (List ℕ)). c.records.bodies ++ l) (sym next)) i; bad = c.records.bad } })
+    ∙ (λ i. record { head = c.head; records = record { bodies = (append_assoc c.records.bodies (take n bodies) (body ∷ []) ∙ ap (λ (l : List (List ℕ)). c.records.bodies ++ l) (sym next)) i; step = c.records.step; bad = c.records.bad } })
 
 front_of : (may_leave : Image → Type 0) (i k : Image) (bodies : List (List ℕ)) (n : ℕ) (body : List ℕ) → n < length bodies → get_or bodies n [] ≡ body
     → contents_of k.book ≡ with_bodies (take n bodies) (contents_of i.book) → (c : Image) → IsBeforeOrAfter may_leave k body c → HasFront i bodies c

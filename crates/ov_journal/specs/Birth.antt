@@ -11,7 +11,8 @@ pub record IsCleared (book : List ℕ) : Type 0 where
   pub short : length rest ≤ 78
   pub closed : gate ≢ 1
 
--- a header behind its gate, and the closed gate of a record that isn't there
+-- a header of the second format behind its gate, and the closed gate of a record that isn't there
 pub record IsHeaderFrame (header : Header) (frame : List ℕ) : Type 0 where
   pub bytes : frame ≡ header_bytes header ++ 0 ∷ []
   pub long : length frame ≡ 78
+  pub format : header.format ≡ 2

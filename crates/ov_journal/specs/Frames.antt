@@ -101,6 +101,6 @@ pub record IsReady {D : Type 0} (tells : DiskTells D) (gate : ℕ) (disk : D) (i
 -- have left before; and one that tells its bytes told them before.
 pub record MakesReady {D : Type 0} (tells : DiskTells D) (gate : ℕ) (old new : D) : Type 0 where
   pub ready : Told (tells.reads old) (IsReady tells gate new)
-  pub blobs : (c : Image) → tells.may_leave new c
-      → (d : Image) × tells.may_leave old d × (c.blobs ≡ d.blobs)
+  pub blobs : Told (tells.reads old) (λ _. (c : Image) → tells.may_leave new c
+      → (d : Image) × tells.may_leave old d × (c.blobs ≡ d.blobs))
   pub told_before : Told (tells.reads new) (λ _. (i : Image) × (tells.reads old ≡ Some i))

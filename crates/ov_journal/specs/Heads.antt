@@ -1,5 +1,5 @@
 -- Inner: no public contract needs this. What the code finds of a Book before it has read all of it.
-use Rattle.std.specs.Prelude.{◌≡◌, ℕ, ◌+◌, ◌≤◌, ◌<◌, List, [], ◌∷◌, ◌++◌, length, take, drop, Bool, true, false, ⊤}
+use Rattle.std.specs.Prelude.{◌≡◌, ℕ, ◌+◌, ◌≤◌, ◌<◌, List, [], ◌∷◌, ◌++◌, length, take, drop, slice_index, Bool, true, false, ⊤}
 use Rattle.ov_base.specs.declared.limits.TheConstants.{MAX_RECORD_BYTES}
 use Rattle.ov_journal.specs.declared.open.Head.{Head}
 use Rattle.ov_journal.specs.declared.open.Head.TheVariants.{Unborn, Foreign, NoMode, Store}
@@ -32,6 +32,7 @@ pub record BeginsRecord (count : ℕ) (bytes : List ℕ) : Type 0 where
   pub long : length body ≡ count
   pub most : count ≤ MAX_RECORD_BYTES
   pub inside : 5 + count < length bytes
+  pub first_byte : slice_index body 0 ≡ slice_index bytes 5
   pub bodies : (run_after 0 bytes).bodies
       ≡ body ∷ (run_after 0 (drop (5 + count) bytes)).bodies
   pub bad : (run_after 0 bytes).bad ≡ (run_after 0 (drop (5 + count) bytes)).bad
@@ -42,16 +43,16 @@ abbrev pub Nexts : Bool → List ℕ → Next → Type 0
 Nexts is_due bytes Closed = run_after 0 bytes ≡ record { bodies = []; bad = false }
 Nexts is_due bytes Bad = run_after 0 bytes ≡ record { bodies = []; bad = true }
 Nexts is_due bytes StepRecord =
-    (is_due ≡ true) × ((begins : BeginsRecord 1 bytes) × (is_step begins.body ≡ true))
+    (is_due ≡ true) × (begins : BeginsRecord 1 bytes) × (is_step begins.body ≡ true)
 Nexts is_due bytes (Record count) =
     (begins : BeginsRecord count bytes) × (is_due ≡ true → is_step begins.body ≡ false)
 
--- a record that was found is one in this many bytes
-abbrev pub LiesIn : ℕ → Next → Type 0
-LiesIn left Closed = ⊤
-LiesIn left Bad = ⊤
-LiesIn left StepRecord = 6 < left
-LiesIn left (Record count) = (count ≤ MAX_RECORD_BYTES) × (5 + count < left)
+-- a record that was found is one in this many bytes, and a step record only where it may be one
+abbrev pub LiesIn : Bool → ℕ → Next → Type 0
+LiesIn is_due left Closed = ⊤
+LiesIn is_due left Bad = ⊤
+LiesIn is_due left StepRecord = (is_due ≡ true) × (6 < left)
+LiesIn is_due left (Record count) = (count ≤ MAX_RECORD_BYTES) × (5 + count < left)
 
 -- These records were read, up to this place, and all that isn't the step record is among the gates.
 pub record ReadTo (end : ℕ) (offsets : List ℕ) (step : Step) (book : List ℕ) : Type 0 where

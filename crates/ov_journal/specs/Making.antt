@@ -17,12 +17,18 @@ awaits Never = false
 awaits Due = true
 awaits (Made old) = false
 
+-- what is known once the step record stands behind this many records, where it was due
+abbrev pub made_behind : Step → ℕ → Step
+made_behind Never count = Never
+made_behind Due count = Made count
+made_behind (Made old) count = Made old
+
 -- what is known of the step record is so among these bodies, of a store of the first format or not
 abbrev pub IsStepIn : Step → Bool → List (List ℕ) → Type 0
 IsStepIn Never first bodies = first ≡ false
 IsStepIn Due first bodies = (first ≡ true) × (before_step bodies ≡ length bodies)
 IsStepIn (Made old) first bodies =
-    (first ≡ true) × ((before_step bodies ≡ old) × (old < length bodies))
+    (first ≡ true) × (before_step bodies ≡ old) × (old < length bodies)
 
 -- the gates of all records but the step record, of those of all
 abbrev pub shown : Step → List ℕ → List ℕ

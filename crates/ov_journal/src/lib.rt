@@ -12,14 +12,21 @@
 //! bytes: no checksum is needed, and none is trusted. A birth is written in the same way behind the
 //! header's gate.
 //!
+//! A store of the first format has a *step record* before the records in the second form. It is this
+//! crate's own affair: `contents_of` leaves it out, and says how many bodies come before it. An append
+//! writes it first where it is due. With it or without, a Book whose last record it is says the same,
+//! so a crash between the two leaves what was there.
+//!
 //! * [`Journal::begin`] answers what a Book is, exactly: [`Found::Unborn`], another file, a header
 //!   with a mode that can't be, or a store with its records, and with the place of the first length
 //!   field that can't be. [`a_book_is_one_thing`] says that no two of these hold.
 //! * [`Journal::birth`], [`Journal::append`] and [`Journal::append_all`] write, [`Journal::body`]
-//!   reads a record. `append` makes four calls of the disk and takes no memory:
-//!   [`Journal::reserve`] took it.
+//!   reads a record. `append` makes four calls of the disk, or eight where it writes the step record
+//!   too ([`Journal::step_is_due`]), and takes no memory: [`Journal::reserve`] took it.
+//! * [`Journal::is_old`] says which records are in the first form.
 //!
-//! A contract sees a journal as a `Log` of `specs/Log`: the places of its gates, and its room.
+//! A contract sees a journal as a `Log` of `specs/Log`: the places of its gates, its room, and what
+//! is known of the step record.
 //! `Stands` says that a journal, what a disk reads and what a crash may leave of it belong
 //! together. Each call keeps it or says when it doesn't, so that callers go from call to call by it
 //! alone. docs/CRASH.md tells the argument in words.

@@ -1,11 +1,11 @@
 //! The step record of a store of the first format, which comes before the first record in the second
 //! form.
-ghost use Rattle.std.specs.Prelude.{◌≡◌, ◌≤◌, ◌+◌, ℕ, [], IfOk, IsErr, false, vec_capacity};
+ghost use Rattle.std.specs.Prelude.{◌≡◌, ◌≤◌, ◌+◌, [], IfOk, IsErr, vec_capacity};
 ghost use Rattle.ov_disk.specs.Calls.{IsDiskCall};
 ghost use Rattle.ov_disk.specs.Disk.{Told, OnlyBook};
 ghost use Rattle.ov_journal.specs.Book.{is_due};
 ghost use Rattle.ov_journal.specs.Frames.{EndsAt, Fits, MakesReady, SaysNoMore};
-ghost use Rattle.ov_journal.specs.Making.{IsStepIn, awaits, old_of};
+ghost use Rattle.ov_journal.specs.Making.{IsStepIn, awaits, made_behind, old_of};
 ghost use Rattle.ov_journal.specs.Steps.{step_body, step_size};
 
 use crate::record::put_record;
@@ -59,8 +59,7 @@ impl Step {
 
     /// What is known once the step record stands behind this many records, where it was due.
     pub fn made(self, count: u64) -> Step
-        ensures stands { awaits result ≡ false }
-        ensures old { (more : ℕ) → old_of result more ≡ old_of self count }
+        ensures { result ≡ made_behind self count }
     {
         match self {
             Step::Due => Step::Made { old: count },
@@ -87,9 +86,10 @@ pub fn put_step<D: Disk>(
     ensures capacity { vec_capacity frame.old ≤ vec_capacity frame.new }
     ensures call { IsDiskCall D.tells (IsErr result) disk.old disk.new }
 {
-    if !step.is_due() {
-        return Ok(end);
+    if step.is_due() {
+        put_record(disk, end, frame, &[STEP])?;
+        Ok(end + STEP_BYTES)
+    } else {
+        Ok(end)
     }
-    put_record(disk, end, frame, &[STEP])?;
-    Ok(end + STEP_BYTES)
 }
