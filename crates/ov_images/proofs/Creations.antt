@@ -4,7 +4,6 @@ use Rattle.std.proofs.Common.{◌≡◌, inl, inr, ℕ, ◌+◌, ◌*◌, ◌==�
 use Rattle.std.proofs.Common.{refl, sym, ap, subst, lit<, lit≤}
 use Rattle.std.specs.Prelude.{◌/◌, min, Option, Some, None, replicate}
 use Rattle.ov_base.specs.Sets.{bytes_of}
-use Rattle.ov_base.specs.declared.mode.Mode.TheVariants.{Delta}
 use Rattle.ov_base.proofs.SetLaws.{small-IsBelow}
 use Rattle.ov_blocks.specs.declared.extents.TheConstants.{BLOCK_BYTES, MAX_BLOCKS}
 use Rattle.ov_fields.specs.Reading.{byte_at, bytes_at, many_at, name_at}
@@ -19,7 +18,7 @@ use Rattle.ov_journal.specs.Runs.{run_after}
 use Rattle.ov_journal.specs.Steps.{gate_behind}
 use Rattle.ov_images.specs.Images.{HasRecords, Keys, header_of}
 use Rattle.ov_images.specs.Records.{HasRecordForm, StopsInUpdate, bodies_of, form_behind}
-use Rattle.ov_images.specs.Extents.{IsLaidOut, blocks_in}
+use Rattle.ov_images.specs.Extents.{IsLaidOut}
 use Rattle.ov_images.specs.Damage.{HasBadRecords, in_book}
 use Rattle.ov_images.proofs.Rows.{alice, bad_book, contents, enrol, first_record, head, one_user}
 use Rattle.ov_images.proofs.Rows.{placed, step_record}

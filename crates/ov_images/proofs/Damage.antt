@@ -1,7 +1,7 @@
 -- An image with a bad record beside extents keeps no history, and is bad at one place of one area.
 use Rattle.std.proofs.Common.{◌≡◌, inl, inr, ⊎_elim, ℕ, ◌+◌, List, [], ◌∷◌, ◌++◌, length, arith}
 use Rattle.std.proofs.Common.{refl, sym, ◌∙◌, ap, subst, append_assoc}
-use Rattle.std.specs.Prelude.{◌⊎◌, Option, Some, None}
+use Rattle.std.specs.Prelude.{◌⊎◌, Option, None}
 use Rattle.ov_base.specs.declared.mode.Mode.{Mode}
 use Rattle.ov_record.specs.Forms.{Form, HasRoom}
 use Rattle.ov_history.specs.Briefs.{Brief}

@@ -270,7 +270,7 @@ module _ (k : Keys) (blobs : List ℕ) (long : length k.base_check ≡ 32) where
   new_store = new_keeps k blobs long
 
   pub with_alice : KeepsAt k (placed one_user) (history (SealedEnrol alice ∷ []))
-      (image (head 2 k ++ first_record ++ 0 ∷ []) blobs)
+      (image (head 2 k ++ (first_record ++ 0 ∷ [])) blobs)
   with_alice = one_keeps k blobs long 2 None (first_record ++ 0 ∷ []) (inr refl) refl
 
   -- a book of this format keeps both users
@@ -291,7 +291,7 @@ module _ (k : Keys) (blobs : List ℕ) (long : length k.base_check ≡ 32) where
 
   pub with_carol : KeepsAt k (placed three_users)
       (history (SealedEnrol alice ∷ SealedEnrol bob ∷ SealedEnrol carol ∷ []))
-      (image (head 1 k ++ both_records ++ step_record ++ third_record ++ 0 ∷ []) blobs)
+      (image (head 1 k ++ (both_records ++ step_record ++ third_record ++ 0 ∷ [])) blobs)
   with_carol =
       three_keep k blobs long 1 (Some 2)
       (both_records ++ step_record ++ third_record ++ 0 ∷ []) (inl refl) refl
@@ -324,16 +324,16 @@ module _ (format : ℕ) (k : Keys) (long : length k.base_check ≡ 32) where
   pub length-new : length (head format k ++ 0 ∷ []) ≡ 79
   length-new = length-book format k (0 ∷ []) long
 
-  pub length-alice : length (head format k ++ first_record ++ 0 ∷ []) ≡ 91
+  pub length-alice : length (head format k ++ (first_record ++ 0 ∷ [])) ≡ 91
   length-alice = length-book format k (first_record ++ 0 ∷ []) long
 
-  pub length-bob : length (head format k ++ both_records ++ 0 ∷ []) ≡ 101
+  pub length-bob : length (head format k ++ (both_records ++ 0 ∷ [])) ≡ 101
   length-bob = length-book format k (both_records ++ 0 ∷ []) long
 
-  pub length-step : length (head format k ++ both_records ++ step_record ++ 0 ∷ []) ≡ 107
+  pub length-step : length (head format k ++ (both_records ++ step_record ++ 0 ∷ [])) ≡ 107
   length-step = length-book format k (both_records ++ step_record ++ 0 ∷ []) long
 
   pub length-carol
-      : length (head format k ++ both_records ++ step_record ++ third_record ++ 0 ∷ []) ≡ 119
+      : length (head format k ++ (both_records ++ step_record ++ third_record ++ 0 ∷ [])) ≡ 119
   length-carol =
       length-book format k (both_records ++ step_record ++ third_record ++ 0 ∷ []) long

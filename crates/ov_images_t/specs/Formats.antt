@@ -23,11 +23,11 @@ head digit k =
 
 -- a Book of the magic `OVERENC1` with these records and a closed gate
 abbrev pub first_book : Keys → List ℕ → List ℕ
-first_book k records = head 49 k ++ records ++ 0 ∷ []
+first_book k records = head 49 k ++ (records ++ 0 ∷ [])
 
 -- a Book of the magic `OVERENC2` with these records and a closed gate
 abbrev pub second_book : Keys → List ℕ → List ℕ
-second_book k records = head 50 k ++ records ++ 0 ∷ []
+second_book k records = head 50 k ++ (records ++ 0 ∷ [])
 
 -- the names of three users
 abbrev pub alice : List ℕ
