@@ -11,23 +11,25 @@ use Rattle.ov_disk.proofs.Runs.{then_on}
 use Rattle.ov_disk.specs.declared.area.Area.{Area}
 use Rattle.ov_disk.specs.declared.area.Area.TheVariants.{Book}
 use Rattle.ov_disk.specs.Tells.{DiskTells}
+use Rattle.ov_journal.specs.Book.{contents_of}
 use Rattle.ov_journal.specs.Standing.{IsUnborn}
 use Rattle.ov_journal.specs.declared.fault.CheckFault.{CheckFault}
 use Rattle.ov_journal.specs.declared.fault.CheckFault.TheVariants.{Disk as NoDisk}
 use Rattle.ov_journal.specs.declared.fault.CheckFault.TheVariants.{Memory as NoMemory}
 use Rattle.ov_record.specs.Updates.{SealedUpdate}
 use Rattle.ov_images.specs.Images.{IsImageOf, Keys, Opens, StandsIn, keys_of}
+use Rattle.ov_images.proofs.Keeping.{is_born}
 use Rattle.ov_history.specs.Briefs.{brief, outer}
 use Rattle.ov_history.specs.History.{History, Update, empty, start_of, with_update}
 use Rattle.ov_history.specs.KeptLaws.{AllAreOwners}
 use Rattle.ov_history.specs.Layers.{layers_of}
 use Rattle.ov_history.specs.Masters.{Masters}
 use Rattle.ov_history.specs.Plain.{PlainHistory, PlainUpdate, empty_plain, measured}
-use Rattle.ov_history.specs.Sealed.{IsSealed, SealedHistory, outer_all, outer_of}
+use Rattle.ov_history.specs.Sealed.{IsSealed, SealedHistory, blank, outer_all, outer_of}
 use Rattle.ov_history.specs.Sealing.{sealed, sealed_from}
 use Rattle.ov_history.proofs.Pushing.{with_updates, with_updates-all}
 use Rattle.ov_history.proofs.Sealing.{measured-sealed, owners_histories}
-use Rattle.ov_store.specs.Beginning.{FindsHistory, IsBeginFault, IsNew, LeavesHistory}
+use Rattle.ov_store.specs.Beginning.{FindsHistory, IsBeginFault, IsNew, LeavesHistory, ReadsBorn}
 use Rattle.ov_store.specs.Beginning.{WritesNoBorn, disk_left}
 use Rattle.ov_store.specs.Opened.{Opened, Serves}
 use Rattle.ov_store.specs.Owners.{HasFalseUpdate, IsOwners, masters, with_first}
@@ -56,9 +58,9 @@ next_is_owners k h [] next rest all = all.0
 next_is_owners k h (u ∷ front) next rest all =
     next_is_owners k (with_update h (outer (brief u))) front next rest all.1
 
-never_false : (k : Masters) (g : SealedHistory) (place : ℕ)
-    → AllAreOwners k (start_of (outer_of g)) g.updates → HasFalseUpdate k g place → ⊥
-never_false k g place all f =
+never_false : (k : Masters) (step : Option ℕ) (g : SealedHistory) (place : ℕ)
+    → AllAreOwners k (start_of (outer_of g)) g.updates → HasFalseUpdate k step g place → ⊥
+never_false k step g place all f =
     let next = next_is_owners k (start_of (outer_of g)) f.front f.next f.rest
     (subst (AllAreOwners k (start_of (outer_of g))) f.split all) in
     f.wrong
@@ -77,10 +79,10 @@ seals_all k h (u ∷ updates) = (
 )
 
 -- no update of a history that its owner sealed is another's
-sealed_never_false : (k : Masters) (p : PlainHistory) (place : ℕ)
-    → HasFalseUpdate k (sealed k p) place → ⊥
-sealed_never_false k p place =
-    never_false k (sealed k p) place (seals_all k (empty p.mode p.first) p.updates)
+sealed_never_false : (k : Masters) (step : Option ℕ) (p : PlainHistory) (place : ℕ)
+    → HasFalseUpdate k step (sealed k p) place → ⊥
+sealed_never_false k step p place =
+    never_false k step (sealed k p) place (seals_all k (empty p.mode p.first) p.updates)
 
 -- an image opens that stands for a history whose updates are all so
 opens_so : (k : Masters) (mode : Mode) (i : Image) (g : SealedHistory) → g.mode ≡ mode
@@ -101,6 +103,30 @@ no_updates : (front : List SealedUpdate) (next : SealedUpdate) (rest : List Seal
     → [] ≡ front ++ next ∷ rest → ⊥
 no_updates [] next rest e = absurd (cc e)
 no_updates (u ∷ front) next rest e = absurd (cc e)
+
+-- a history that stands for an image where no store was begun has no update that isn't so
+never_unborn : (k : Masters) (step : Option ℕ) (g : SealedHistory) (place : ℕ)
+    → g ≡ blank g.mode 0 → HasFalseUpdate k step g place → ⊥
+never_unborn k step g place blank_is f =
+    no_updates f.front f.next f.rest
+    (sym (ap (λ (x : SealedHistory). x.updates) blank_is) ∙ f.split)
+
+-- what was found on the image that a store's disk reads now is so on the one that it read first, which
+-- is the same where that was a store
+found_first : (k : Masters) (g : SealedHistory) (i now : Image) (fault : BeginFault)
+    → ((IsUnborn i.book → ⊥) → now ≡ i) → IsImageOf (keys_of k) g i
+    → IsCheckFault k now g fault → IsCheckFault k i g fault
+found_first k g i now Disk same image is = tt
+found_first k g i now Memory same image is = tt
+found_first k g i now NotAStore same image is = absurd is
+found_first k g i now (BaseDiffers stored given) same image is = absurd is
+found_first k g i now (SurfaceDiffers stored given) same image is = absurd is
+found_first k g i now (ModeDiffers stored given) same image is = absurd is
+found_first k g i now (Damaged area place) same (inl (unborn, blank_is)) is =
+    absurd (never_unborn k (contents_of now.book).records.step g place blank_is is.1)
+found_first k g i now (Damaged area place) same (inr keeps) is =
+    subst (λ (x : Image). IsCheckFault k x g (Damaged area place))
+    (same (is_born (keys_of k) g i keeps).1) is
 
 -- ---- what was found of them
 
@@ -140,6 +166,14 @@ disk_found (Err NoMemory) fault e is =
     absurd (cc no)
 
 -- ---- a store that is begun
+
+-- Of a store that was begun on a disk: what was found of its image, and that the disk still tells
+-- what it told, and reads the same where a store was there.
+abbrev pub Finds : {D : Type 0} → DiskTells D → Keys → Mode → D → Opened D → Type 0
+Finds tells ks mode first s =
+    Told (tells.reads first) (λ i. FindsHistory tells ks mode i s)
+    × StaysTold (tells.reads first) (tells.reads s.disk)
+    × ReadsBorn (tells.reads first) (tells.reads s.disk)
 
 module _ {D : Type 0} where
   pub new_so : (ks : Keys) (mode : Mode) (s : Opened D) (r : Result (Opened D) (BeginRefused D))
@@ -182,19 +216,30 @@ module _ {D : Type 0} (tells : DiskTells D) where
 
   -- what is found of the image of a store that was begun, by what is found of its updates
   module _ (k : Masters) (mode : Mode) (first : D) (s : Opened D)
-      (found : Told (tells.reads first) (λ i. FindsHistory tells (keys_of k) mode i s)
-      × StaysTold (tells.reads first) (tells.reads s.disk)) where
+      (found : Finds tells (keys_of k) mode first s) where
     abbrev Owners : Result (Opened D) (BeginRefused D) → Type 0
     Owners r =
         (g : SealedHistory) → Serves tells g s
-        → Told (tells.reads s.disk) (λ _. IsChecked tells k g r)
+        → Told (tells.reads s.disk) (λ i. IsChecked tells k i g r)
 
     seen : (r : Result (Opened D) (BeginRefused D)) → Owners r → (i : Image) → tells.reads first ≡ Some i
         → (g : SealedHistory) → g.mode ≡ mode
-        → IsImageOf (keys_of k) g i → IsChecked tells k g r
+        → IsImageOf (keys_of k) g i → IsChecked tells k (found.1 i read).0 g r
     seen r owners i read g is image =
         let told = found.1 i read in
         owners g ((found.0 i read).each g is image) told.0 told.1
+
+    -- the disk still reads the same, where it was a store
+    reads_on : (i : Image) (read : tells.reads first ≡ Some i) → (IsUnborn i.book → ⊥)
+        → (found.1 i read).0 ≡ i
+    reads_on i read born = cc (sym (found.1 i read).1 ∙ found.2 i read born)
+
+    faulted : (refused : BeginRefused D) → Owners (Err refused) → (i : Image)
+        → tells.reads first ≡ Some i → (g : SealedHistory) → g.mode ≡ mode
+        → IsImageOf (keys_of k) g i → IsCheckFault k i g refused.fault
+    faulted refused owners i read g is image =
+        found_first k g i (found.1 i read).0 refused.fault (reads_on i read) image
+        (seen (Err refused) owners i read g is image)
 
     opens_found : (t : Opened D) → Owners (Ok t) → (i : Image) → tells.reads first ≡ Some i
         → FindsPlain tells k mode i t
@@ -216,16 +261,16 @@ module _ {D : Type 0} (tells : DiskTells D) where
     plain_found (Err refused) owners same = tt
 
     false_record : (i : Image) (g : SealedHistory) (place : ℕ) → g.mode ≡ mode
-        → IsImageOf (keys_of k) g i → HasFalseUpdate k g place
+        → IsImageOf (keys_of k) g i
+        → HasFalseUpdate k (contents_of i.book).records.step g place
         → HasFalseRecord k mode i place
     false_record i g place is (inl (unborn, blank_is)) f =
-        let empty_is = ap (λ (x : SealedHistory). x.updates) blank_is in
-        absurd (no_updates f.front f.next f.rest (sym empty_is ∙ f.split))
+        absurd (never_unborn k (contents_of i.book).records.step g place blank_is f)
     false_record i g place is (inr keeps) f =
         record { history = g; mode_is = is; keeps = keeps; first_false = f }
 
     by_fault : (i : Image) (fault : BeginFault) → StandsIn (keys_of k) mode i
-        → ((g : SealedHistory) → g.mode ≡ mode → IsImageOf (keys_of k) g i → IsCheckFault k g fault)
+        → ((g : SealedHistory) → g.mode ≡ mode → IsImageOf (keys_of k) g i → IsCheckFault k i g fault)
         → Refuses k mode i fault
     by_fault i Disk (g, is, image) of_each = record { why = inl tt; opens = λ opens. inl refl }
     by_fault i Memory (g, is, image) of_each = record { why = inl tt; opens = λ opens. inr refl }
@@ -237,35 +282,33 @@ module _ {D : Type 0} (tells : DiskTells D) where
         let wrong = of_each g is image in
         let at_gate = ap (λ (a : Area). Damaged a place) wrong.0 in record {
           why = inr (place, at_gate, false_record i g place is image wrong.1);
-          opens = λ o. absurd (sealed_never_false k o.0 place (of_each (sealed k o.0) o.2 o.3).1);
+          opens = λ o. absurd (sealed_never_false k (contents_of i.book).records.step o.0 place
+              (of_each (sealed k o.0) o.2 o.3).1);
         }
 
     false_refused : (r : Result (Opened D) (BeginRefused D)) → Owners r
         → IfErr r (λ refused. Told (tells.reads first) (λ i. Refuses k mode i refused.fault))
     false_refused (Ok t) owners = tt
     false_refused (Err refused) owners = λ i read.
-        by_fault i refused.fault (found.0 i read).some (seen (Err refused) owners i read)
+        by_fault i refused.fault (found.0 i read).some (faulted refused owners i read)
 
   -- what is found of a store's image, under the keys with which the store was begun, by what is
   -- found of its updates
   pub looked : (k : Masters) (ks : Keys) (mode : Mode) (first : D) (s : Opened D)
       → ks ≡ keys_of k → s.keys ≡ ks
-      → Told (tells.reads first) (λ i. FindsHistory tells ks mode i s)
-      × StaysTold (tells.reads first) (tells.reads s.disk)
+      → Finds tells ks mode first s
       → (r : Result (Opened D) (BeginRefused D))
       → ((g : SealedHistory) → Serves tells g s → Told (tells.reads s.disk)
-      (λ _. IsChecked tells (masters k.base s.keys.surface) g r))
+      (λ i. IsChecked tells (masters k.base s.keys.surface) i g r))
       → tells.reads (disk_left r) ≡ tells.reads s.disk
       → IfOk r (λ t. Told (tells.reads first) (λ i. FindsPlain tells k mode i t)
       × StaysTold (tells.reads first) (tells.reads t.disk))
       × IfErr r (λ refused. Told (tells.reads first) (λ i. Refuses k mode i refused.fault))
   looked k ks mode first s same fresh found r owners quiet =
-      let under = subst
-      (λ (x : Keys). Told (tells.reads first) (λ i. FindsHistory tells x mode i s)
-      × StaysTold (tells.reads first) (tells.reads s.disk)) same found in
+      let under = subst (λ (x : Keys). Finds tells x mode first s) same found in
       let own = subst
       (λ (x : Keys). (g : SealedHistory) → Serves tells g s → Told (tells.reads s.disk)
-      (λ _. IsChecked tells (masters k.base x.surface) g r)) (fresh ∙ same) owners in
+      (λ i. IsChecked tells (masters k.base x.surface) i g r)) (fresh ∙ same) owners in
       (plain_found k mode first s under r own quiet, false_refused k mode first s under r own)
 
 -- no store was begun

@@ -1,6 +1,6 @@
 //! What the three programs ask of the system: the words behind their names, the places of standard
 //! streams, and what it says of the files that the words name: why one can't be used as a file of a
-//! store, whether a store was begun in one, and whether others may read it.
+//! store, whether a store was begun in one, and in which format, and whether others may read it.
 //!
 //! The three programs ask before or after they use a file, to say on standard error what is wrong.
 //! Nothing that they answer or store depends on it, so no function here has a contract.
@@ -17,6 +17,9 @@ const OTHERS_READ: u32 = 0o044;
 
 // One byte more than the longest file that counts as no store, whatever its bytes.
 const STORE_LENGTH: usize = 80;
+
+// What the book of a store of the first format begins with: its gate, and the magic.
+const FIRST_FORMAT: [u8; 9] = *b"\x01OVERENC1";
 
 /// The words behind the program's name.
 pub fn words_of(rt: &HostRuntime) -> io::Result<Vec<String>> {
@@ -95,6 +98,23 @@ pub fn begins(rt: &HostRuntime, book: &str) -> bool {
     match fs::metadata(rt, book) {
         Ok(about) => about.is_file() && is_unborn(rt, book),
         Err(error) => error.kind() == ErrorKind::NotFound && is_folder(rt, folder_of(book)),
+    }
+}
+
+/// Whether this book is that of a store of the first format, by what it begins with.
+pub fn is_of_first_format(rt: &HostRuntime, book: &str) -> bool {
+    match fs::metadata(rt, book) {
+        Ok(about) if about.is_file() => begins_with_first(rt, book),
+        _ => false,
+    }
+}
+
+// Whether this file begins so.
+fn begins_with_first(rt: &HostRuntime, book: &str) -> bool {
+    let mut front = [0; 9];
+    match File::open(rt, book) {
+        Ok(mut file) => file.read_exact(&mut front).is_ok() && front == FIRST_FORMAT,
+        Err(_) => false,
     }
 }
 

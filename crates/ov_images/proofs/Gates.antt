@@ -1,18 +1,21 @@
 -- Where the records of a history end, whichever first blocks they have.
-use Rattle.std.proofs.Common.{◌≡◌, ℕ, ◌+◌, ◌*◌, List, [], ◌∷◌, length, length-append, refl, sym, ap, subst, ◌∙◌, arith}
+use Rattle.std.proofs.Common.{◌≡◌, ℕ, ◌+◌, ◌*◌, leb, List, [], ◌∷◌, length, length-append, refl}
+use Rattle.std.proofs.Common.{sym, ap, subst, ◌∙◌, arith}
+use Rattle.std.specs.Prelude.{Option, Some, None}
 use Rattle.ov_fields.specs.Spelling.{u32}
 use Rattle.ov_fields.proofs.FieldLaws.{wide32}
-use Rattle.ov_record.specs.Forms.{second_form}
+use Rattle.ov_record.specs.Forms.{Form}
 use Rattle.ov_record.specs.Stored.{brief_spelling}
 use Rattle.ov_history.specs.Briefs.{Brief}
 use Rattle.ov_history.specs.Catalogue.{Catalogue, catalogue_after, empty_catalogue}
 use Rattle.ov_history.specs.Rewrites.{rewrites_of}
 use Rattle.ov_history.specs.Texts.{BriefHistory}
 use Rattle.ov_history.specs.Placed.{AllHaveFirsts, PlacedUpdate, count_of, unplaced_all}
-use Rattle.ov_journal.specs.Log.{end_from}
-use Rattle.ov_images.specs.Records.{bodies_of, record_spelling}
+use Rattle.ov_journal.specs.Runs.{end_from}
+use Rattle.ov_journal.specs.Steps.{gate_behind, step_size}
+use Rattle.ov_images.specs.Records.{bodies_from, bodies_of, form_behind, record_spelling}
 use Rattle.ov_images.specs.Laws.{GatesNeedNoBlocks}
-use Rattle.ov_images.proofs.Records.{firsts_spelling}
+use Rattle.ov_images.proofs.Records.{firsts_spelling, length-bodies_from}
 
 -- ---- one record
 
@@ -27,14 +30,15 @@ firsts_length (first ∷ firsts) =
     )
 
 -- records of one update with as many first blocks are as long
-as_long : (u v : PlacedUpdate) → u.update ≡ v.update → length u.firsts ≡ length v.firsts
-    → length (record_spelling u) ≡ length (record_spelling v)
-as_long u v same many =
+as_long : (form : Form) (u v : PlacedUpdate) → u.update ≡ v.update
+    → length u.firsts ≡ length v.firsts
+    → length (record_spelling form u) ≡ length (record_spelling form v)
+as_long form u v same many =
     omega (
       arith,
-      length-append (brief_spelling second_form u.update) (firsts_spelling u.firsts),
-      length-append (brief_spelling second_form v.update) (firsts_spelling v.firsts),
-      ap (λ (b : Brief). length (brief_spelling second_form b)) same,
+      length-append (brief_spelling form u.update) (firsts_spelling u.firsts),
+      length-append (brief_spelling form v.update) (firsts_spelling v.firsts),
+      ap (λ (b : Brief). length (brief_spelling form b)) same,
       firsts_length u.firsts,
       firsts_length v.firsts,
       many,
@@ -42,30 +46,54 @@ as_long u v same many =
 
 -- ---- all records
 
-module _ (master : List ℕ) where
-  same_ends : (c : Catalogue) (us vs : List PlacedUpdate) (place : ℕ)
+length-unplaced_all : (updates : List PlacedUpdate)
+    → length (unplaced_all updates) ≡ length updates
+length-unplaced_all [] = refl
+length-unplaced_all (u ∷ updates) = omega (arith, length-unplaced_all updates)
+
+-- as many bodies that end at one place have the next gate at one place
+same_gate : (step : Option ℕ) (one other : List (List ℕ)) → end_from 78 one ≡ end_from 78 other
+    → length one ≡ length other → gate_behind step one ≡ gate_behind step other
+same_gate None one other ends many = ends
+same_gate (Some old) one other ends many = λ j. ends j + step_size (leb old (many j))
+
+module _ (master : List ℕ) (step : Option ℕ) where
+  same_ends : (c : Catalogue) (count : ℕ) (us vs : List PlacedUpdate) (place : ℕ)
       → AllHaveFirsts master c us → AllHaveFirsts master c vs
       → unplaced_all us ≡ unplaced_all vs
-      → end_from place (bodies_of us) ≡ end_from place (bodies_of vs)
-  same_ends c [] [] place hu hv same = refl
-  same_ends c [] (v ∷ vs) place hu hv same = absurd (cc same)
-  same_ends c (u ∷ us) [] place hu hv same = absurd (cc same)
-  same_ends c (u ∷ us) (v ∷ vs) place hu hv same =
+      → end_from place (bodies_from step count us) ≡ end_from place (bodies_from step count vs)
+  same_ends c count [] [] place hu hv same = refl
+  same_ends c count [] (v ∷ vs) place hu hv same = absurd (cc same)
+  same_ends c count (u ∷ us) [] place hu hv same = absurd (cc same)
+  same_ends c count (u ∷ us) (v ∷ vs) place hu hv same =
+      let form : Form = form_behind step count in
       let one : u.update ≡ v.update = cc same in
       let rest : unplaced_all us ≡ unplaced_all vs = cc same in
       let many : length u.firsts ≡ length v.firsts = hu.0
       ∙ ap (λ (b : Brief). count_of (rewrites_of c b)) one ∙ sym hv.0 in
       let others = subst (λ (b : Brief). AllHaveFirsts master (catalogue_after master c b) vs)
       (sym one) hv.1 in
-      same_ends (catalogue_after master c u.update) us vs
-      (place + 5 + length (record_spelling u)) hu.1 others rest
-      ∙ ap (λ (n : ℕ). end_from (place + 5 + n) (bodies_of vs)) (as_long u v one many)
+      same_ends (catalogue_after master c u.update) (count + 1) us vs
+      (place + 5 + length (record_spelling form u)) hu.1 others rest
+      ∙ ap (λ (n : ℕ). end_from (place + 5 + n) (bodies_from step (count + 1) vs))
+      (as_long form u v one many)
+
+  same_gates : (c : Catalogue) (us vs : List PlacedUpdate)
+      → AllHaveFirsts master c us → AllHaveFirsts master c vs
+      → unplaced_all us ≡ unplaced_all vs
+      → gate_behind step (bodies_of step us) ≡ gate_behind step (bodies_of step vs)
+  same_gates c us vs hu hv same =
+      let many : length us ≡ length vs =
+      sym (length-unplaced_all us) ∙ ap (λ (l : List Brief). length l) same
+      ∙ length-unplaced_all vs in
+      same_gate step (bodies_of step us) (bodies_of step vs) (same_ends c 0 us vs 78 hu hv same)
+      (length-bodies_from step 0 us ∙ many ∙ sym (length-bodies_from step 0 vs))
 
 pub gates_need_no_blocks : GatesNeedNoBlocks
-gates_need_no_blocks master p q fp fq same =
+gates_need_no_blocks master step p q fp fq same =
     let mode : q.mode ≡ p.mode = ap (λ (h : BriefHistory). h.mode) (sym same) in
     let first : q.first ≡ p.first = ap (λ (h : BriefHistory). h.first) (sym same) in
     let firsts = subst (λ m. AllHaveFirsts master (empty_catalogue m p.first) q.updates) mode
     (subst (λ (n : ℕ). AllHaveFirsts master (empty_catalogue q.mode n) q.updates) first fq) in
-    same_ends master (empty_catalogue p.mode p.first) p.updates q.updates 78 fp firsts
+    same_gates master step (empty_catalogue p.mode p.first) p.updates q.updates fp firsts
     (ap (λ (h : BriefHistory). h.updates) same)

@@ -1,8 +1,10 @@
 -- Images that keep a history in extents, and what an append makes of which.
-use Rattle.std.proofs.Common.{◌≡◌, ℕ, List, length, drop}
+use Rattle.std.proofs.Common.{◌≡◌, ℕ, List, [], ◌∷◌, ◌++◌, length, drop}
 use Rattle.std.proofs.Common.{refl, sym, ◌∙◌, ap, subst}
 use Rattle.std.specs.Prelude.{Option}
 use Rattle.ov_keyed.proofs.HmacLemmas.{length-hmac}
+use Rattle.ov_record.specs.Forms.{Form}
+use Rattle.ov_record.specs.Forms.{second_form}
 use Rattle.ov_record.specs.Updates.{SealedUpdate}
 use Rattle.ov_history.specs.Briefs.{brief}
 use Rattle.ov_history.specs.Catalogue.{Catalogue, catalogue_after}
@@ -17,18 +19,20 @@ use Rattle.ov_history.proofs.Placed.{extents_tell_histories, replays_go_on}
 use Rattle.ov_history.proofs.Replaying.{briefs_stop}
 use Rattle.ov_disk.specs.Disk.{Image}
 use Rattle.ov_journal.specs.declared.header.Header.{Header}
-use Rattle.ov_journal.specs.Book.{Contents, HasHeaderForm, born, header_bytes, spelled}
-use Rattle.ov_journal.specs.Book.{with_body}
+use Rattle.ov_journal.specs.Book.{Contents, HasHeaderForm, born, contents_of, header_bytes}
+use Rattle.ov_journal.specs.Book.{spelled, with_body}
 use Rattle.ov_journal.proofs.Headers.{spelled_apart}
 use Rattle.ov_images.specs.Images.{Keys}
-use Rattle.ov_images.specs.Records.{bodies_of, record_spelling}
+use Rattle.ov_images.specs.Records.{AllHaveForm, HasRecordForm, bodies_of, form_behind}
+use Rattle.ov_images.specs.Records.{record_spelling}
 use Rattle.ov_images.specs.Extents.{IsLaidOut, blocks_in, catalogue_at, stored_in}
 use Rattle.ov_images.specs.Images.{HasRecords, Keeps, KeepsAt, header_of}
 use Rattle.ov_images.specs.Laws.{HasOneMore, KeepingGoesOn, KeepsOnce, KeptIsBorn}
 use Rattle.ov_images.specs.Laws.{KeptIsSealed, KeysAreKept, PlacesAreKeptOnce}
 use Rattle.ov_images.specs.Laws.{RecordsAreKept, SameExtentsKeepTheSame, placed_as}
 use Rattle.ov_images.proofs.Headers.{born_is_store, first_of-spelled, mode_of-spelled}
-use Rattle.ov_images.proofs.Records.{bodies-push, bodies_once, form-push}
+use Rattle.ov_images.proofs.Records.{bodies-push, bodies_once, form-push, length-bodies_from}
+use Rattle.ov_images.proofs.Records.{next_is_second}
 use Rattle.ov_images.proofs.Extents.{all_end, as_said, blocks_grow, laid_out_more}
 use Rattle.ov_images.proofs.Extents.{laid_out_push, unplaced-push}
 
@@ -36,14 +40,19 @@ use Rattle.ov_images.proofs.Extents.{laid_out_push, unplaced-push}
 
 pub places_once : PlacesAreKeptOnce
 places_once k other p q i one two =
-    let same : born (header_of k p) (bodies_of p.updates)
-    ≡ born (header_of other q) (bodies_of q.updates) = sym one.book ∙ two.book in
-    let head : spelled (header_of k p) ≡ spelled (header_of other q) =
-    ap (λ (c : Contents). c.head) same in
-    let mode = mode_of-spelled (header_of k p) (header_of other q) head in
-    let first = first_of-spelled (header_of k p) (header_of other q) one.first two.first head in
-    let updates = bodies_once p.updates q.updates one.form two.form
-    (ap (λ (c : Contents). c.records.bodies) same) in
+    let own : Header = header_of k one.format p in
+    let others : Header = header_of other two.format q in
+    let same : born own one.step (bodies_of one.step p.updates)
+    ≡ born others two.step (bodies_of two.step q.updates) = sym one.book ∙ two.book in
+    let head : spelled own ≡ spelled others = ap (λ (c : Contents). c.head) same in
+    let mode = mode_of-spelled own others head in
+    let first = first_of-spelled own others one.first two.first head in
+    let step : two.step ≡ one.step = ap (λ (c : Contents). c.records.step) (sym same) in
+    let bodies : bodies_of one.step p.updates ≡ bodies_of one.step q.updates =
+    ap (λ (c : Contents). c.records.bodies) same
+    ∙ ap (λ (s : Option ℕ). bodies_of s q.updates) step in
+    let updates = bodies_once one.step p.updates q.updates one.form
+    (subst (λ (s : Option ℕ). AllHaveForm s q.updates) step two.form) bodies in
     λ j. record { mode = mode j; first = first j; updates = updates j }
 
 -- an image keeps one history under one surface master
@@ -61,16 +70,18 @@ pub keeps_once : KeepsOnce
 keeps_once k g h i one two = once k k g h i refl one two
 
 header_form : (k : Keys) (p : PlacedHistory) (i : Image) → length k.base_check ≡ 32
-    → HasRecords k p i → HasHeaderForm (header_of k p)
+    → (has : HasRecords k p i) → HasHeaderForm (header_of k has.format p)
 header_form k p i long has =
     record { first = has.first; base = long; surface = length-hmac k.surface _ }
 
 pub keys_are_kept : KeysAreKept
 keys_are_kept k other g h i long too (p, one) (q, two) =
-    let same : header_bytes (header_of k p) ≡ header_bytes (header_of other q) =
+    let own : Header = header_of k one.records.format p in
+    let others : Header = header_of other two.records.format q in
+    let same : header_bytes own ≡ header_bytes others =
     ap (λ (c : Contents). drop 1 c.head) (sym one.records.book ∙ two.records.book) in
-    let apart : header_of k p ≡ header_of other q =
-    spelled_apart (header_of k p) (header_of other q) (header_form k p i long one.records)
+    let apart : own ≡ others =
+    spelled_apart own others (header_form k p i long one.records)
     (header_form other q i too two.records) same in
     let places : p ≡ q = places_once k other p q i one.records two.records in (
       one.briefs ∙ ap (λ (x : PlacedHistory). unplaced x) places ∙ sym two.briefs,
@@ -83,7 +94,9 @@ keys_are_kept k other g h i long too (p, one) (q, two) =
 
 pub is_born : KeptIsBorn
 is_born k g i (p, keeps) =
-    born_is_store (header_of k p) (bodies_of p.updates) i.book keeps.records.book
+    let records = keeps.records in
+    born_is_store (header_of k records.format p) records.step (bodies_of records.step p.updates)
+    i.book records.known records.book
 
 pub is_sealed : KeptIsSealed
 is_sealed k g i (p, keeps) =
@@ -104,7 +117,10 @@ pub keeps_same : SameExtentsKeepTheSame
 keeps_same k p g i c keeps same longer files = record {
   briefs = keeps.briefs;
   records = record {
+    format = keeps.records.format;
+    known = keeps.records.known;
     first = keeps.records.first;
+    step = keeps.records.step;
     form = keeps.records.form;
     laid_out =
         laid_out_more k.surface (blocks_in i.blobs) (blocks_in c.blobs) p
@@ -122,6 +138,31 @@ module _ (k : Keys) (p : PlacedHistory) (g : SealedHistory) (u : SealedUpdate) (
 
   abbrev before : Catalogue
   before = catalogue_at k.surface p
+
+  -- how many records come before a step record
+  abbrev step : Option ℕ
+  step = keeps.records.step
+
+  -- the record is in the second form
+  is_second : form_behind step (length p.updates) ≡ second_form
+  is_second =
+      subst (λ (n : ℕ). form_behind step n ≡ second_form) (length-bodies_from step 0 p.updates)
+      (subst (λ (d : Contents). form_behind d.records.step (length d.records.bodies) ≡ second_form)
+      keeps.records.book (next_is_second i.book))
+
+  form_next : AllHaveForm step (with_placed p next).updates
+  form_next =
+      form-push step p.updates next keeps.records.form
+      (subst (λ (f : Form). HasRecordForm f next) (sym is_second) more.form)
+
+  book_next : contents_of c.book
+      ≡ born (header_of k keeps.records.format p) step (bodies_of step (with_placed p next).updates)
+  book_next =
+      more.book ∙ ap (with_body (record_spelling second_form next)) keeps.records.book
+      ∙ ap (λ (f : Form). born (header_of k keeps.records.format p) step
+      (bodies_of step p.updates ++ record_spelling f next ∷ [])) (sym is_second)
+      ∙ ap (born (header_of k keeps.records.format p) step)
+      (sym (bodies-push step p.updates next))
 
   briefs_next : brief_of (with_sealed g u) ≡ with_brief (unplaced p) (brief u)
   briefs_next =
@@ -162,17 +203,13 @@ keeps_more k p g u firsts i c keeps sealed more = record {
       briefs_next k p g u firsts i c keeps sealed more
       ∙ sym (unplaced-push p (next k p g u firsts i c keeps sealed more));
   records = record {
+    format = keeps.records.format;
+    known = keeps.records.known;
     first = keeps.records.first;
-    form =
-        form-push p.updates (next k p g u firsts i c keeps sealed more) keeps.records.form
-        more.form;
+    step = keeps.records.step;
+    form = form_next k p g u firsts i c keeps sealed more;
     laid_out = laid_out_next k p g u firsts i c keeps sealed more;
-    book =
-        more.book
-        ∙ ap (with_body (record_spelling (next k p g u firsts i c keeps sealed more)))
-        keeps.records.book
-        ∙ ap (born (header_of k p))
-        (sym (bodies-push p.updates (next k p g u firsts i c keeps sealed more)));
+    book = book_next k p g u firsts i c keeps sealed more;
   };
   files = files_next k p g u firsts i c keeps sealed more;
 }

@@ -1,5 +1,6 @@
 pub mod Headers
 pub mod Bytes
+pub mod Creations
 pub mod Damage
 pub mod Extents
 pub mod Gates
@@ -7,4 +8,4 @@ pub mod Keeping
 pub mod Masters
 pub mod Order
 pub mod Records
-mod Rows
+pub mod Rows

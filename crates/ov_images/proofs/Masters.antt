@@ -2,6 +2,7 @@
 use Rattle.std.proofs.Common.{◌≡◌, inl, inr, ℕ, List, [], ◌∷◌, refl, ◌∙◌, ap, subst}
 use Rattle.std.specs.Prelude.{Option}
 use Rattle.ov_base.specs.declared.mode.Mode.{Mode}
+use Rattle.ov_record.specs.Forms.{Form}
 use Rattle.ov_history.specs.Briefs.{Brief}
 use Rattle.ov_history.specs.Catalogue.{Catalogue, catalogue_after, empty_catalogue}
 use Rattle.ov_history.specs.Rewrites.{Rewrite, rewrites_of}
@@ -87,24 +88,24 @@ module _ (master other : List ℕ) where
 
   -- ---- damage
 
-  body-other : (n : ℕ) (p : PlacedHistory) (body : List ℕ) (gate : ℕ) (spot : Spot)
-      → IsLaidOut master n p → IsBadBody master n p body gate spot
-      → IsBadBody other n p body gate spot
-  body-other n p body gate spot laid (inl bad) = inl bad
-  body-other n p body gate spot laid (inr (inl bad)) = inr (inl bad)
-  body-other n p body gate spot laid (inr (inr (inl bad))) = inr (inr (inl (record {
+  body-other : (form : Form) (n : ℕ) (p : PlacedHistory) (body : List ℕ) (gate : ℕ) (spot : Spot)
+      → IsLaidOut master n p → IsBadBody master form n p body gate spot
+      → IsBadBody other form n p body gate spot
+  body-other form n p body gate spot laid (inl bad) = inl bad
+  body-other form n p body gate spot laid (inr (inl bad)) = inr (inl bad)
+  body-other form n p body gate spot laid (inr (inr (inl bad))) = inr (inr (inl (record {
     update = bad.update;
     begins = bad.begins;
     fit = bad.fit;
     at_byte = bad.at_byte;
     stops =
-        subst (λ (rewrites : List Rewrite). StopsInRecord (count_of rewrites) body bad.at_byte)
+        subst (λ (rewrites : List Rewrite). StopsInRecord form (count_of rewrites) body bad.at_byte)
         (rewrites-other p bad.update) bad.stops;
     spot_is = bad.spot_is;
   })))
-  body-other n p body gate spot laid (inr (inr (inr bad))) = inr (inr (inr (record {
+  body-other form n p body gate spot laid (inr (inr (inr bad))) = inr (inr (inr (record {
     update = bad.update;
-    form = bad.form;
+    has_form = bad.has_form;
     bytes = bad.bytes;
     fit = bad.fit;
     firsts =
@@ -127,9 +128,9 @@ module _ (master other : List ℕ) where
     spot_is = bad.spot_is;
   })))
 
-  kept-other : (mode : Mode) (first n : ℕ) (p : PlacedHistory)
-      → CanBeKept master mode first n p → CanBeKept other mode first n p
-  kept-other mode first n p kept = record {
+  kept-other : (mode : Mode) (first n : ℕ) (step : Option ℕ) (p : PlacedHistory)
+      → CanBeKept master mode first n step p → CanBeKept other mode first n step p
+  kept-other mode first n step p kept = record {
     mode_is = kept.mode_is;
     first_is = kept.first_is;
     form = kept.form;
@@ -140,16 +141,17 @@ module _ (master other : List ℕ) where
       → IsBad master mode first n records spot → IsBad other mode first n records spot
   bad-other mode first n records spot (inl bad) = inl (record {
     history = bad.history;
-    kept = kept-other mode first n bad.history bad.kept;
+    kept = kept-other mode first n records.step bad.history bad.kept;
     body = bad.body;
     rest = bad.rest;
     split = bad.split;
-    bad = body-other n bad.history bad.body _ spot bad.kept.laid_out bad.bad;
+    bad = body-other _ n bad.history bad.body _ spot bad.kept.laid_out bad.bad;
   })
   bad-other mode first n records spot (inr bad) = inr (record {
     history = bad.history;
-    kept = kept-other mode first n bad.history bad.kept;
+    kept = kept-other mode first n records.step bad.history bad.kept;
     all = bad.all;
+    place = bad.place;
     bad = bad.bad;
     spot_is = bad.spot_is;
   })

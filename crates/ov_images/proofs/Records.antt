@@ -1,37 +1,75 @@
 -- Records with first blocks are spelled apart, and are read again.
-use Rattle.std.proofs.Common.{◌≡◌, ℕ, List, [], ◌∷◌, ◌++◌, length, Ok, refl, sym, ap, ◌∙◌}
-use Rattle.std.specs.List.{AllByRecursion, flat_map}
+use Rattle.std.proofs.Common.{◌≡◌, ℕ, suc, ◌+◌, ◌≤◌, Bool, true, false, List, [], ◌∷◌, ◌++◌}
+use Rattle.std.proofs.Common.{length, Ok, refl, sym, ap, subst, ◌∙◌, arith, take, drop}
+use Rattle.std.proofs.Common.{length-append}
+use Rattle.std.proofs.lemmas.Bool.{le-ltb}
+use Rattle.std.proofs.lemmas.List.{length-take-le}
+use Rattle.std.proofs.lemmas.List.Sums.{prefix_len-le-length}
+use Rattle.std.specs.List.{AllByRecursion, flat_map, remove}
+use Rattle.std.specs.Prelude.{Option, Some, not}
 use Rattle.ov_fields.specs.Spelling.{u32}
 use Rattle.ov_fields.specs.Reading.{placed}
 use Rattle.ov_fields.proofs.FieldLaws.{number_reads, wide32}
 use Rattle.ov_fields.proofs.WholeLaws.{all_again, no_front}
+use Rattle.ov_record.specs.Forms.{Form, HasRoom}
 use Rattle.ov_record.specs.Forms.{second_form}
 use Rattle.ov_record.specs.Reading.{brief_of, stored_of}
 use Rattle.ov_record.specs.Stored.{HasBriefForm, IsNumber, brief_spelling}
 use Rattle.ov_record.proofs.BriefLaws.{brief_again_of, brief_reads, stored_reads}
-use Rattle.ov_record.proofs.UpdateLaws.{first_has_room}
+use Rattle.ov_record.proofs.UpdateLaws.{first_has_room, second_has_room}
 use Rattle.ov_history.specs.Briefs.{Brief}
 use Rattle.ov_history.specs.Placed.{PlacedUpdate}
-use Rattle.ov_images.specs.Records.{AllHaveForm, HasRecordForm, StopsInRecord, StopsInUpdate}
-use Rattle.ov_images.specs.Records.{bodies_of, record_spelling, stored}
+use Rattle.ov_journal.specs.Book.{contents_of, is_first, records_in}
+use Rattle.ov_journal.specs.Runs.{Run, run_after}
+use Rattle.ov_journal.specs.Steps.{before_step, comes_before, is_step, without_step}
+use Rattle.ov_images.specs.Records.{AllHaveForm, AllHaveFormFrom, HasRecordForm, StopsInRecord}
+use Rattle.ov_images.specs.Records.{StopsInUpdate, bodies_from, bodies_of, form_behind, form_if}
+use Rattle.ov_images.specs.Records.{record_spelling, stored}
+
+-- ---- the forms of records
+
+room_if : (first : Bool) → HasRoom (form_if first)
+room_if true = first_has_room
+room_if false = second_has_room
+
+-- the form of each record has room
+pub room_behind : (step : Option ℕ) (count : ℕ) → HasRoom (form_behind step count)
+room_behind step count = room_if (comes_before step count)
+
+-- behind as many records as come before a step record the form is the second
+pub second_behind : (old count : ℕ) → old ≤ count → form_behind (Some old) count ≡ second_form
+second_behind old count le = ap form_if (le-ltb count old le)
+
+-- those before the one that is taken out stay
+before_removed : (bodies : List (List ℕ)) (place : ℕ) → place ≤ length bodies
+    → place ≤ length (remove bodies place)
+before_removed bodies place low =
+    omega (
+      arith,
+      length-append (take place bodies) (drop (suc place) bodies),
+      length-take-le place bodies low,
+    )
+
+-- no more records come before the step record than there are beside it
+few_before : (bodies : List (List ℕ)) → before_step bodies ≤ length (without_step bodies)
+few_before bodies =
+    before_removed bodies (before_step bodies)
+    (prefix_len-le-length (λ (body : List ℕ). not (is_step body)) bodies)
+
+second_in : (first : Bool) (run : Run)
+    → form_behind (records_in first run).step (length (records_in first run).bodies) ≡ second_form
+second_in false run = refl
+second_in true run =
+    second_behind (before_step run.bodies) (length (without_step run.bodies))
+    (few_before run.bodies)
+
+-- the next record of a Book is in the second form, whichever its format is
+pub next_is_second : (book : List ℕ)
+    → form_behind (contents_of book).records.step (length (contents_of book).records.bodies)
+    ≡ second_form
+next_is_second book = second_in (is_first (take 78 book)) (run_after 78 book)
 
 -- ---- an update at the front
-
--- no update's spelling is the front of another's
-pub fronts_apart : (u v : Brief) (x y : List ℕ) → HasBriefForm second_form u
-    → HasBriefForm second_form v
-    → brief_spelling second_form u ++ x ≡ brief_spelling second_form v ++ y → (u ≡ v) × (x ≡ y)
-fronts_apart u v x y fu fv same =
-    no_front (brief_reads second_form first_has_room) u v x y fu fv same
-
--- reading an update stops nowhere where one is at the front
-pub never_stops : (u : Brief) (body rest : List ℕ) (at_byte : ℕ) → HasBriefForm second_form u
-    → body ≡ brief_spelling second_form u ++ rest → StopsInUpdate body at_byte → ⊥
-never_stops u body rest at_byte form bytes stops =
-    absurd (cc (sym stops ∙ ap (brief_of second_form) bytes
-    ∙ brief_again_of second_form first_has_room u rest form))
-
--- ---- records
 
 -- the first blocks, each in four bytes
 abbrev pub firsts_spelling : List ℕ → List ℕ
@@ -48,47 +86,95 @@ firsts_apart (x ∷ xs) (y ∷ ys) fx fy same =
     let rest = firsts_apart xs ys fx.1 fy.1 both.1 in
     λ j. both.0 j ∷ rest j
 
--- updates with one record are one
-pub records_apart : (u v : PlacedUpdate) → HasRecordForm u → HasRecordForm v
-    → record_spelling u ≡ record_spelling v → u ≡ v
-records_apart u v fu fv same =
-    let both = fronts_apart u.update v.update (firsts_spelling u.firsts) (firsts_spelling v.firsts)
-    fu.0 fv.0 same in
-    let firsts = firsts_apart u.firsts v.firsts fu.1.0 fv.1.0 both.1 in
-    λ j. record { update = both.0 j; firsts = firsts j }
+module _ (form : Form) (room : HasRoom form) where
+  -- no update's spelling is the front of another's
+  pub fronts_apart : (u v : Brief) (x y : List ℕ) → HasBriefForm form u → HasBriefForm form v
+      → brief_spelling form u ++ x ≡ brief_spelling form v ++ y → (u ≡ v) × (x ≡ y)
+  fronts_apart u v x y fu fv same = no_front (brief_reads form room) u v x y fu fv same
 
--- reading a record with its first blocks stops nowhere
-pub record_never_stops : (u : PlacedUpdate) (body : List ℕ) (count at_byte : ℕ)
-    → HasRecordForm u → body ≡ record_spelling u → length u.firsts ≡ count
-    → StopsInRecord count body at_byte → ⊥
-record_never_stops u body count at_byte form bytes is stops =
-    let read : stored_of second_form count (record_spelling u) ≡ Ok (stored u) =
-    ap (placed (length (record_spelling u)))
-    (all_again (stored_reads second_form first_has_room count) (stored u)
-    (form.0, (form.1.0, is))) in
-    absurd (cc (sym stops ∙ ap (stored_of second_form count) bytes ∙ read))
+  -- reading an update stops nowhere where one is at the front
+  pub never_stops : (u : Brief) (body rest : List ℕ) (at_byte : ℕ) → HasBriefForm form u
+      → body ≡ brief_spelling form u ++ rest → StopsInUpdate form body at_byte → ⊥
+  never_stops u body rest at_byte has_form bytes stops =
+      absurd (cc (sym stops ∙ ap (brief_of form) bytes
+      ∙ brief_again_of form room u rest has_form))
+
+  -- ---- records
+
+  -- updates with one record are one
+  pub records_apart : (u v : PlacedUpdate) → HasRecordForm form u → HasRecordForm form v
+      → record_spelling form u ≡ record_spelling form v → u ≡ v
+  records_apart u v fu fv same =
+      let both = fronts_apart u.update v.update (firsts_spelling u.firsts)
+      (firsts_spelling v.firsts) fu.0 fv.0 same in
+      let firsts = firsts_apart u.firsts v.firsts fu.1.0 fv.1.0 both.1 in
+      λ j. record { update = both.0 j; firsts = firsts j }
+
+  -- reading a record with its first blocks stops nowhere
+  pub record_never_stops : (u : PlacedUpdate) (body : List ℕ) (count at_byte : ℕ)
+      → HasRecordForm form u → body ≡ record_spelling form u → length u.firsts ≡ count
+      → StopsInRecord form count body at_byte → ⊥
+  record_never_stops u body count at_byte has_form bytes is stops =
+      let read : stored_of form count (record_spelling form u) ≡ Ok (stored u) =
+      ap (placed (length (record_spelling form u)))
+      (all_again (stored_reads form room count) (stored u)
+      (has_form.0, (has_form.1.0, is))) in
+      absurd (cc (sym stops ∙ ap (stored_of form count) bytes ∙ read))
 
 -- ---- bodies
 
-pub bodies_once : (us vs : List PlacedUpdate) → AllHaveForm us → AllHaveForm vs
-    → bodies_of us ≡ bodies_of vs → us ≡ vs
-bodies_once [] [] fu fv same = refl
-bodies_once [] (v ∷ vs) fu fv same = absurd (cc same)
-bodies_once (u ∷ us) [] fu fv same = absurd (cc same)
-bodies_once (u ∷ us) (v ∷ vs) fu fv same =
-    let one : record_spelling u ≡ record_spelling v = cc same in
-    let rest : bodies_of us ≡ bodies_of vs = cc same in
-    let first = records_apart u v fu.0 fv.0 one in
-    let others = bodies_once us vs fu.1 fv.1 rest in
-    λ j. first j ∷ others j
+module _ (step : Option ℕ) where
+  once_from : (count : ℕ) (us vs : List PlacedUpdate) → AllHaveFormFrom step count us
+      → AllHaveFormFrom step count vs → bodies_from step count us ≡ bodies_from step count vs
+      → us ≡ vs
+  once_from count [] [] fu fv same = refl
+  once_from count [] (v ∷ vs) fu fv same = absurd (cc same)
+  once_from count (u ∷ us) [] fu fv same = absurd (cc same)
+  once_from count (u ∷ us) (v ∷ vs) fu fv same =
+      let form : Form = form_behind step count in
+      let one : record_spelling form u ≡ record_spelling form v = cc same in
+      let rest : bodies_from step (count + 1) us ≡ bodies_from step (count + 1) vs = cc same in
+      let first = records_apart form (room_behind step count) u v fu.0 fv.0 one in
+      let others = once_from (count + 1) us vs fu.1 fv.1 rest in
+      λ j. first j ∷ others j
 
-pub bodies-push : (updates : List PlacedUpdate) (u : PlacedUpdate)
-    → bodies_of (updates ++ u ∷ []) ≡ bodies_of updates ++ record_spelling u ∷ []
-bodies-push [] u = refl
-bodies-push (v ∷ updates) u =
-    ap (λ (l : List (List ℕ)). record_spelling v ∷ l) (bodies-push updates u)
+  pub bodies_once : (us vs : List PlacedUpdate) → AllHaveForm step us → AllHaveForm step vs
+      → bodies_of step us ≡ bodies_of step vs → us ≡ vs
+  bodies_once us vs fu fv same = once_from 0 us vs fu fv same
 
-pub form-push : (updates : List PlacedUpdate) (u : PlacedUpdate)
-    → AllHaveForm updates → HasRecordForm u → AllHaveForm (updates ++ u ∷ [])
-form-push [] u all form = (form, tt)
-form-push (v ∷ updates) u all form = (all.0, form-push updates u all.1 form)
+  pub length-bodies_from : (count : ℕ) (updates : List PlacedUpdate)
+      → length (bodies_from step count updates) ≡ length updates
+  length-bodies_from count [] = refl
+  length-bodies_from count (u ∷ updates) =
+      omega (arith, length-bodies_from (count + 1) updates)
+
+  -- the last body, behind so many others
+  push_from : (count behind : ℕ) (updates : List PlacedUpdate) (u : PlacedUpdate)
+      → count + length updates ≡ behind
+      → bodies_from step count (updates ++ u ∷ [])
+      ≡ bodies_from step count updates ++ record_spelling (form_behind step behind) u ∷ []
+  push_from count behind [] u is =
+      let here : count ≡ behind = omega (arith, is) in
+      ap (λ (n : ℕ). record_spelling (form_behind step n) u ∷ []) here
+  push_from count behind (v ∷ updates) u is =
+      ap (λ (l : List (List ℕ)). record_spelling (form_behind step count) v ∷ l)
+      (push_from (count + 1) behind updates u (omega (arith, is)))
+
+  pub bodies-push : (updates : List PlacedUpdate) (u : PlacedUpdate)
+      → bodies_of step (updates ++ u ∷ [])
+      ≡ bodies_of step updates ++ record_spelling (form_behind step (length updates)) u ∷ []
+  bodies-push updates u = push_from 0 (length updates) updates u (omega arith)
+
+  form_from : (count behind : ℕ) (updates : List PlacedUpdate) (u : PlacedUpdate)
+      → count + length updates ≡ behind → AllHaveFormFrom step count updates
+      → HasRecordForm (form_behind step behind) u → AllHaveFormFrom step count (updates ++ u ∷ [])
+  form_from count behind [] u is all form =
+      let here : behind ≡ count = omega (arith, is) in
+      (subst (λ (n : ℕ). HasRecordForm (form_behind step n) u) here form, tt)
+  form_from count behind (v ∷ updates) u is all form =
+      (all.0, form_from (count + 1) behind updates u (omega (arith, is)) all.1 form)
+
+  pub form-push : (updates : List PlacedUpdate) (u : PlacedUpdate) → AllHaveForm step updates
+      → HasRecordForm (form_behind step (length updates)) u → AllHaveForm step (updates ++ u ∷ [])
+  form-push updates u all form =
+      form_from 0 (length updates) updates u (omega arith) all form

@@ -1,136 +1,339 @@
--- The worked books: a new store, and one with alice, and with alice and bob.
-use Rattle.std.proofs.Common.{◌≡◌, ℕ, ◌+◌, List, [], ◌∷◌, ◌++◌, length, take, refl, ◌∙◌, ap, arith, length-append, lit<, false}
+-- The worked books, by their bytes: a new store, and one with alice, and with alice and bob; and a
+-- store of the first format with both, and what is behind its step record.
+use Rattle.std.proofs.Common.{◌≡◌, inl, inr, ℕ, ◌+◌, ◌-◌, ◌==◌, List, [], ◌∷◌, ◌++◌, length}
+use Rattle.std.proofs.Common.{take, Err, refl, sym, ◌∙◌, ap, subst, arith, length-append, lit<}
+use Rattle.std.specs.Prelude.{Option, Some, None}
 use Rattle.std.proofs.lemmas.List.{take_at, drop_at}
 use Rattle.ov_base.specs.declared.mode.Mode.TheVariants.{Delta}
 use Rattle.ov_keyed.proofs.HmacLemmas.{length-hmac}
 use Rattle.ov_tokens.specs.Keys.{check_value_of}
+use Rattle.ov_record.specs.Forms.{Form}
+use Rattle.ov_record.specs.Forms.{first_form, second_form}
+use Rattle.ov_record.specs.Reading.{brief_at}
 use Rattle.ov_record.specs.Updates.{SealedUpdate, SealedEnrol}
 use Rattle.ov_history.specs.Briefs.{BriefEnrol}
 use Rattle.ov_history.specs.Placed.{PlacedHistory, PlacedUpdate}
 use Rattle.ov_history.specs.Sealed.{SealedHistory}
 use Rattle.ov_disk.specs.Disk.{image}
-use Rattle.ov_journal.specs.Book.{contents_of, records_after, born}
-use Rattle.ov_journal.proofs.Reading.{records_after-drop}
+use Rattle.ov_journal.specs.Book.{Contents, IsFormat, Records, contents_of, is_first, records_in}
+use Rattle.ov_journal.specs.Runs.{run_after}
+use Rattle.ov_journal.specs.Steps.{gate_behind}
+use Rattle.ov_journal.proofs.Reading.{run_after-drop}
 use Rattle.ov_images.specs.Images.{Keys, KeepsAt, header_of}
-use Rattle.ov_images.specs.Records.{bodies_of}
+use Rattle.ov_images.specs.Records.{AllHaveForm, StopsInUpdate, bodies_of, form_behind}
+use Rattle.ov_images.specs.Extents.{IsLaidOut, blocks_in}
+use Rattle.ov_images.specs.Damage.{HasBadRecord, HasBadRecords, Spot, in_book}
 
 -- the store of these updates from epoch 0 on
-abbrev history : List SealedUpdate → SealedHistory
+abbrev pub history : List SealedUpdate → SealedHistory
 history updates = record { mode = Delta; first = 0; updates = updates }
 
 -- the store of these updates from epoch 0 on, with their first blocks
-abbrev placed : List PlacedUpdate → PlacedHistory
+abbrev pub placed : List PlacedUpdate → PlacedHistory
 placed updates = record { mode = Delta; first = 0; updates = updates }
 
 -- an enrolment, which has no first blocks
-abbrev enrol : List ℕ → PlacedUpdate
+abbrev pub enrol : List ℕ → PlacedUpdate
 enrol name = record { update = BriefEnrol name; firsts = [] }
 
--- the header's open gate, its magic, the mode byte of Delta, epoch 0, and both check values
-abbrev head : Keys → List ℕ
-head k =
-    1 ∷ 79 ∷ 86 ∷ 69 ∷ 82 ∷ 69 ∷ 78 ∷ 67 ∷ 49 ∷ 1 ∷ 0 ∷ 0 ∷ 0 ∷ 0
+-- the header's open gate, the magic of this format, the mode byte of Delta, epoch 0, and both check
+-- values
+abbrev pub head : ℕ → Keys → List ℕ
+head format k =
+    1 ∷ 79 ∷ 86 ∷ 69 ∷ 82 ∷ 69 ∷ 78 ∷ 67 ∷ (48 + format) ∷ 1 ∷ 0 ∷ 0 ∷ 0 ∷ 0
     ∷ (k.base_check ++ check_value_of k.surface)
 
-abbrev alice : List ℕ
+abbrev pub alice : List ℕ
 alice = 97 ∷ 108 ∷ 105 ∷ 99 ∷ 101 ∷ []
 
-abbrev bob : List ℕ
+abbrev pub bob : List ℕ
 bob = 98 ∷ 111 ∷ 98 ∷ []
 
+abbrev pub carol : List ℕ
+carol = 99 ∷ 97 ∷ 114 ∷ 111 ∷ 108 ∷ []
+
 -- an open gate, the length of the body in four bytes, and the body: the kind byte and the name
-abbrev first_record : List ℕ
+abbrev pub first_record : List ℕ
 first_record = 1 ∷ 0 ∷ 0 ∷ 0 ∷ 7 ∷ 1 ∷ 5 ∷ 97 ∷ 108 ∷ 105 ∷ 99 ∷ 101 ∷ []
 
-abbrev second_record : List ℕ
+abbrev pub second_record : List ℕ
 second_record = 1 ∷ 0 ∷ 0 ∷ 0 ∷ 5 ∷ 1 ∷ 3 ∷ 98 ∷ 111 ∷ 98 ∷ []
+
+abbrev pub third_record : List ℕ
+third_record = 1 ∷ 0 ∷ 0 ∷ 0 ∷ 7 ∷ 1 ∷ 5 ∷ 99 ∷ 97 ∷ 114 ∷ 111 ∷ 108 ∷ []
+
+-- a step record: an open gate, the length of its body, and the body
+abbrev pub step_record : List ℕ
+step_record = 1 ∷ 0 ∷ 0 ∷ 0 ∷ 1 ∷ 5 ∷ []
+
+-- a record whose body is that of a step record and one byte more
+abbrev pub longer_record : List ℕ
+longer_record = 1 ∷ 0 ∷ 0 ∷ 0 ∷ 2 ∷ 5 ∷ 0 ∷ []
+
+-- both records, of alice and of bob
+abbrev pub both_records : List ℕ
+both_records = first_record ++ second_record
 
 -- ---- contents of a book with this header
 
-length-head : (k : Keys) → length k.base_check ≡ 32 → length (head k) ≡ 78
-length-head k long =
+length-head : (format : ℕ) (k : Keys) → length k.base_check ≡ 32 → length (head format k) ≡ 78
+length-head format k long =
     let check : length (check_value_of k.surface) ≡ 32 = length-hmac k.surface _ in
     omega (arith, length-append k.base_check (check_value_of k.surface), long, check)
 
-length-book : (k : Keys) (records : List ℕ) → length k.base_check ≡ 32
-    → length (head k ++ records) ≡ 78 + length records
-length-book k records long =
-    length-append (head k) records ∙ ap (λ (n : ℕ). n + length records) (length-head k long)
+pub length-book : (format : ℕ) (k : Keys) (records : List ℕ) → length k.base_check ≡ 32
+    → length (head format k ++ records) ≡ 78 + length records
+length-book format k records long =
+    length-append (head format k) records
+    ∙ ap (λ (n : ℕ). n + length records) (length-head format k long)
 
-contents : (k : Keys) (updates : List PlacedUpdate) (records : List ℕ)
-    → length k.base_check ≡ 32
-    → records_after 0 records ≡ record { bodies = bodies_of updates; bad = false }
-    → contents_of (head k ++ records) ≡ born (header_of k (placed updates)) (bodies_of updates)
-contents k updates records long is =
-    let whole : length (head k) ≡ 78 = length-head k long in
-    let front : take 78 (head k ++ records) ≡ head k = take_at (head k) records 78 whole in
-    let behind : records_after 78 (head k ++ records)
-    ≡ record { bodies = bodies_of updates; bad = false } =
-    records_after-drop 78 (head k ++ records)
-    ∙ ap (λ (l : List ℕ). records_after 0 l) (drop_at (head k) records 78 whole) ∙ is in
-    λ j. record { head = front j; records = behind j }
+-- what a book with this header says is read from its records alone
+pub contents : (format : ℕ) (k : Keys) (bytes : List ℕ) (records : Records)
+    → length k.base_check ≡ 32 → records_in ((48 + format) == 49) (run_after 0 bytes) ≡ records
+    → contents_of (head format k ++ bytes) ≡ record { head = head format k; records = records }
+contents format k bytes records long is =
+    let whole : length (head format k) ≡ 78 = length-head format k long in
+    let front : take 78 (head format k ++ bytes) ≡ head format k =
+    take_at (head format k) bytes 78 whole in
+    let behind : run_after 78 (head format k ++ bytes) ≡ run_after 0 bytes =
+    run_after-drop 78 (head format k ++ bytes)
+    ∙ ap (λ (l : List ℕ). run_after 0 l) (drop_at (head format k) bytes 78 whole) in
+    let read : records_in (is_first (take 78 (head format k ++ bytes)))
+    (run_after 78 (head format k ++ bytes)) ≡ records =
+    (λ j. records_in (is_first (front j)) (behind j)) ∙ is in
+    λ j. record { head = front j; records = read j }
 
--- ---- the rows
+-- a store with this header and such a bad record is damaged there
+pub bad_book : (format : ℕ) (k : Keys) (blobs bytes : List ℕ) (records : Records) (spot : Spot)
+    → length k.base_check ≡ 32 → records_in ((48 + format) == 49) (run_after 0 bytes) ≡ records
+    → ((master : List ℕ) → HasBadRecord master Delta 0 (blocks_in blobs) records spot)
+    → HasBadRecords (header_of k format (placed [])) (image (head format k ++ bytes) blobs) spot
+bad_book format k blobs bytes records spot long is wrong master =
+    inl (subst (λ (c : Contents). HasBadRecord master Delta 0 (blocks_in blobs) c.records spot)
+    (sym (contents format k bytes records long is)) (wrong master))
+
+-- ---- histories of enrolments
+
+abbrev pub one_user : List PlacedUpdate
+one_user = enrol alice ∷ []
+
+abbrev pub two_users : List PlacedUpdate
+two_users = enrol alice ∷ enrol bob ∷ []
+
+abbrev pub three_users : List PlacedUpdate
+three_users = enrol alice ∷ enrol bob ∷ enrol carol ∷ []
+
+-- in either form an enrolment has a record
+two_form : (step : Option ℕ) → AllHaveForm step two_users
+two_form step = ((refl, (tt, refl)), ((refl, (tt, refl)), tt))
+
+two_laid : (master : List ℕ) (blocks : ℕ) → IsLaidOut master blocks (placed two_users)
+two_laid master blocks = record {
+  replayed = record {
+    stands = ((refl, tt, (refl, tt, tt)), refl);
+    firsts = (refl, (refl, tt));
+    places = refl;
+  };
+  free = (tt, (tt, tt));
+}
 
 module _ (k : Keys) (blobs : List ℕ) (long : length k.base_check ≡ 32) where
-  new_store : KeepsAt k (placed []) (history []) (image (head k ++ 0 ∷ []) blobs)
-  new_store = record {
+  -- behind a header of this format these bytes are the records of these updates
+  abbrev AreRecordsOf : ℕ → Option ℕ → List PlacedUpdate → List ℕ → Type 0
+  AreRecordsOf format step updates bytes =
+      records_in ((48 + format) == 49) (run_after 0 bytes)
+      ≡ record { bodies = bodies_of step updates; step = step; bad = None }
+
+  -- ---- stores that keep a history
+
+  new_keeps : KeepsAt k (placed []) (history []) (image (head 2 k ++ 0 ∷ []) blobs)
+  new_keeps = record {
     briefs = refl;
     records = record {
+      format = 2;
+      known = inr refl;
       first = lit< tt;
+      step = None;
       form = tt;
       laid_out = record {
         replayed = record { stands = (tt, refl); firsts = tt; places = refl };
         free = tt;
       };
-      book = contents k [] (0 ∷ []) long refl;
+      book = contents 2 k (0 ∷ []) _ long refl;
     };
     files = refl;
   }
 
-  length-new_store : length (head k ++ 0 ∷ []) ≡ 79
-  length-new_store = length-book k (0 ∷ []) long
-
-  with_alice : KeepsAt k (placed (enrol alice ∷ [])) (history (SealedEnrol alice ∷ []))
-      (image (head k ++ (first_record ++ 0 ∷ [])) blobs)
-  with_alice = record {
+  one_keeps : (format : ℕ) (step : Option ℕ) (bytes : List ℕ) → IsFormat format
+      → AreRecordsOf format step one_user bytes
+      → KeepsAt k (placed one_user) (history (SealedEnrol alice ∷ []))
+      (image (head format k ++ bytes) blobs)
+  one_keeps format step bytes known are = record {
     briefs = refl;
     records = record {
+      format = format;
+      known = known;
       first = lit< tt;
+      step = step;
       form = ((refl, (tt, refl)), tt);
       laid_out = record {
         replayed = record { stands = ((refl, tt, tt), refl); firsts = (refl, tt); places = refl };
         free = (tt, tt);
       };
-      book = contents k (enrol alice ∷ []) (first_record ++ 0 ∷ []) long refl;
+      book = contents format k bytes _ long are;
     };
     files = refl;
   }
 
-  length-with_alice : length (head k ++ (first_record ++ 0 ∷ [])) ≡ 91
-  length-with_alice = length-book k (first_record ++ 0 ∷ []) long
-
-  with_bob : KeepsAt k (placed (enrol alice ∷ enrol bob ∷ []))
-      (history (SealedEnrol alice ∷ SealedEnrol bob ∷ []))
-      (image (head k ++ (first_record ++ second_record ++ 0 ∷ [])) blobs)
-  with_bob = record {
+  two_keep : (format : ℕ) (step : Option ℕ) (bytes : List ℕ) → IsFormat format
+      → AreRecordsOf format step two_users bytes
+      → KeepsAt k (placed two_users) (history (SealedEnrol alice ∷ SealedEnrol bob ∷ []))
+      (image (head format k ++ bytes) blobs)
+  two_keep format step bytes known are = record {
     briefs = refl;
     records = record {
+      format = format;
+      known = known;
       first = lit< tt;
-      form = ((refl, (tt, refl)), ((refl, (tt, refl)), tt));
-      laid_out = record {
-        replayed = record {
-          stands = ((refl, tt, (refl, tt, tt)), refl);
-          firsts = (refl, (refl, tt));
-          places = refl;
-        };
-        free = (tt, (tt, tt));
-      };
-      book = contents k (enrol alice ∷ enrol bob ∷ [])
-          (first_record ++ second_record ++ 0 ∷ []) long refl;
+      step = step;
+      form = two_form step;
+      laid_out = two_laid k.surface (blocks_in blobs);
+      book = contents format k bytes _ long are;
     };
     files = refl;
   }
 
-  length-with_bob : length (head k ++ (first_record ++ second_record ++ 0 ∷ [])) ≡ 101
-  length-with_bob = length-book k (first_record ++ second_record ++ 0 ∷ []) long
+  three_keep : (format : ℕ) (step : Option ℕ) (bytes : List ℕ) → IsFormat format
+      → AreRecordsOf format step three_users bytes
+      → KeepsAt k (placed three_users)
+      (history (SealedEnrol alice ∷ SealedEnrol bob ∷ SealedEnrol carol ∷ []))
+      (image (head format k ++ bytes) blobs)
+  three_keep format step bytes known are = record {
+    briefs = refl;
+    records = record {
+      format = format;
+      known = known;
+      first = lit< tt;
+      step = step;
+      form = ((refl, (tt, refl)), ((refl, (tt, refl)), ((refl, (tt, refl)), tt)));
+      laid_out = record {
+        replayed = record {
+          stands = ((refl, tt, (refl, tt, (refl, tt, tt))), refl);
+          firsts = (refl, (refl, (refl, tt)));
+          places = refl;
+        };
+        free = (tt, (tt, (tt, tt)));
+      };
+      book = contents format k bytes _ long are;
+    };
+    files = refl;
+  }
+
+  -- ---- a body that is no record
+
+  -- behind alice and bob such a body is damaged where reading it stops
+  misspelled_behind : (format : ℕ) (step : Option ℕ) (bytes body : List ℕ) (at_byte : ℕ)
+      → records_in ((48 + format) == 49) (run_after 0 bytes)
+      ≡ record { bodies = bodies_of step two_users ++ body ∷ []; step = step; bad = None }
+      → StopsInUpdate (form_behind step 2) body at_byte
+      → HasBadRecords (header_of k format (placed [])) (image (head format k ++ bytes) blobs)
+      (in_book (gate_behind step (bodies_of step two_users) + 5 + at_byte))
+  misspelled_behind format step bytes body at_byte are stops =
+      bad_book format k blobs bytes
+      (record { bodies = bodies_of step two_users ++ body ∷ []; step = step; bad = None })
+      (in_book (gate_behind step (bodies_of step two_users) + 5 + at_byte)) long are
+      (λ master. record {
+        history = placed two_users;
+        kept = record {
+          mode_is = refl;
+          first_is = refl;
+          form = two_form step;
+          laid_out = two_laid master (blocks_in blobs);
+        };
+        body = body;
+        rest = [];
+        split = refl;
+        bad = inl (record { at_byte = at_byte; stops = stops; spot_is = refl });
+      })
+
+-- no update begins with the byte 5, in whichever form
+pub five_stops : (form : Form) (rest : List ℕ) → StopsInUpdate form (5 ∷ rest) 0
+unfolding brief_at
+five_stops form rest =
+    let at : length (5 ∷ rest) - length (5 ∷ rest) ≡ 0 = omega arith in ap (λ (n : ℕ). Err n) at
+
+-- ---- the rows
+
+module _ (k : Keys) (blobs : List ℕ) (long : length k.base_check ≡ 32) where
+  -- a new store, with one user, and with two
+  pub new_store : KeepsAt k (placed []) (history []) (image (head 2 k ++ 0 ∷ []) blobs)
+  new_store = new_keeps k blobs long
+
+  pub with_alice : KeepsAt k (placed one_user) (history (SealedEnrol alice ∷ []))
+      (image (head 2 k ++ (first_record ++ 0 ∷ [])) blobs)
+  with_alice = one_keeps k blobs long 2 None (first_record ++ 0 ∷ []) (inr refl) refl
+
+  -- a book of this format keeps both users
+  abbrev KeepsBoth : ℕ → List ℕ → Type 0
+  KeepsBoth format bytes =
+      KeepsAt k (placed two_users) (history (SealedEnrol alice ∷ SealedEnrol bob ∷ []))
+      (image (head format k ++ bytes) blobs)
+
+  pub with_bob : KeepsBoth 2 (both_records ++ 0 ∷ [])
+  with_bob = two_keep k blobs long 2 None (both_records ++ 0 ∷ []) (inr refl) refl
+
+  pub first_with_bob : KeepsBoth 1 (both_records ++ 0 ∷ [])
+  first_with_bob = two_keep k blobs long 1 (Some 2) (both_records ++ 0 ∷ []) (inl refl) refl
+
+  pub with_step : KeepsBoth 1 (both_records ++ step_record ++ 0 ∷ [])
+  with_step =
+      two_keep k blobs long 1 (Some 2) (both_records ++ step_record ++ 0 ∷ []) (inl refl) refl
+
+  pub with_carol : KeepsAt k (placed three_users)
+      (history (SealedEnrol alice ∷ SealedEnrol bob ∷ SealedEnrol carol ∷ []))
+      (image (head 1 k ++ (both_records ++ step_record ++ third_record ++ 0 ∷ [])) blobs)
+  with_carol =
+      three_keep k blobs long 1 (Some 2)
+      (both_records ++ step_record ++ third_record ++ 0 ∷ []) (inl refl) refl
+
+  -- behind both users a book of this format is damaged at this place
+  abbrev IsBadAt : ℕ → List ℕ → ℕ → Type 0
+  IsBadAt format bytes place =
+      HasBadRecords (header_of k format (placed [])) (image (head format k ++ bytes) blobs)
+      (in_book place)
+
+  pub second_step : IsBadAt 1 (both_records ++ step_record ++ step_record ++ 0 ∷ []) 111
+  second_step =
+      misspelled_behind k blobs long 1 (Some 2)
+      (both_records ++ step_record ++ step_record ++ 0 ∷ []) (5 ∷ []) 0 refl
+      (five_stops second_form [])
+
+  pub step_under_second : IsBadAt 2 (both_records ++ step_record ++ 0 ∷ []) 105
+  step_under_second =
+      misspelled_behind k blobs long 2 None (both_records ++ step_record ++ 0 ∷ []) (5 ∷ []) 0 refl
+      (five_stops second_form [])
+
+  pub longer_step : IsBadAt 1 (both_records ++ longer_record ++ 0 ∷ []) 105
+  longer_step =
+      misspelled_behind k blobs long 1 (Some 3) (both_records ++ longer_record ++ 0 ∷ [])
+      (5 ∷ 0 ∷ []) 0 refl (five_stops first_form (0 ∷ []))
+
+-- ---- how long the books are
+
+module _ (format : ℕ) (k : Keys) (long : length k.base_check ≡ 32) where
+  pub length-new : length (head format k ++ 0 ∷ []) ≡ 79
+  length-new = length-book format k (0 ∷ []) long
+
+  pub length-alice : length (head format k ++ (first_record ++ 0 ∷ [])) ≡ 91
+  length-alice = length-book format k (first_record ++ 0 ∷ []) long
+
+  pub length-bob : length (head format k ++ (both_records ++ 0 ∷ [])) ≡ 101
+  length-bob = length-book format k (both_records ++ 0 ∷ []) long
+
+  pub length-step : length (head format k ++ (both_records ++ step_record ++ 0 ∷ [])) ≡ 107
+  length-step = length-book format k (both_records ++ step_record ++ 0 ∷ []) long
+
+  pub length-carol
+      : length (head format k ++ (both_records ++ step_record ++ third_record ++ 0 ∷ [])) ≡ 119
+  length-carol =
+      length-book format k (both_records ++ step_record ++ third_record ++ 0 ∷ []) long

@@ -16,7 +16,7 @@ use Rattle.ov_disk.specs.Disk.{Image}
 use Rattle.ov_disk.specs.declared.area.Area.{Area}
 use Rattle.ov_disk.specs.declared.area.Area.TheVariants.{Book, Blobs}
 use Rattle.ov_journal.specs.Book.{Records, contents_of, spelled}
-use Rattle.ov_journal.specs.Book.{gate_behind}
+use Rattle.ov_journal.specs.Steps.{gate_behind}
 use Rattle.ov_journal.specs.Standing.{HasMagic}
 use Rattle.ov_journal.specs.declared.header.Header.{Header}
 use Rattle.ov_images.specs.Images.{Keys}
@@ -52,9 +52,9 @@ at_block first = record { area = Blobs; place = BLOCK_BYTES * first }
 
 -- ---- one record, behind those of a history
 
--- No update's spelling in this form is at the front of the body of a record whose gate is here. The
--- place is that at which reading it ends: of the first field that no spelling goes on with, or of the
--- body's end.
+-- No update's spelling in this form is at the front of the body of a record whose gate is here.
+-- The place is that at which reading it ends: of the first field that no spelling goes on with, or
+-- of the body's end.
 pub record IsMisspelled (form : Form) (body : List ℕ) (gate : ℕ) (spot : Spot) : Type 0 where
   pub at_byte : ℕ
   pub stops : StopsInUpdate form body at_byte
@@ -68,8 +68,8 @@ pub record BeginsWith (form : Form) (u : Brief) (body : List ℕ) : Type 0 where
 
 -- The body begins with an update with which this history doesn't go on, whatever is behind it. The
 -- place is that of the gate.
-pub record IsUnfit (form : Form) (p : PlacedHistory) (body : List ℕ) (gate : ℕ) (spot : Spot) : Type 0
-  where
+pub record IsUnfit (form : Form) (p : PlacedHistory) (body : List ℕ) (gate : ℕ)
+    (spot : Spot) : Type 0 where
   pub update : Brief
   pub begins : BeginsWith form update body
   pub unfit : IsSealedBriefly (with_brief (unplaced p) update) → ⊥
@@ -83,7 +83,8 @@ pub record IsMiscounted (master : List ℕ) (form : Form) (p : PlacedHistory) (b
   pub begins : BeginsWith form update body
   pub fit : IsSealedBriefly (with_brief (unplaced p) update)
   pub at_byte : ℕ
-  pub stops : StopsInRecord form (count_of (rewrites_of (catalogue_at master p) update)) body at_byte
+  pub stops : StopsInRecord form (count_of (rewrites_of (catalogue_at master p) update)) body
+      at_byte
   pub spot_is : spot ≡ in_book (gate + 5 + at_byte)
 
 -- The body is an update with which this history goes on, with its first blocks, and one of its new

@@ -15,7 +15,7 @@ use Rattle.ov_history.specs.Placed.{PlacedUpdate, placed_of, unplaced, with_plac
 use Rattle.ov_disk.specs.Disk.{Image}
 use Rattle.ov_journal.specs.declared.header.Header.{Header}
 use Rattle.ov_journal.specs.Book.{contents_of, with_body}
-use Rattle.ov_journal.specs.Book.{gate_behind}
+use Rattle.ov_journal.specs.Steps.{gate_behind}
 use Rattle.ov_journal.specs.Standing.{IsUnborn, HasMagic}
 use Rattle.ov_images.specs.Images.{Keys}
 use Rattle.ov_images.specs.Records.{HasRecordForm, bodies_of, record_spelling}

@@ -2,7 +2,7 @@
 -- and the first blocks of the extents that it fills. In a store of the first format the records
 -- before its step record are in the first form; all others are in the second.
 use Rattle.std.specs.Prelude.{◌≡◌, ℕ, ◌+◌, Bool, true, false, List, [], ◌∷◌, length, Option, Err}
-use Rattle.ov_journal.specs.Book.{comes_before}
+use Rattle.ov_journal.specs.Steps.{comes_before}
 use Rattle.ov_record.specs.Forms.{Form, first_form, second_form}
 use Rattle.ov_record.specs.Reading.{brief_of, stored_of}
 use Rattle.ov_record.specs.Stored.{HasStoredForm, Stored, stored_spelling}

@@ -37,8 +37,9 @@ pub fn free_blocks_need_no_order()
     ensures { FreeNeedsNoOrder }
 {}
 
-/// The law of records: with one more record, whose new extents took free blocks and
-/// hold the new stored bytes while all others keep theirs, the history goes on.
+/// The law of records: with one more record in the second form, whose new extents took free
+/// blocks and hold the new stored bytes while all others keep theirs, the history goes on,
+/// whichever the format of the store is.
 pub fn keeping_goes_on()
     ensures { KeepingGoesOn }
 {}

@@ -11,13 +11,19 @@
 //! image and know nothing of how it was written, so they say what a store on disk is with no store
 //! in sight.
 //!
+//! Stores of two *formats* keep histories. In one of the second all records are in the second form,
+//! with lists of 128 bytes. In one of the first, records are in the first form, with lists of 32
+//! bytes, up to its *step record*, and those behind it are in the second. The step record is no part
+//! of what a Book says. So one behind the last record changes nothing of what an image keeps. A
+//! second one is damage, and so is one in a store of the second format.
+//!
 //! Which records can stand behind one another needs no master; which texts the files have does. So
 //! damage is told without keys, at a place of Book or of Blobs.
 //!
 //! | file in `specs/` | says |
 //! |---|---|
 //! | `Images` | keys and header; `HasRecords`, `KeepsAt`, `Keeps`, `IsImageOf`, `Opens`, `KeepsEither` |
-//! | `Records` | the bodies of records with first blocks, and bodies that aren't |
+//! | `Records` | which record is in which form, their bodies, and bodies that are no record |
 //! | `Extents` | which blocks are in use, and that each update takes free ones |
 //! | `Damage` | what is wrong with a record, a length that can't be, and the place of which area |
 //! | `Laws` | the laws |
@@ -30,7 +36,7 @@
 //! | it keeps some history, whichever bytes its extents hold; what is kept is born and sealed | [`records_keep_a_history`] |
 //! | the same records and the same bytes of files keep the same | [`same_extents_keep_the_same`] |
 //! | which blocks are free depends on no order of extents | [`free_blocks_need_no_order`] |
-//! | with a record and its new extents more it keeps the history with the update | [`keeping_goes_on`] |
+//! | with a record in the second form and its new extents more it keeps the history with the update | [`keeping_goes_on`] |
 //! | a damaged image keeps none, and is damaged at one place | [`damaged_images_keep_no_history`] |
 //! | a gate behind records of a history is at one place, whichever first blocks they have | [`gates_need_no_blocks`] |
 //!

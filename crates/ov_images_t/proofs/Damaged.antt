@@ -2,19 +2,20 @@
 use Rattle.std.proofs.Common.{◌≡◌, inl, inr, ⊎_elim, ℕ, ◌+◌, List, [], ◌∷◌, ◌++◌, length}
 use Rattle.std.proofs.Common.{refl, ap, arith, lit<, lit≤}
 use Rattle.std.proofs.Common.{false, Ok}
+use Rattle.std.specs.Prelude.{◌*◌}
 use Rattle.std.specs.Int.{w32}
 use Rattle.ov_base.specs.Sets.{bytes_of}
-use Rattle.ov_base.specs.declared.limits.TheConstants.{SET_WORDS}
 use Rattle.ov_base.proofs.SetLaws.{small-IsBelow}
 use Rattle.ov_fields.specs.Reading.{Read, ◌>>=◌, all_of, bytes_at, made, many_at, number_at}
 use Rattle.ov_fields.specs.Reading.{placed}
+use Rattle.ov_record.specs.Forms.{set_bytes}
 use Rattle.ov_record.specs.Forms.{second_form}
 use Rattle.ov_record.specs.Reading.{brief_at, stored}
 use Rattle.ov_record.specs.Stored.{Stored}
 use Rattle.ov_record.proofs.BriefLaws.{brief_reads}
 use Rattle.ov_record.proofs.UpdateLaws.{second_has_room}
 use Rattle.ov_history.specs.Briefs.{Brief, BriefCreate, BriefEnrol}
-use Rattle.ov_journal.specs.Book.{records_after}
+use Rattle.ov_journal.specs.Runs.{run_after}
 use Rattle.ov_images.specs.Images.{Keys}
 use Rattle.ov_images.specs.Records.{HasRecordForm, StopsInRecord}
 use Rattle.ov_images.specs.Extents.{blocks_in}
@@ -46,7 +47,7 @@ end_of_blobs_is_damage k blobs long is =
       split = refl;
       bad = inr (inr (inr (record {
         update = create 1 [] 8193 (0 ∷ []);
-        form = create_form;
+        has_form = create_form;
         bytes = refl;
         fit = (refl, tt, (refl, refl, tt));
         firsts = refl;
@@ -56,9 +57,9 @@ end_of_blobs_is_damage k blobs long is =
       })));
     })
 
-last_form : HasRecordForm (create_small 110 (2147483648 ∷ []))
+last_form : HasRecordForm second_form (create_small 110 (2147483648 ∷ []))
 last_form =
-    ((refl, small-IsBelow (64 * SET_WORDS) 1 (lit< tt), lit≤ tt, tt, refl, lit≤ tt), ((lit< tt, tt), refl))
+    ((refl, small-IsBelow (8 * set_bytes second_form) 1 (lit< tt), lit≤ tt, tt, refl, lit≤ tt), ((lit< tt, tt), refl))
 
 pub last_block_counts : LastBlockCounts
 unfolding bytes_of
@@ -74,7 +75,7 @@ last_block_counts k blobs long is =
       split = refl;
       bad = inr (inr (inr (record {
         update = create_small 110 (2147483648 ∷ []);
-        form = last_form;
+        has_form = last_form;
         bytes = refl;
         fit = (refl, tt, (refl, refl, tt));
         firsts = refl;
@@ -98,8 +99,8 @@ blocks_in_use_are_damage k blobs long is =
       split = refl;
       bad = inr (inr (inr (record {
         update = create_small 109 (2 ∷ []);
-        form = (
-          (refl, small-IsBelow (64 * SET_WORDS) 1 (lit< tt), lit≤ tt, tt, refl, lit≤ tt),
+        has_form = (
+          (refl, small-IsBelow (8 * set_bytes second_form) 1 (lit< tt), lit≤ tt, tt, refl, lit≤ tt),
           ((lit< tt, tt), refl),
         );
         bytes = refl;
@@ -134,12 +135,12 @@ created_first : (firsts : List ℕ) → brief_at second_form (create_with firsts
 unfolding bytes_of
 created_first firsts = (brief_reads second_form second_has_room).again created firsts create_form.0
 
-missing_stops : StopsInRecord 1 (create_with []) 169
+missing_stops : StopsInRecord second_form 1 (create_with []) 169
 unfolding bytes_at many_at
 missing_stops =
     ap (λ (r : Read Brief). placed 169 (all_of (and_firsts 1 r))) (created_first [])
 
-left_over_stops : StopsInRecord 1 (create_with (block 0 ++ block 3)) 173
+left_over_stops : StopsInRecord second_form 1 (create_with (block 0 ++ block 3)) 173
 unfolding bytes_at many_at
 left_over_stops =
     ap (λ (r : Read Brief). placed 177 (all_of (and_firsts 1 r)))
@@ -147,10 +148,10 @@ left_over_stops =
 
 -- the creation with another number of first blocks
 miscounted : (k : Keys) (blobs firsts : List ℕ) (n at_byte : ℕ) → length k.base_check ≡ 32
-    → records_after 0 (recorded (enrol_body 97 ∷ create_with firsts ∷ []))
+    → run_after 0 (recorded (enrol_body 97 ∷ create_with firsts ∷ []))
     ≡ record { bodies = enrol_body 97 ∷ create_with firsts ∷ []; bad = false }
-    → blocks_in blobs ≡ n → StopsInRecord 1 (create_with firsts) at_byte
-    → HasBadRecords (header_of k (history []))
+    → blocks_in blobs ≡ n → StopsInRecord second_form 1 (create_with firsts) at_byte
+    → HasBadRecords (header_of k 2 (history []))
     (store k (enrol_body 97 ∷ create_with firsts ∷ []) blobs) (in_book (86 + 5 + at_byte))
 unfolding bytes_of
 miscounted k blobs firsts n at_byte long are blocks stops =
@@ -164,7 +165,7 @@ miscounted k blobs firsts n at_byte long are blocks stops =
       split = refl;
       bad = inr (inr (inl (record {
         update = created;
-        begins = record { form = create_form.0; rest = firsts; bytes = refl };
+        begins = record { has_form = create_form.0; rest = firsts; bytes = refl };
         fit = (refl, tt, (refl, refl, tt));
         at_byte = at_byte;
         stops = stops;
@@ -182,7 +183,7 @@ first_is_left_over k blobs long is =
     left_over_stops
 
 refused_gate : (k : Keys) (blobs : List ℕ) (n : ℕ) → length k.base_check ≡ 32 → blocks_in blobs ≡ n
-    → HasBadRecords (header_of k (history []))
+    → HasBadRecords (header_of k 2 (history []))
     (store k (enrol_body 97 ∷ (enrol_body 97 ++ block 0) ∷ []) blobs) (in_book 86)
 refused_gate k blobs n long blocks =
     bad_store k (enrol_body 97 ∷ (enrol_body 97 ++ block 0) ∷ []) blobs n (in_book 86) long refl
@@ -195,13 +196,13 @@ refused_gate k blobs n long blocks =
       split = refl;
       bad = inr (inl (record {
         update = BriefEnrol (97 ∷ []);
-        begins = record { form = refl; rest = block 0; bytes = refl };
+        begins = record { has_form = refl; rest = block 0; bytes = refl };
         unfit = λ fit. absurd (cc fit.2.0);
         spot_is = refl;
       }));
     })
 
-enrolled_stops : StopsInRecord 0 (enrol_body 98 ++ block 0) 3
+enrolled_stops : StopsInRecord second_form 0 (enrol_body 98 ++ block 0) 3
 unfolding bytes_at many_at
 enrolled_stops =
     ap (λ (r : Read Brief). placed 7 (all_of (and_firsts 0 r)))
@@ -220,7 +221,7 @@ gate_comes_first k blobs long is = (
         split = refl;
         bad = inr (inr (inl (record {
           update = BriefEnrol (98 ∷ []);
-          begins = record { form = refl; rest = block 0; bytes = refl };
+          begins = record { has_form = refl; rest = block 0; bytes = refl };
           fit = (refl, tt, (refl, tt, tt));
           at_byte = 3;
           stops = enrolled_stops;

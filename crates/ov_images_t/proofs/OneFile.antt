@@ -1,11 +1,13 @@
 -- Rows of stores with one file.
-use Rattle.std.proofs.Common.{◌≡◌, ℕ, ◌≤◌, List, [], ◌∷◌, ◌++◌, take}
+use Rattle.std.proofs.Common.{◌≡◌, inr, ℕ, ◌≤◌, List, [], ◌∷◌, ◌++◌, take}
 use Rattle.std.proofs.Common.{refl, sym, ◌∙◌, ap, subst, arith, lit<, lit≤, length-append}
+use Rattle.std.specs.Prelude.{◌*◌, None}
 use Rattle.std.proofs.lemmas.List.{take_at}
 use Rattle.ov_base.specs.Sets.{bytes_of}
 use Rattle.ov_base.specs.declared.mode.Mode.TheVariants.{Full}
-use Rattle.ov_base.specs.declared.limits.TheConstants.{SET_WORDS}
 use Rattle.ov_base.proofs.SetLaws.{small-IsBelow}
+use Rattle.ov_record.specs.Forms.{set_bytes}
+use Rattle.ov_record.specs.Forms.{second_form}
 use Rattle.ov_history.specs.Placed.{PlacedHistory}
 use Rattle.ov_images.specs.Records.{AllHaveForm, HasRecordForm}
 use Rattle.ov_images.specs.Extents.{IsLaidOut}
@@ -24,7 +26,7 @@ use Rattle.ov_images_t.proofs.Blobs.{blocks-length}
 abbrev pub one_user : PlacedHistory
 one_user = history (enrol 97 ∷ [])
 
-pub one_user_kept : (master : List ℕ) (n : ℕ) → CanBeKept master Full 0 n one_user
+pub one_user_kept : (master : List ℕ) (n : ℕ) → CanBeKept master Full 0 n None one_user
 one_user_kept master n = record {
   mode_is = refl;
   first_is = refl;
@@ -40,11 +42,11 @@ one_user_kept master n = record {
 abbrev pub one_file : PlacedHistory
 one_file = history (enrol 97 ∷ create 1 [] 8193 (0 ∷ []) ∷ [])
 
-pub create_form : HasRecordForm (create 1 [] 8193 (0 ∷ []))
+pub create_form : HasRecordForm second_form (create 1 [] 8193 (0 ∷ []))
 create_form =
-    ((refl, small-IsBelow (64 * SET_WORDS) 1 (lit< tt), lit≤ tt, tt, refl, lit≤ tt), ((lit< tt, tt), refl))
+    ((refl, small-IsBelow (8 * set_bytes second_form) 1 (lit< tt), lit≤ tt, tt, refl, lit≤ tt), ((lit< tt, tt), refl))
 
-pub one_file_form : AllHaveForm one_file.updates
+pub one_file_form : AllHaveForm None one_file.updates
 one_file_form = ((refl, (tt, refl)), (create_form, tt))
 
 pub one_file_laid : (master : List ℕ) (n : ℕ) → 3 ≤ n → IsLaidOut master n one_file
@@ -57,7 +59,7 @@ one_file_laid master n enough = record {
   free = (tt, (((enough, tt), tt), tt));
 }
 
-pub one_file_kept : (master : List ℕ) (n : ℕ) → 3 ≤ n → CanBeKept master Full 0 n one_file
+pub one_file_kept : (master : List ℕ) (n : ℕ) → 3 ≤ n → CanBeKept master Full 0 n None one_file
 one_file_kept master n enough = record {
   mode_is = refl;
   first_is = refl;
@@ -69,7 +71,10 @@ pub file_has_whole_blocks : FileHasWholeBlocks
 unfolding bytes_of
 file_has_whole_blocks k blobs long is = (
   record {
+    format = 2;
+    known = inr refl;
     first = lit< tt;
+    step = None;
     form = one_file_form;
     laid_out =
         subst (λ (n : ℕ). IsLaidOut k.surface n one_file) (sym (blocks-length blobs 12288 is))
@@ -91,10 +96,13 @@ pub empty_file_has_no_block : EmptyFileHasNoBlock
 unfolding bytes_of
 empty_file_has_no_block k long = (
   record {
+    format = 2;
+    known = inr refl;
     first = lit< tt;
+    step = None;
     form = (
       (refl, (tt, refl)),
-      (((refl, small-IsBelow (64 * SET_WORDS) 1 (lit< tt), lit≤ tt, tt, refl, lit≤ tt), (tt, refl)), tt),
+      (((refl, small-IsBelow (8 * set_bytes second_form) 1 (lit< tt), lit≤ tt, tt, refl, lit≤ tt), (tt, refl)), tt),
     );
     laid_out = record {
       replayed = record {

@@ -1,12 +1,14 @@
 -- The row of two files that one update rewrites.
 use Rattle.std.proofs.Common.{inl, inr, ⊎_elim, ℕ, List, [], ◌∷◌, ◌++◌}
 use Rattle.std.proofs.Common.{refl, sym, subst, arith, lit<, lit≤}
+use Rattle.std.specs.Prelude.{◌*◌, None}
 use Rattle.std.specs.List.{AllByRecursion}
 use Rattle.ov_base.specs.Names.{IsName}
 use Rattle.ov_base.specs.Sets.{bytes_of}
 use Rattle.ov_base.specs.declared.mode.Mode.TheVariants.{Delta}
-use Rattle.ov_base.specs.declared.limits.TheConstants.{SET_WORDS}
 use Rattle.ov_base.proofs.SetLaws.{small-IsBelow}
+use Rattle.ov_record.specs.Forms.{set_bytes}
+use Rattle.ov_record.specs.Forms.{second_form}
 use Rattle.ov_record.specs.Stored.{IsNumber}
 use Rattle.ov_history.specs.Placed.{PlacedHistory}
 use Rattle.ov_images.specs.Records.{AllHaveForm, HasRecordForm}
@@ -26,11 +28,11 @@ three_files =
     ∷ create_small 111 (2 ∷ []) ∷ [])
 
 small_form : (letter : ℕ) (firsts : List ℕ) → IsName (letter ∷ [])
-    → AllByRecursion IsNumber firsts → HasRecordForm (create_small letter firsts)
+    → AllByRecursion IsNumber firsts → HasRecordForm second_form (create_small letter firsts)
 small_form letter firsts name all =
-    ((name, small-IsBelow (64 * SET_WORDS) 1 (lit< tt), lit≤ tt, tt, refl, lit≤ tt), (all, refl))
+    ((name, small-IsBelow (8 * set_bytes second_form) 1 (lit< tt), lit≤ tt, tt, refl, lit≤ tt), (all, refl))
 
-three_files_form : AllHaveForm three_files.updates
+three_files_form : AllHaveForm None three_files.updates
 three_files_form = (
   (refl, (tt, refl)),
   (
@@ -45,7 +47,7 @@ three_files_form = (
   ),
 )
 
-three_files_kept : (master : List ℕ) → CanBeKept master Delta 0 5 three_files
+three_files_kept : (master : List ℕ) → CanBeKept master Delta 0 5 None three_files
 three_files_kept master = record {
   mode_is = refl;
   first_is = refl;
@@ -121,7 +123,10 @@ pub new_blocks_are_apart : NewBlocksAreApart
 unfolding bytes_of lib.Count.ones
 new_blocks_are_apart k blobs long is = (
   record {
+    format = 2;
+    known = inr refl;
     first = lit< tt;
+    step = None;
     form = (
       (refl, (tt, refl)),
       (
@@ -153,7 +158,7 @@ new_blocks_are_apart k blobs long is = (
         split = refl;
         bad = inr (inr (inr (record {
           update = grant_access (3 ∷ 3 ∷ []);
-          form = ((lit< tt, lit< tt, refl), ((lit< tt, (lit< tt, tt)), refl));
+          has_form = ((lit< tt, lit< tt, refl), ((lit< tt, (lit< tt, tt)), refl));
           bytes = refl;
           fit =
               (refl, tt, (refl, tt, (refl, refl, (refl, refl, (refl, refl, (refl, refl, tt))))));

@@ -1,10 +1,12 @@
 -- Rows of blocks that are used again.
 use Rattle.std.proofs.Common.{inl, inr, ⊎_elim, ℕ, List, [], ◌∷◌, ◌++◌}
 use Rattle.std.proofs.Common.{refl, sym, subst, arith, lit<, lit≤}
+use Rattle.std.specs.Prelude.{◌*◌, None}
 use Rattle.ov_base.specs.Sets.{bytes_of}
 use Rattle.ov_base.specs.declared.mode.Mode.TheVariants.{Full}
-use Rattle.ov_base.specs.declared.limits.TheConstants.{SET_WORDS}
 use Rattle.ov_base.proofs.SetLaws.{small-IsBelow}
+use Rattle.ov_record.specs.Forms.{set_bytes}
+use Rattle.ov_record.specs.Forms.{second_form}
 use Rattle.ov_history.specs.Placed.{PlacedHistory}
 use Rattle.ov_images.specs.Records.{AllHaveForm, HasRecordForm}
 use Rattle.ov_images.specs.Extents.{IsLaidOut}
@@ -22,19 +24,19 @@ abbrev two_users : PlacedHistory
 two_users =
     history (enrol 97 ∷ enrol 98 ∷ create 3 (zero_token ∷ zero_token ∷ []) 8193 (0 ∷ []) ∷ [])
 
-shared_form : HasRecordForm (create 3 (zero_token ∷ zero_token ∷ []) 8193 (0 ∷ []))
+shared_form : HasRecordForm second_form (create 3 (zero_token ∷ zero_token ∷ []) 8193 (0 ∷ []))
 shared_form = (
-  (refl, small-IsBelow (64 * SET_WORDS) 3 (lit< tt), lit≤ tt, (refl, (refl, tt)), refl, lit≤ tt),
+  (refl, small-IsBelow (8 * set_bytes second_form) 3 (lit< tt), lit≤ tt, (refl, (refl, tt)), refl, lit≤ tt),
   ((lit< tt, tt), refl),
 )
 
-two_users_form : AllHaveForm two_users.updates
+two_users_form : AllHaveForm None two_users.updates
 two_users_form = ((refl, (tt, refl)), ((refl, (tt, refl)), (shared_form, tt)))
 
 abbrev shared_body : List ℕ
 shared_body = create_body 3 ((0 ∷ 2 ∷ []) ++ zeros 64) (block 0)
 
-two_users_kept : (master : List ℕ) → CanBeKept master Full 0 6 two_users
+two_users_kept : (master : List ℕ) → CanBeKept master Full 0 6 None two_users
 unfolding lib.Count.ones
 two_users_kept master = record {
   mode_is = refl;
@@ -63,7 +65,7 @@ own_blocks_are_in_use k blobs long is =
       split = refl;
       bad = inr (inr (inr (record {
         update = revoke (1 ∷ []);
-        form = ((lit< tt, lit< tt), ((lit< tt, tt), refl));
+        has_form = ((lit< tt, lit< tt), ((lit< tt, tt), refl));
         bytes = refl;
         fit = (refl, tt, (refl, tt, (refl, refl, (refl, tt, tt))));
         firsts = refl;
@@ -109,7 +111,10 @@ pub blocks_are_used_again : BlocksAreUsedAgain
 unfolding bytes_of lib.Count.ones
 blocks_are_used_again k blobs long is = (
   record {
+    format = 2;
+    known = inr refl;
     first = lit< tt;
+    step = None;
     form = (
       (refl, (tt, refl)),
       (

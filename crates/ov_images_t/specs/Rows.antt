@@ -25,7 +25,7 @@ FileHasWholeBlocks =
 abbrev pub EndOfBlobsIsDamage : Type 0
 EndOfBlobsIsDamage =
     (k : Keys) (blobs : List ℕ) → length k.base_check ≡ 32 → length blobs ≡ 12287
-    → HasBadRecords (header_of k (history []))
+    → HasBadRecords (header_of k 2 (history []))
     (store k (enrol_body 97 ∷ create_body 1 (0 ∷ 0 ∷ []) (block 0) ∷ []) blobs) (at_block 0)
 
 -- However long Blobs is, the last block that counts is 2,147,483,647. A file of one byte in the block
@@ -33,7 +33,7 @@ EndOfBlobsIsDamage =
 abbrev pub LastBlockCounts : Type 0
 LastBlockCounts =
     (k : Keys) (blobs : List ℕ) → length k.base_check ≡ 32 → length blobs ≡ 8796093026304
-    → HasBadRecords (header_of k (history []))
+    → HasBadRecords (header_of k 2 (history []))
     (store k (enrol_body 97 ∷ small_body 110 (128 ∷ 0 ∷ 0 ∷ 0 ∷ []) ∷ []) blobs)
     (at_block 2147483648)
 
@@ -41,24 +41,24 @@ LastBlockCounts =
 abbrev pub BlocksInUseAreDamage : Type 0
 BlocksInUseAreDamage =
     (k : Keys) (blobs : List ℕ) → length k.base_check ≡ 32 → length blobs ≡ 16384
-    → HasBadRecords (header_of k (history []))
+    → HasBadRecords (header_of k 2 (history []))
     (store k
     (enrol_body 97 ∷ create_body 1 (0 ∷ 0 ∷ []) (block 0) ∷ small_body 109 (block 2) ∷ []) blobs)
     (at_block 2)
 
--- A creation without its first block: its gate is at place 86, and its body, of 169 bytes, ends
--- at place 260.
+-- A creation without its first block: its gate is at place 86, and its body, of 169 bytes, ends at
+-- place 260.
 abbrev pub FirstIsMissing : Type 0
 FirstIsMissing =
     (k : Keys) (blobs : List ℕ) → length k.base_check ≡ 32 → length blobs ≡ 12288
-    → HasBadRecords (header_of k (history []))
+    → HasBadRecords (header_of k 2 (history []))
     (store k (enrol_body 97 ∷ create_body 1 (0 ∷ 0 ∷ []) [] ∷ []) blobs) (in_book 260)
 
 -- with two first blocks, of which the second begins at place 264
 abbrev pub FirstIsLeftOver : Type 0
 FirstIsLeftOver =
     (k : Keys) (blobs : List ℕ) → length k.base_check ≡ 32 → length blobs ≡ 24576
-    → HasBadRecords (header_of k (history []))
+    → HasBadRecords (header_of k 2 (history []))
     (store k (enrol_body 97 ∷ create_body 1 (0 ∷ 0 ∷ []) (block 0 ++ block 3) ∷ []) blobs)
     (in_book 264)
 
@@ -67,9 +67,9 @@ FirstIsLeftOver =
 abbrev pub GateComesFirst : Type 0
 GateComesFirst =
     (k : Keys) (blobs : List ℕ) → length k.base_check ≡ 32 → length blobs ≡ 12288
-    → HasBadRecords (header_of k (history []))
+    → HasBadRecords (header_of k 2 (history []))
     (store k (enrol_body 97 ∷ (enrol_body 97 ++ block 0) ∷ []) blobs) (in_book 86)
-    × HasBadRecords (header_of k (history []))
+    × HasBadRecords (header_of k 2 (history []))
     (store k (enrol_body 97 ∷ (enrol_body 98 ++ block 0) ∷ []) blobs) (in_book 94)
 
 -- A file of no bytes has no first block, and no place in Blobs.
@@ -107,14 +107,14 @@ NewBlocksAreApart =
     HasRecords k
     (history_in Delta (enrol 97 ∷ enrol 98 ∷ files ++ grant_access (3 ∷ 4 ∷ []) ∷ []))
     (store_in Delta k (bodies ++ access_body (block 3 ++ block 4) ∷ []) blobs)
-    × HasBadRecords (header_of k (history_in Delta []))
+    × HasBadRecords (header_of k 2 (history_in Delta []))
     (store_in Delta k (bodies ++ access_body (block 3 ++ block 3) ∷ []) blobs) (at_block 3)
 
 -- A revocation that rewrites the file from block 1 on takes blocks that the file has until then.
 abbrev pub OwnBlocksAreInUse : Type 0
 OwnBlocksAreInUse =
     (k : Keys) (blobs : List ℕ) → length k.base_check ≡ 32 → length blobs ≡ 24576
-    → HasBadRecords (header_of k (history []))
+    → HasBadRecords (header_of k 2 (history []))
     (store k
     (enrol_body 97 ∷ enrol_body 98 ∷ create_body 3 ((0 ∷ 2 ∷ []) ++ zeros 64) (block 0)
     ∷ revoke_body (block 1) ∷ []) blobs) (at_block 1)

@@ -1,4 +1,4 @@
--- Small stores with literal records.
+-- Small stores of the second format with literal records.
 use Rattle.std.specs.Prelude.{ℕ, List, [], ◌∷◌, ◌++◌, length, replicate, Some, None}
 use Rattle.ov_base.specs.declared.mode.Mode.{Mode}
 use Rattle.ov_base.specs.declared.mode.Mode.TheVariants.{Full}
@@ -98,9 +98,9 @@ abbrev pub recorded : List (List ℕ) → List ℕ
 recorded [] = 0 ∷ []
 recorded (body ∷ bodies) = 1 ∷ u32 (length body) ++ body ++ recorded bodies
 
--- the Book of a store of this mode with these records
+-- the Book of a store of the second format, of this mode, with these records
 abbrev pub book_in : Mode → Keys → List (List ℕ) → List ℕ
-book_in mode k bodies = spelled (header_of k (history_in mode [])) ++ recorded bodies
+book_in mode k bodies = spelled (header_of k 2 (history_in mode [])) ++ recorded bodies
 
 -- the store with these records beside these bytes of Blobs, in this mode
 abbrev pub store_in : Mode → Keys → List (List ℕ) → List ℕ → Image

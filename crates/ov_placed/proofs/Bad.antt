@@ -2,6 +2,7 @@
 -- that was replayed to the store.
 use Rattle.std.proofs.Common.{◌≡◌, inl, inr, ℕ, ◌+◌, List, Option, sym, ◌∙◌, ap, subst}
 use Rattle.std.specs.Prelude.{◌⊎◌}
+use Rattle.ov_record.specs.Forms.{Form, HasRoom}
 use Rattle.ov_history.specs.Briefs.{Brief}
 use Rattle.ov_history.specs.Catalogue.{Catalogue}
 use Rattle.ov_history.specs.Placed.{HasFirsts, IsReplayedTo, PlacedHistory, PlacedUpdate, count_of}
@@ -31,7 +32,8 @@ at_place body gate at_byte spot ends is = λ j. record {
   place = is.place ends j;
 }
 
-module _ (blocks : ℕ) (c : Catalogue) (placed : List (Option ℕ)) (body : List ℕ) (gate : ℕ) where
+module _ (form : Form) (room : HasRoom form) (blocks : ℕ) (c : Catalogue)
+    (placed : List (Option ℕ)) (body : List ℕ) (gate : ℕ) where
   -- the number of first blocks that an update needs
   abbrev needs : Brief → ℕ
   needs u = count_of (rewrites_of c u)
@@ -44,36 +46,37 @@ module _ (blocks : ℕ) (c : Catalogue) (placed : List (Option ℕ)) (body : Lis
 
   -- ---- what is right isn't wrong
 
-  no_stop : (u : Brief) (spot : Spot) → BeginsWith u body → StopsInFront body gate spot → ⊥
+  no_stop : (u : Brief) (spot : Spot) → BeginsWith form u body → StopsInFront form body gate spot → ⊥
   no_stop u spot one wrong =
-      never_stops u body one.rest wrong.at_byte one.form one.bytes wrong.stops
+      never_stops form room u body one.rest wrong.at_byte one.has_form one.bytes wrong.stops
 
-  not_untaken : (u : Brief) (spot : Spot) → BeginsWith u body → IsTaken c u
-      → BeginsUntaken c body gate spot → ⊥
+  not_untaken : (u : Brief) (spot : Spot) → BeginsWith form u body → IsTaken c u
+      → BeginsUntaken form c body gate spot → ⊥
   not_untaken u spot one taken w =
-      w.wrong.untaken (subst (IsTaken c) (one_front u w.update body one w.begins) taken)
+      w.wrong.untaken (subst (IsTaken c) (one_front form room u w.update body one w.begins) taken)
 
-  has_its_firsts : (u : PlacedUpdate) (spot : Spot) → IsRecordOf u body → HasFirsts c u
-      → HasOtherFirsts c body gate spot → ⊥
+  has_its_firsts : (u : PlacedUpdate) (spot : Spot) → IsRecordOf form u body → HasFirsts c u
+      → HasOtherFirsts form c body gate spot → ⊥
   has_its_firsts u spot is has w =
-      let same = one_front u.update w.update body (begins u body is) w.begins in
-      record_never_stops u body (needs w.update) w.wrong.at_byte is.form is.bytes
+      let same = one_front form room u.update w.update body (begins form u body is) w.begins in
+      record_never_stops form room u body (needs w.update) w.wrong.at_byte is.has_form is.bytes
       (has ∙ ap needs same) w.wrong.stops
 
-  none_used : (u : PlacedUpdate) (spot : Spot) → IsRecordOf u body
-      → UpdateTakesFree blocks c placed u → TakesUsedBlocks blocks c placed body spot → ⊥
+  none_used : (u : PlacedUpdate) (spot : Spot) → IsRecordOf form u body
+      → UpdateTakesFree blocks c placed u → TakesUsedBlocks form blocks c placed body spot → ⊥
   none_used u spot is free w =
-      let same = records_apart w.update u w.is.form is.form (sym w.is.bytes ∙ is.bytes) in
+      let same = records_apart form room w.update u w.is.has_form is.has_form
+      (sym w.is.bytes ∙ is.bytes) in
       none_taken blocks (extents_in_use c placed) (new_extents (rewrites_of c u.update) u.firsts)
       w.wrong.first free
       (subst (λ (v : PlacedUpdate). BeginsTakenAt v w.wrong.first) same w.wrong.taken)
 
-  never_bad : (u : PlacedUpdate) (spot : Spot) → IsRecordOf u body → IsTaken c u.update
+  never_bad : (u : PlacedUpdate) (spot : Spot) → IsRecordOf form u body → IsTaken c u.update
       → HasFirsts c u → UpdateTakesFree blocks c placed u
-      → IsBadFor blocks c placed body gate spot → ⊥
-  never_bad u spot is taken has free (inl w) = no_stop u.update spot (begins u body is) w
+      → IsBadFor form blocks c placed body gate spot → ⊥
+  never_bad u spot is taken has free (inl w) = no_stop u.update spot (begins form u body is) w
   never_bad u spot is taken has free (inr (inl w)) =
-      not_untaken u.update spot (begins u body is) taken w
+      not_untaken u.update spot (begins form u body is) taken w
   never_bad u spot is taken has free (inr (inr (inl w))) = has_its_firsts u spot is has w
   never_bad u spot is taken has free (inr (inr (inr w))) = none_used u spot is free w
 
@@ -82,46 +85,46 @@ module _ (blocks : ℕ) (c : Catalogue) (placed : List (Option ℕ)) (body : Lis
   -- what is wrong with a body at whose front an update stands
   abbrev IsBadBehind : Spot → Type 0
   IsBadBehind spot =
-      BeginsUntaken c body gate spot
-      ⊎ (HasOtherFirsts c body gate spot ⊎ TakesUsedBlocks blocks c placed body spot)
+      BeginsUntaken form c body gate spot
+      ⊎ (HasOtherFirsts form c body gate spot ⊎ TakesUsedBlocks form blocks c placed body spot)
 
-  behind_begins : (spot : Spot) → IsBadBehind spot → (u : Brief) × BeginsWith u body
+  behind_begins : (spot : Spot) → IsBadBehind spot → (u : Brief) × BeginsWith form u body
   behind_begins spot (inl a) = (a.update, a.begins)
   behind_begins spot (inr (inl a)) = (a.update, a.begins)
-  behind_begins spot (inr (inr a)) = (a.update.update, begins a.update body a.is)
+  behind_begins spot (inr (inr a)) = (a.update.update, begins form a.update body a.is)
 
   -- what is wrong with a body at whose front an update stands that is taken
   abbrev IsBadRest : Spot → Type 0
   IsBadRest spot =
-      HasOtherFirsts c body gate spot ⊎ TakesUsedBlocks blocks c placed body spot
+      HasOtherFirsts form c body gate spot ⊎ TakesUsedBlocks form blocks c placed body spot
 
-  rest_taken : (one two : Spot) → BeginsUntaken c body gate one → IsBadRest two → ⊥
+  rest_taken : (one two : Spot) → BeginsUntaken form c body gate one → IsBadRest two → ⊥
   rest_taken one two a (inl b) = not_untaken b.update one b.begins b.taken a
   rest_taken one two a (inr b) =
-      not_untaken b.update.update one (begins b.update body b.is) b.taken a
+      not_untaken b.update.update one (begins form b.update body b.is) b.taken a
 
   module _ (one two : Spot) (ends : EndsInBook gate body) where
-    two_stops : StopsInFront body gate one → StopsInFront body gate two → one ≡ two
+    two_stops : StopsInFront form body gate one → StopsInFront form body gate two → one ≡ two
     two_stops a b =
         let same : a.at_byte ≡ b.at_byte = cc (sym a.stops ∙ b.stops) in
         at_place body gate a.at_byte one ends a.spot_is
         ∙ ap (λ (n : ℕ). in_book (gate + 5 + n)) same
         ∙ sym (at_place body gate b.at_byte two ends b.spot_is)
 
-    two_counted : HasOtherFirsts c body gate one → HasOtherFirsts c body gate two → one ≡ two
+    two_counted : HasOtherFirsts form c body gate one → HasOtherFirsts form c body gate two → one ≡ two
     two_counted a b =
-        let update = one_front a.update b.update body a.begins b.begins in
-        let stops = subst (λ (u : Brief). StopsInRecord (needs u) body a.wrong.at_byte) update
+        let update = one_front form room a.update b.update body a.begins b.begins in
+        let stops = subst (λ (u : Brief). StopsInRecord form (needs u) body a.wrong.at_byte) update
         a.wrong.stops in
         let same : a.wrong.at_byte ≡ b.wrong.at_byte = cc (sym stops ∙ b.wrong.stops) in
         at_place body gate a.wrong.at_byte one ends a.wrong.spot_is
         ∙ ap (λ (n : ℕ). in_book (gate + 5 + n)) same
         ∙ sym (at_place body gate b.wrong.at_byte two ends b.wrong.spot_is)
 
-    two_used : TakesUsedBlocks blocks c placed body one → TakesUsedBlocks blocks c placed body two
+    two_used : TakesUsedBlocks form blocks c placed body one → TakesUsedBlocks form blocks c placed body two
         → one ≡ two
     two_used a b =
-        let update = records_apart a.update b.update a.is.form b.is.form
+        let update = records_apart form room a.update b.update a.is.has_form b.is.has_form
         (sym a.is.bytes ∙ b.is.bytes) in
         let taken = subst (λ (u : PlacedUpdate). BeginsTakenAt u a.wrong.first) update
         a.wrong.taken in
@@ -136,7 +139,7 @@ module _ (blocks : ℕ) (c : Catalogue) (placed : List (Option ℕ)) (body : Lis
     rest_spot (inr a) (inl b) = absurd (has_its_firsts a.update two a.is a.firsts b)
     rest_spot (inr a) (inr b) = two_used a b
 
-    one_spot : IsBadFor blocks c placed body gate one → IsBadFor blocks c placed body gate two
+    one_spot : IsBadFor form blocks c placed body gate one → IsBadFor form blocks c placed body gate two
         → one ≡ two
     one_spot (inl a) (inl b) = two_stops a b
     one_spot (inl a) (inr b) = let u = behind_begins two b in absurd (no_stop u.0 one u.1 a)
@@ -146,70 +149,71 @@ module _ (blocks : ℕ) (c : Catalogue) (placed : List (Option ℕ)) (body : Lis
     one_spot (inr (inr a)) (inr (inl b)) = absurd (rest_taken two one b a)
     one_spot (inr (inr a)) (inr (inr b)) = rest_spot a b
 
-  -- ---- behind a history
+-- ---- behind a history
 
-  module _ (master : List ℕ) (spot : Spot) (ends : EndsInBook gate body) (p : PlacedHistory)
-      (so_far : IsReplayedTo master p c placed) where
-    -- the history goes on with an update that is taken
-    fits : (u : Brief) → IsTaken c u → IsSealedBriefly (with_brief (unplaced p) u)
-    fits u taken =
-        (briefs_go_on master c (unplaced p) u so_far.stands taken.0 taken.1).0
+module _ (form : Form) (blocks : ℕ) (c : Catalogue) (placed : List (Option ℕ)) (body : List ℕ)
+    (gate : ℕ) (master : List ℕ) (spot : Spot) (ends : EndsInBook gate body) (p : PlacedHistory)
+    (so_far : IsReplayedTo master p c placed) where
+  -- the history goes on with an update that is taken
+  fits : (u : Brief) → IsTaken c u → IsSealedBriefly (with_brief (unplaced p) u)
+  fits u taken =
+      (briefs_go_on master c (unplaced p) u so_far.stands taken.0 taken.1).0
 
-    used_behind : TakesUsedBlocks blocks c placed body spot
-        → IsBadBody master blocks p body gate spot
-    used_behind w = inr (inr (inr (record {
-      update = w.update;
-      form = w.is.form;
-      bytes = w.is.bytes;
-      fit = fits w.update.update w.taken;
-      firsts = subst (λ (d : Catalogue). HasFirsts d w.update) so_far.stands.1 w.firsts;
-      first = w.wrong.first;
-      taken = subst (λ (d : Catalogue). IsFirstTaken blocks
-          (extents_in_use d (placed_of master p))
-          (new_extents (rewrites_of d w.update.update) w.update.firsts) w.wrong.first)
-          so_far.stands.1
-          (subst (λ (ps : List (Option ℕ)). IsFirstTaken blocks (extents_in_use c ps)
-          (new_extents (rewrites_of c w.update.update) w.update.firsts) w.wrong.first)
-          so_far.places w.wrong.taken);
-      spot_is = w.wrong.spot_is;
-    })))
+  used_behind : TakesUsedBlocks form blocks c placed body spot
+      → IsBadBody master form blocks p body gate spot
+  used_behind w = inr (inr (inr (record {
+    update = w.update;
+    has_form = w.is.has_form;
+    bytes = w.is.bytes;
+    fit = fits w.update.update w.taken;
+    firsts = subst (λ (d : Catalogue). HasFirsts d w.update) so_far.stands.1 w.firsts;
+    first = w.wrong.first;
+    taken = subst (λ (d : Catalogue). IsFirstTaken blocks
+        (extents_in_use d (placed_of master p))
+        (new_extents (rewrites_of d w.update.update) w.update.firsts) w.wrong.first)
+        so_far.stands.1
+        (subst (λ (ps : List (Option ℕ)). IsFirstTaken blocks (extents_in_use c ps)
+        (new_extents (rewrites_of c w.update.update) w.update.firsts) w.wrong.first)
+        so_far.places w.wrong.taken);
+    spot_is = w.wrong.spot_is;
+  })))
 
-    behind : IsBadFor blocks c placed body gate spot → IsBadBody master blocks p body gate spot
-    behind (inl w) = inl (record {
-      at_byte = w.at_byte;
-      stops = w.stops;
-      spot_is = at_place body gate w.at_byte spot ends w.spot_is;
-    })
-    behind (inr (inl w)) = inr (inl (record {
-      update = w.update;
-      begins = w.begins;
-      unfit = λ sealed.
-          w.wrong.untaken (briefs_stop master c (unplaced p) w.update so_far.stands sealed);
-      spot_is = w.wrong.spot_is;
-    }))
-    behind (inr (inr (inl w))) = inr (inr (inl (record {
-      update = w.update;
-      begins = w.begins;
-      fit = fits w.update w.taken;
-      at_byte = w.wrong.at_byte;
-      stops = subst (λ (d : Catalogue).
-          StopsInRecord (count_of (rewrites_of d w.update)) body w.wrong.at_byte) so_far.stands.1
-          w.wrong.stops;
-      spot_is = at_place body gate w.wrong.at_byte spot ends w.wrong.spot_is;
-    })))
-    behind (inr (inr (inr w))) = used_behind w
+  behind : IsBadFor form blocks c placed body gate spot → IsBadBody master form blocks p body gate spot
+  behind (inl w) = inl (record {
+    at_byte = w.at_byte;
+    stops = w.stops;
+    spot_is = at_place body gate w.at_byte spot ends w.spot_is;
+  })
+  behind (inr (inl w)) = inr (inl (record {
+    update = w.update;
+    begins = w.begins;
+    unfit = λ sealed.
+        w.wrong.untaken (briefs_stop master c (unplaced p) w.update so_far.stands sealed);
+    spot_is = w.wrong.spot_is;
+  }))
+  behind (inr (inr (inl w))) = inr (inr (inl (record {
+    update = w.update;
+    begins = w.begins;
+    fit = fits w.update w.taken;
+    at_byte = w.wrong.at_byte;
+    stops = subst (λ (d : Catalogue).
+        StopsInRecord form (count_of (rewrites_of d w.update)) body w.wrong.at_byte) so_far.stands.1
+        w.wrong.stops;
+    spot_is = at_place body gate w.wrong.at_byte spot ends w.wrong.spot_is;
+  })))
+  behind (inr (inr (inr w))) = used_behind w
 
 -- ---- the laws
 
 pub none_is_taken_and_bad : NoneIsTakenAndBad
-none_is_taken_and_bad master blocks old new body gate spot takes wrong =
-    never_bad blocks old.catalogue old.placed body gate takes.update spot takes.is takes.taken
-    takes.firsts takes.free wrong
+none_is_taken_and_bad master form blocks old new body gate spot room takes wrong =
+    never_bad form room blocks old.catalogue old.placed body gate takes.update spot takes.is
+    takes.taken takes.firsts takes.free wrong
 
 pub is_bad_at_one_spot : IsBadAtOneSpot
-is_bad_at_one_spot blocks c placed body gate one two ends a b =
-    one_spot blocks c placed body gate one two ends a b
+is_bad_at_one_spot form blocks c placed body gate one two room ends a b =
+    one_spot form room blocks c placed body gate one two ends a b
 
 pub is_bad_behind_each : IsBadBehindEach
-is_bad_behind_each master blocks c placed body gate spot ends wrong p so_far =
-    behind blocks c placed body gate master spot ends p so_far wrong
+is_bad_behind_each master form blocks c placed body gate spot ends wrong p so_far =
+    behind form blocks c placed body gate master spot ends p so_far wrong

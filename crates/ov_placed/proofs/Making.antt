@@ -172,7 +172,7 @@ module _ {W : ℕ} (limit : ℕ) (master : List ℕ) (store : PlacedStore) (p : 
         may.replayed may.keeps)
 
     pub keeps_still : (i : Image) → KeepsOrGoesOn limit master store p i i
-    keeps_still i k h g u surface may = (inl may.keeps, refl)
+    keeps_still i k h g u surface may = (inl may.keeps, refl, refl)
 
     pub lasts_more : {D : Type 0} (tells : DiskTells D) (moves : List Move) (disk : D) (i : Image)
         → UpdateLasts tells master (asked_of store p) moves disk i

@@ -1,8 +1,14 @@
 -- The spots that faults name, and records that are taken.
 use Rattle.std.proofs.Common.{◌≡◌, inl, inr, ℕ, ◌+◌, ◌-◌, ◌≤◌, ◌<◌, ◌^◌, List, length, Option, Result, Ok, Err, sym, ◌∙◌, subst, arith}
+use Rattle.ov_base.specs.declared.limits.TheConstants.{MAX_FILE_BYTES}
 use Rattle.ov_disk.specs.declared.area.Area.TheVariants.{Book}
 use Rattle.ov_fields.specs.Reading.{all_of, placed}
-use Rattle.ov_record.specs.Forms.{second_form}
+use Rattle.ov_record.specs.Briefs.{BriefEnrol, BriefCreate, BriefGrant, BriefRevoke, IsFitting}
+use Rattle.ov_record.specs.Forms.{Form, HasRoom, form_in}
+use Rattle.ov_record.specs.Stored.{IsBriefWithinLimits}
+use Rattle.ov_record.specs.declared.formats.Format.{Format}
+use Rattle.ov_record.specs.declared.formats.Format.TheVariants.{First, Second}
+use Rattle.ov_record.proofs.UpdateLaws.{first_has_room, second_has_room}
 use Rattle.ov_record.specs.Reading.{brief_at, brief_of, front_of, stored_at, stored_of}
 use Rattle.ov_history.specs.Briefs.{Brief}
 use Rattle.ov_history.specs.Catalogue.{Catalogue, catalogue_after}
@@ -22,6 +28,29 @@ use Rattle.ov_placed.specs.Replaying.{IsPlacedAs, IsRecordOf}
 use Rattle.ov_placed.specs.declared.fault.ReplayFault.{ReplayFault}
 use Rattle.ov_placed.specs.declared.fault.ReplayFault.TheVariants.{Damaged, Memory}
 
+-- ---- formats
+
+-- each form of a format has room in a record
+pub format_has_room : (format : Format) → HasRoom (form_in format)
+format_has_room First = first_has_room
+format_has_room Second = second_has_room
+
+-- no file of a format is longer than one of a store may be
+no_longer : (format : Format) → (form_in format).longest ≤ MAX_FILE_BYTES
+no_longer First = omega arith
+no_longer Second = omega arith
+
+within_fits : (form : Form) → form.longest ≤ MAX_FILE_BYTES → (b : Brief)
+    → IsBriefWithinLimits form b → IsFitting b
+within_fits form few (BriefEnrol name) is = tt
+within_fits form few (BriefCreate name list tokens tag size) is = omega (arith, few, is.1)
+within_fits form few (BriefGrant user file token) is = tt
+within_fits form few (BriefRevoke user file) is = tt
+
+-- what a record of a format has a store may take
+pub fits_in : (format : Format) (b : Brief) → IsBriefWithinLimits (form_in format) b → IsFitting b
+fits_in format b is = within_fits (form_in format) (no_longer format) b is
+
 -- ---- in a body
 
 -- a place that reading names is in the body, or at its end
@@ -36,46 +65,48 @@ abbrev NamesPlace : ℕ → ℕ → ReplayFault → Type 0
 NamesPlace gate place fault =
     NamesSpot (λ spot. gate + 5 + place < 2 ^ 64 → spot.place ≡ gate + 5 + place) fault
 
-pub misspelled : (body : List ℕ) (gate place : ℕ) (fault : ReplayFault)
-    → brief_of second_form body ≡ Err place → NamesSpot (λ spot. spot.area ≡ Book) fault
-    → NamesPlace gate place fault → NamesSpot (StopsInFront body gate) fault
-misspelled body gate place (Damaged area offset) stops in_area at =
-    let within = placed_within (length body) place (front_of (length body) (brief_at second_form
-    body)) stops in
+pub misspelled : (form : Form) (body : List ℕ) (gate place : ℕ) (fault : ReplayFault)
+    → brief_of form body ≡ Err place → NamesSpot (λ spot. spot.area ≡ Book) fault
+    → NamesPlace gate place fault → NamesSpot (StopsInFront form body gate) fault
+misspelled form body gate place (Damaged area offset) stops in_area at =
+    let within = placed_within (length body) place (front_of (length body) (brief_at form body))
+    stops in
     record {
       at_byte = place;
       stops = stops;
       spot_is = record { area = in_area; place = λ ends. at (omega (arith, ends, within)) };
     }
-misspelled body gate place Memory stops in_area at = tt
+misspelled form body gate place Memory stops in_area at = tt
 
-pub miscounted : (count : ℕ) (body : List ℕ) (gate place : ℕ) (fault : ReplayFault)
-    → stored_of second_form count body ≡ Err place → NamesSpot (λ spot. spot.area ≡ Book) fault
-    → NamesPlace gate place fault → NamesSpot (StopsInBody count body gate) fault
-miscounted count body gate place (Damaged area offset) stops in_area at =
-    let within = placed_within (length body) place (all_of (stored_at second_form count body)) stops
-    in
+pub miscounted : (form : Form) (count : ℕ) (body : List ℕ) (gate place : ℕ) (fault : ReplayFault)
+    → stored_of form count body ≡ Err place → NamesSpot (λ spot. spot.area ≡ Book) fault
+    → NamesPlace gate place fault → NamesSpot (StopsInBody form count body gate) fault
+miscounted form count body gate place (Damaged area offset) stops in_area at =
+    let within = placed_within (length body) place (all_of (stored_at form count body)) stops in
     record {
       at_byte = place;
       stops = stops;
       spot_is = record { area = in_area; place = λ ends. at (omega (arith, ends, within)) };
     }
-miscounted count body gate place Memory stops in_area at = tt
+miscounted form count body gate place Memory stops in_area at = tt
 
 -- ---- what is at the front
 
 -- a record begins with its update
-pub begins : (u : PlacedUpdate) (body : List ℕ) → IsRecordOf u body → BeginsWith u.update body
-begins u body is = record {
-  form = is.form.0;
+pub begins : (form : Form) (u : PlacedUpdate) (body : List ℕ) → IsRecordOf form u body
+    → BeginsWith form u.update body
+begins form u body is = record {
+  has_form = is.has_form.0;
   rest = firsts_spelling u.firsts;
   bytes = is.bytes;
 }
 
 -- a body begins with one update
-pub one_front : (u v : Brief) (body : List ℕ) → BeginsWith u body → BeginsWith v body → u ≡ v
-one_front u v body one two =
-    (fronts_apart u v one.rest two.rest one.form two.form (sym one.bytes ∙ two.bytes)).0
+pub one_front : (form : Form) → HasRoom form → (u v : Brief) (body : List ℕ)
+    → BeginsWith form u body → BeginsWith form v body → u ≡ v
+one_front form room u v body one two =
+    (fronts_apart form room u v one.rest two.rest one.has_form two.has_form
+    (sym one.bytes ∙ two.bytes)).0
 
 -- ---- what is wrong
 
@@ -85,26 +116,26 @@ named_so : (P Q : Spot → Type 0) (fault : ReplayFault) → ((spot : Spot) → 
 named_so P Q (Damaged area offset) so wrong = so (record { area = area; place = offset }) wrong
 named_so P Q Memory so wrong = tt
 
-module _ (blocks : ℕ) (c : Catalogue) (placed : List (Option ℕ)) (body : List ℕ) (gate : ℕ)
-    (fault : ReplayFault) where
+module _ (form : Form) (blocks : ℕ) (c : Catalogue) (placed : List (Option ℕ)) (body : List ℕ)
+    (gate : ℕ) (fault : ReplayFault) where
   abbrev IsBad : Spot → Type 0
-  IsBad spot = IsBadFor blocks c placed body gate spot
+  IsBad spot = IsBadFor form blocks c placed body gate spot
 
-  pub bad_if_misspelled : NamesSpot (StopsInFront body gate) fault → NamesSpot IsBad fault
+  pub bad_if_misspelled : NamesSpot (StopsInFront form body gate) fault → NamesSpot IsBad fault
   bad_if_misspelled wrong =
-      named_so (StopsInFront body gate) IsBad fault (λ spot stops. inl stops) wrong
+      named_so (StopsInFront form body gate) IsBad fault (λ spot stops. inl stops) wrong
 
-  pub bad_if_untaken : (u : Brief) → BeginsWith u body → NamesSpot (IsUntaken c u gate) fault
+  pub bad_if_untaken : (u : Brief) → BeginsWith form u body → NamesSpot (IsUntaken c u gate) fault
       → NamesSpot IsBad fault
   bad_if_untaken u front wrong =
       named_so (IsUntaken c u gate) IsBad fault
       (λ spot is. inr (inl (record { update = u; begins = front; wrong = is }))) wrong
 
-  pub bad_if_miscounted : (u : Brief) → BeginsWith u body → IsTaken c u
-      → NamesSpot (StopsInBody (count_of (rewrites_of c u)) body gate) fault
+  pub bad_if_miscounted : (u : Brief) → BeginsWith form u body → IsTaken c u
+      → NamesSpot (StopsInBody form (count_of (rewrites_of c u)) body gate) fault
       → NamesSpot IsBad fault
   bad_if_miscounted u front taken wrong =
-      named_so (StopsInBody (count_of (rewrites_of c u)) body gate) IsBad fault
+      named_so (StopsInBody form (count_of (rewrites_of c u)) body gate) IsBad fault
       (λ spot stops. inr (inr (inl (record {
         update = u;
         begins = front;
@@ -112,8 +143,9 @@ module _ (blocks : ℕ) (c : Catalogue) (placed : List (Option ℕ)) (body : Lis
         wrong = stops;
       })))) wrong
 
-  pub bad_if_taken : (u : PlacedUpdate) → IsRecordOf u body → IsTaken c u.update → HasFirsts c u
-      → NamesSpot (UpdateIsTakenAt blocks c placed u) fault → NamesSpot IsBad fault
+  pub bad_if_taken : (u : PlacedUpdate) → IsRecordOf form u body → IsTaken c u.update
+      → HasFirsts c u → NamesSpot (UpdateIsTakenAt blocks c placed u) fault
+      → NamesSpot IsBad fault
   bad_if_taken u is taken firsts wrong =
       named_so (UpdateIsTakenAt blocks c placed u) IsBad fault
       (λ spot used. inr (inr (inr (record {

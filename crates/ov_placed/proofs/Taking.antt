@@ -9,6 +9,7 @@ use Rattle.ov_images.specs.Extents.{AllTakeFree, UpdateTakesFree, extents_in_use
 use Rattle.ov_images.specs.Extents.{new_extents}
 use Rattle.ov_images.specs.Laws.{HaveSameExtents}
 use Rattle.ov_images.proofs.Order.{free_needs_no_order}
+use Rattle.ov_record.specs.Forms.{Form}
 use Rattle.ov_state.specs.Changes.{AreOfFiles, applied}
 use Rattle.ov_state.specs.Entries.{plain_rewrites}
 use Rattle.ov_state.specs.declared.change.Change.{Change}
@@ -132,11 +133,11 @@ all_ok A B C D (Err e) a b c follows = tt
 
 module _ (W limit : ℕ) (master : List ℕ) (blocks : ℕ) (s : PlacedStore) (u : PlacedUpdate)
     (change : Change W) (is : IsPlacedChange {W = W} limit master s.catalogue u change)
-    (body : List ℕ) (record_is : IsRecordOf u body) (d : Catalogue) (places : List (Option ℕ))
-    (same : d ≡ s.catalogue) (same_places : places ≡ s.placed) where
+    (form : Form) (body : List ℕ) (record_is : IsRecordOf form u body) (d : Catalogue)
+    (places : List (Option ℕ)) (same : d ≡ s.catalogue) (same_places : places ≡ s.placed) where
   pub takes_record : (new : PlacedStore) → new.catalogue ≡ applied d change
       → new.placed ≡ placed_after d u places → UpdateTakesFree blocks d places u
-      → TakesRecord master blocks s body new
+      → TakesRecord master form blocks s body new
   takes_record new made placed_are free =
       let made_is : new.catalogue ≡ catalogue_after master s.catalogue u.update =
       made ∙ ap (λ (e : Catalogue). applied e change) same ∙ is.made.made in
@@ -160,9 +161,9 @@ module _ (W limit : ℕ) (master : List ℕ) (blocks : ℕ) (s : PlacedStore) (u
 
   pub bad_if_not_free : (gate : ℕ) (fault : ReplayFault)
       → NamesSpot (UpdateIsTakenAt blocks d places u) fault
-      → NamesSpot (IsBadFor blocks s.catalogue s.placed body gate) fault
+      → NamesSpot (IsBadFor form blocks s.catalogue s.placed body gate) fault
   bad_if_not_free gate fault wrong =
-      bad_if_taken blocks s.catalogue s.placed body gate fault u record_is is.made.taken
+      bad_if_taken form blocks s.catalogue s.placed body gate fault u record_is is.made.taken
       is.firsts
       (subst (λ (ps : List (Option ℕ)). NamesSpot (UpdateIsTakenAt blocks s.catalogue ps u) fault)
       same_places

@@ -20,7 +20,7 @@ use Rattle.ov_state.specs.Changes.{applied}
 use Rattle.ov_state.specs.Entries.{plain_rewrites}
 use Rattle.ov_state.specs.Plans.{IsChange, IsWithinLimits}
 use Rattle.ov_updating.specs.Files.{files_of, firsts_of}
-use Rattle.ov_updating.specs.Updating.{Asked, KeepsAtOrMore, asked}
+use Rattle.ov_updating.specs.Updating.{Asked, HasSameStep, KeepsAtOrMore, asked}
 use Rattle.ov_placed.specs.Contents.{PlacedStore}
 use Rattle.ov_placed.specs.declared.preparing.Prepared.{Prepared}
 
@@ -56,13 +56,15 @@ pub record MayGoOn {W : ℕ} (limit : ℕ) (store : PlacedStore) (prepared : Pre
   pub prepared_is : IsPrepared limit k.surface store.catalogue u prepared
   pub keeps : KeepsAt k p g i
 
--- Whatever history the first image keeps, the second keeps that, or it with the update; and the files
--- that there were have their bytes where they had them.
+-- Whatever history the first image keeps, the second keeps that, or it with the update; the files
+-- that there were have their bytes where they had them, and the records before the step record are
+-- the same.
 abbrev pub KeepsOrGoesOn : {W : ℕ} → ℕ → List ℕ → PlacedStore → Prepared W → Image → Image → Type 0
 KeepsOrGoesOn limit master store prepared i c =
     (k : Keys) (p : PlacedHistory) (g : SealedHistory) (u : SealedUpdate)
     → k.surface ≡ master → MayGoOn limit store prepared k p g u i
     → KeepsAtOrMore k p g u c × (stored_in k.surface p c.blobs ≡ stored_in k.surface p i.blobs)
+    × HasSameStep i c
 
 -- A crash leaves one image alone, which the disk reads. Whatever history the older image kept, it
 -- keeps that with the update, whose files have gone there, and its Blobs has grown into their new

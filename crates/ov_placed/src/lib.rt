@@ -4,16 +4,16 @@
 //! file has a byte, and the extents of all files ([`ov_blocks::Extents`]). It has no bytes of files:
 //! these lie in Blobs. It takes an update in two ways.
 //!
-//! * [`replay`](PlacedCatalogue::replay) takes one that a disk has: the body of a record of Book, over
-//!   a Blobs of so many whole blocks. It reads no byte of Blobs.
+//! * [`replay`](PlacedCatalogue::replay) takes one that a disk has: the body of a record of Book, of
+//!   whichever format that is, over a Blobs of so many whole blocks. It reads no byte of Blobs.
 //! * [`prepare`](PlacedCatalogue::prepare) and [`update`](PlacedCatalogue::update) make a new one. The
 //!   first takes memory for the change of the catalogue, and leaves all as it was. The second makes the
 //!   update on the disk ([`ov_updating::update`]), and only then here.
 //!
 //! ```text
-//! replay    body ── read_brief ──► update ── State::prepare ──► change ── count_of ──► how many
+//! replay    body ── read_front ──► update ── State::prepare ──► change ── count_of ──► how many
 //!             │                                                   │                       │
-//!             └──── read_stored ◄─────────────────────────────────┼───────────────────────┘
+//!             └──── read_record ◄─────────────────────────────────┼───────────────────────┘
 //!                        │                                        │
 //!                        └─ first blocks ──► new extents: each held, while the old ones are still held
 //!                                                                 │
@@ -44,8 +44,8 @@
 //!   text (`IsPrepared`), or says why not.
 //! * `update`, at `Ok`, has made the update here, and on the disk it lasts (`MakesUpdate`). Each file
 //!   has gone into the lowest free run (`GoToFree`), and Blobs has grown into the new extents alone.
-//!   Where the disk tells its bytes, a crash at any moment leaves an image that keeps the history from before, or
-//!   it with the update (`KeepsOrGoesOn`).
+//!   Where the disk tells its bytes, a crash at any moment leaves an image that keeps the history from
+//!   before, or it with the update, whose record is of the second format (`KeepsOrGoesOn`).
 //!
 //! | file in `specs/` | says |
 //! |---|---|
@@ -58,7 +58,7 @@
 //!
 //! | law | function |
 //! |---|---|
-//! | no record that a store takes is bad for it; a bad one is bad at one spot, and so behind each history that was replayed to the store | [`bad_records_are_not_taken`] |
+//! | no record that a store takes is bad for it, in whichever format; a bad one is bad at one spot, and so behind each history that was replayed to the store | [`bad_records_are_not_taken`] |
 //!
 //! A store begins at [`PlacedCatalogue::new`] with no record, and goes on record by record
 //! (`proofs/Replays`); `ov_placed_t` has a caller that does so with a list of bodies.

@@ -76,7 +76,14 @@ impl CataloguePlaces {
             (IsBadFor (form_in format) blocks self.old.catalogue self.old.placed body.now gate)) }
         ensures same { OnErr result (HoldsTheSame self.old self.new) }
     {
-        let (change, record) = prepare_record(alloc, &mut self.catalogue, surface, format, body, gate)?;
+        let (change, record) = prepare_record(
+            alloc,
+            &mut self.catalogue,
+            surface,
+            format,
+            body,
+            gate,
+        )?;
         self.take(alloc, change, &record, blocks)
     }
 }

@@ -1,16 +1,23 @@
 -- Where the gates of records are.
 use Rattle.std.proofs.Common.{◌≡◌, ℕ, ◌+◌, ◌≤◌, ◌<◌, ◌^◌, List, [], ◌∷◌, ◌++◌, length, take, drop, get_or, refl, sym, ◌∙◌, ap, subst, arith, take-append-drop}
+use Rattle.std.specs.Prelude.{None}
 use Rattle.std.proofs.lemmas.List.{drop_more, take_all, take_more}
 use Rattle.ov_base.specs.declared.mode.Mode.{Mode}
-use Rattle.ov_journal.specs.Log.{end_from}
+use Rattle.ov_journal.specs.Runs.{end_from}
+use Rattle.ov_journal.specs.Book.{Records}
 use Rattle.ov_journal.proofs.Reading.{end_from-size}
-use Rattle.ov_images.specs.Damage.{HasBadRecord}
+use Rattle.ov_images.specs.Damage.{HasBadRecord, Spot}
+use Rattle.ov_record.specs.Forms.{second_form}
 use Rattle.ov_placed.specs.Contents.{PlacedStore}
 use Rattle.ov_placed.specs.Faults.{IsBadFor, NamesSpot}
 use Rattle.ov_placed.specs.Replaying.{IsReplayOf, TakesRecord}
 use Rattle.ov_placed.specs.declared.fault.ReplayFault.{ReplayFault}
 use Rattle.ov_placed.specs.declared.fault.ReplayFault.TheVariants.{Damaged, Memory}
 use Rattle.ov_placed.proofs.Replays.{replay_more, replay_stops}
+
+-- the records of a store of the second format with these bodies
+abbrev pub second_of : List (List ℕ) → Records
+second_of bodies = record { bodies = bodies; step = None; bad = None }
 
 end-append : (place : ℕ) (front rest : List (List ℕ))
     → end_from place (front ++ rest) ≡ end_from (end_from place front) rest
@@ -38,39 +45,35 @@ module _ (bodies : List (List ℕ)) (i : ℕ) (d : List ℕ) (lt : i < length bo
       )
 
   module _ (master : List ℕ) (mode : Mode) (first blocks : ℕ) (s : PlacedStore)
-      (so_far : IsReplayOf master mode first blocks (take i bodies) s) where
-    pub next_replayed : (t : PlacedStore) → TakesRecord master blocks s (get_or bodies i d) t
-        → IsReplayOf master mode first blocks (take (i + 1) bodies) t
+      (so_far : IsReplayOf master mode first blocks None (take i bodies) s) where
+    pub next_replayed : (t : PlacedStore) → TakesRecord master second_form blocks s (get_or bodies i d) t
+        → IsReplayOf master mode first blocks None (take (i + 1) bodies) t
     next_replayed t takes =
-        subst (λ (l : List (List ℕ)). IsReplayOf master mode first blocks l t)
+        subst (λ (l : List (List ℕ)). IsReplayOf master mode first blocks None l t)
         (sym (take_more bodies i d lt))
-        (replay_more master mode first blocks (take i bodies) s t (get_or bodies i d) so_far takes)
+        (replay_more master mode first blocks None (take i bodies) s so_far t (get_or bodies i d) takes)
 
     pub next_stops : (gate : ℕ) (fault : ReplayFault)
         → (end_from 78 bodies < 2 ^ 64 → gate ≡ end_from 78 (take i bodies))
-        → NamesSpot (IsBadFor blocks s.catalogue s.placed (get_or bodies i d) gate) fault
+        → NamesSpot (IsBadFor second_form blocks s.catalogue s.placed (get_or bodies i d) gate) fault
         → NamesSpot (λ spot. end_from 78 bodies < 2 ^ 64
-        → HasBadRecord master mode first blocks bodies spot) fault
+        → HasBadRecord master mode first blocks (second_of bodies) spot) fault
     next_stops gate (Damaged area offset) at_gate wrong = λ low.
         let body : List ℕ = get_or bodies i d in
         let rest : List (List ℕ) = drop (i + 1) bodies in
         let split : take i bodies ++ body ∷ rest ≡ bodies =
         ap (λ (l : List (List ℕ)). take i bodies ++ l) (sym (drop_more bodies i d lt))
         ∙ take-append-drop i bodies in
-        subst (λ (l : List (List ℕ)). HasBadRecord master mode first blocks l (record {
-          area = area;
-          place = offset;
-        })) split
-        (replay_stops master mode first blocks (take i bodies) rest s body gate (record {
-          area = area;
-          place = offset;
-        }) so_far (at_gate low) (omega (arith, low, at_gate low, next-ends)) wrong)
+        let spot : Spot = record { area = area; place = offset } in
+        subst (λ (l : List (List ℕ)). HasBadRecord master mode first blocks (second_of l) spot) split
+        (replay_stops master mode first blocks None (take i bodies) s so_far rest None body gate spot
+        (at_gate low) (omega (arith, low, at_gate low, next-ends)) wrong)
     next_stops gate Memory at_gate wrong = tt
 
 pub all_replayed : (master : List ℕ) (mode : Mode) (first blocks : ℕ) (bodies : List (List ℕ))
     (i : ℕ) (s : PlacedStore) → length bodies ≤ i
-    → IsReplayOf master mode first blocks (take i bodies) s
-    → IsReplayOf master mode first blocks bodies s
+    → IsReplayOf master mode first blocks None (take i bodies) s
+    → IsReplayOf master mode first blocks None bodies s
 all_replayed master mode first blocks bodies i s all so_far =
-    subst (λ (l : List (List ℕ)). IsReplayOf master mode first blocks l s) (take_all i bodies all)
+    subst (λ (l : List (List ℕ)). IsReplayOf master mode first blocks None l s) (take_all i bodies all)
     so_far

@@ -59,6 +59,21 @@ pub(crate) fn create(rt: &impl Abort, alloc: Global, firsts: &[u32]) -> Vec<u8> 
     record(rt, alloc, update, firsts)
 }
 
+/// The same creation with one first block in a record of the first format, in which a set has 32
+/// bytes.
+pub(crate) fn create_of_first_format(rt: &impl Abort, alloc: Global) -> Vec<u8> {
+    let mut body = Vec::new(alloc);
+    body.extend_from_slice(b"\x02\x01f\x03")
+        .expect(rt, "memory");
+    body.resize(35, 0).expect(rt, "memory");
+    // The number of tokens, these and the tag; the number of bytes, and block 0.
+    body.extend_from_slice(b"\0\x02").expect(rt, "memory");
+    body.resize(133, 0).expect(rt, "memory");
+    body.extend_from_slice(b"\0\0\x20\x01\0\0\0\0")
+        .expect(rt, "memory");
+    body
+}
+
 pub(crate) fn revoke(rt: &impl Abort, alloc: Global, user: u32, firsts: &[u32]) -> Vec<u8> {
     record(rt, alloc, Brief::Revoke { user, file: 0 }, firsts)
 }

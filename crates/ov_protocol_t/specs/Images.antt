@@ -1,8 +1,9 @@
 -- Rows of images: headers and bodies of small histories, what an image stands for, and an unfit
 -- record.
-use Rattle.std.specs.Prelude.{◌≡◌, ℕ, List, [], ◌∷◌}
+use Rattle.std.specs.Prelude.{◌≡◌, ℕ, List, [], ◌∷◌, Option}
 use Rattle.ov_base.specs.declared.mode.Mode.TheVariants.{Full}
 use Rattle.ov_tokens.specs.Keys.{check_value_of}
+use Rattle.ov_record.specs.Forms.{Form}
 use Rattle.ov_record.specs.Updates.{SealedUpdate}
 use Rattle.ov_history.specs.Briefs.{Brief, BriefEnrol, BriefRevoke}
 use Rattle.ov_history.specs.Masters.{Masters}
@@ -23,25 +24,27 @@ abbrev pub revocation : PlacedUpdate
 revocation = record { update = BriefRevoke 0 0; firsts = 3 ∷ [] }
 
 -- The bodies of an enrolment and of a revocation after it are the bytes of both, with the first block
--- behind the second. If an update were left out, there would be one body less.
+-- behind the second, in whichever form each is. If an update were left out, there would be one body
+-- less.
 abbrev pub BookHasUpdates : Type 0
 BookHasUpdates =
-    bodies_of (enrolment ∷ revocation ∷ [])
+    (step : Option ℕ) → bodies_of step (enrolment ∷ revocation ∷ [])
     ≡ (1 ∷ 1 ∷ 97 ∷ []) ∷ (4 ∷ 0 ∷ 0 ∷ 0 ∷ 0 ∷ 0 ∷ 0 ∷ 0 ∷ 0 ∷ 0 ∷ 0 ∷ 0 ∷ 3 ∷ []) ∷ []
 
 -- The header of a store that began at epoch 5 says 5. It would say 0 of each store if it left that
 -- out.
 abbrev pub HeaderHasFirst : Type 0
 HeaderHasFirst =
-    (base_check surface : List ℕ)
-    → (header_of (keys base_check surface) (blank_placed Full 5)).first ≡ 5
+    (base_check surface : List ℕ) (format : ℕ)
+    → (header_of (keys base_check surface) format (blank_placed Full 5)).first ≡ 5
 
 -- The header has a check value of each master, of which one is given, and the other is that of the
 -- surface master. With the given one twice the surface master would be left out.
 abbrev pub HeaderHasSurfaceCheck : Type 0
 HeaderHasSurfaceCheck =
-    (base_check surface : List ℕ)
-    → (header_of (keys base_check surface) (blank_placed Full 0)).surface_check ≡ check_value_of surface
+    (base_check surface : List ℕ) (format : ℕ)
+    → (header_of (keys base_check surface) format (blank_placed Full 0)).surface_check
+    ≡ check_value_of surface
 
 -- The holder of both masters opens a store with the check value of the base master, and the surface
 -- master. With that of the surface master no store would open that was begun with the base one's.
@@ -68,7 +71,7 @@ EitherIsThisUpdate =
 -- If it might be the next one, a whole store would be called damaged.
 abbrev pub UnfitIsNotNext : Type 0
 UnfitIsNotNext =
-    (p : PlacedHistory) (body : List ℕ) (gate : ℕ) (spot : Spot)
-    → IsUnfit p body gate spot
-    → (update : Brief) × BeginsWith update body
+    (form : Form) (p : PlacedHistory) (body : List ℕ) (gate : ℕ) (spot : Spot)
+    → IsUnfit form p body gate spot
+    → (update : Brief) × BeginsWith form update body
     × (IsSealedBriefly (with_brief (unplaced p) update) → ⊥)

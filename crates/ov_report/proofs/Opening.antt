@@ -9,7 +9,7 @@ use Rattle.ov_base.specs.declared.mode.Mode.TheVariants.{Full, Delta}
 use Rattle.ov_disk.specs.Disk.{Image}
 use Rattle.ov_disk.specs.declared.area.Area.{Area}
 use Rattle.ov_journal.specs.Book.{Contents, spelled}
-use Rattle.ov_journal.specs.Standing.{IsUnborn, HasMagic, HasNoMode}
+use Rattle.ov_journal.specs.Standing.{HasNoMode}
 use Rattle.ov_journal.specs.declared.header.Header.{Header}
 use Rattle.ov_images.specs.Images.{IsImageOf, KeepsAt, Keys, header_of}
 use Rattle.ov_images.specs.Damage.{HasBadRecords, HasHeader, IsFor, Spot}
@@ -20,15 +20,12 @@ use Rattle.ov_history.specs.Placed.{PlacedHistory}
 use Rattle.ov_history.specs.Sealed.{SealedHistory}
 use Rattle.ov_history.specs.Texts.{BriefHistory}
 use Rattle.ov_store.specs.Beginning.{IsBeginFault}
+use Rattle.ov_store.proofs.Carrying.{never_born}
 use Rattle.ov_store.specs.declared.fault.BeginFault.{BeginFault}
 use Rattle.ov_store.specs.declared.fault.BeginFault.TheVariants.{Disk, NotAStore, Damaged, BaseDiffers, SurfaceDiffers, ModeDiffers, Memory}
 use Rattle.ov_report.specs.Faults.{HasValues}
 
 -- ---- headers
-
-never_born : (book : List ℕ) → IsUnborn book → HasMagic book → ⊥
-never_born book (inl short) has = let long = has.long in omega arith
-never_born book (inr (short, shut)) has = shut has.open_gate
 
 byte_low : (mode : Mode) → mode_byte mode ≤ 1
 byte_low Full = omega arith
@@ -56,8 +53,12 @@ base_once g h same long = cut_once g.base_check h.base_check g.surface_check h.s
 
 -- no store of these keys and mode is refused but for a fault of the disk or of memory
 module _ (k : Keys) (mode : Mode) (g : SealedHistory) (i : Image) (mode_is : g.mode ≡ mode) where
-  same_head : (p : PlacedHistory) → KeepsAt k p g i → (h : Header) → HasHeader h i
-      → spelled (header_of k p) ≡ spelled h
+  -- the header of an image that keeps the history
+  abbrev own : (p : PlacedHistory) → KeepsAt k p g i → Header
+  own p keeps = header_of k keeps.records.format p
+
+  same_head : (p : PlacedHistory) (keeps : KeepsAt k p g i) (h : Header) → HasHeader h i
+      → spelled (own p keeps) ≡ spelled h
   same_head p keeps h has = sym (ap (λ (c : Contents). c.head) keeps.records.book) ∙ has.head
 
   -- the first blocks don't change the mode
@@ -75,7 +76,7 @@ module _ (k : Keys) (mode : Mode) (g : SealedHistory) (i : Image) (mode_is : g.m
   no_mode_never : IsImageOf k g i → HasNoMode i.book → ⊥
   no_mode_never (inl (unborn, blank_is)) none = never_born i.book unborn none.0
   no_mode_never (inr (p, keeps)) none =
-      has_mode i.book (header_of k p) (ap (λ (c : Contents). c.head) keeps.records.book) none
+      has_mode i.book (own p keeps) (ap (λ (c : Contents). c.head) keeps.records.book) none
 
   not_damaged : (area : Area) (place : ℕ) → IsImageOf k g i → IsBeginFault k mode i (Damaged area place) → ⊥
   not_damaged area place opens (inl none) = no_mode_never opens none.2
@@ -86,17 +87,17 @@ module _ (k : Keys) (mode : Mode) (g : SealedHistory) (i : Image) (mode_is : g.m
   not_base stored given long (inl (unborn, blank_is)) (h, has, s, v, other) = never_born i.book unborn has.magic
   not_base stored given long (inr (p, keeps)) (h, has, s, v, other) =
       let lengths : length k.base_check ≡ length h.base_check = ap length (sym v) ∙ sym long ∙ ap length s in
-      other (s ∙ sym (base_once (header_of k p) h (same_head p keeps h has) lengths).0 ∙ sym v)
+      other (s ∙ sym (base_once (own p keeps) h (same_head p keeps h has) lengths).0 ∙ sym v)
 
   not_surface : (stored given : List ℕ) → IsImageOf k g i → IsBeginFault k mode i (SurfaceDiffers stored given) → ⊥
   not_surface stored given (inl (unborn, blank_is)) (h, has, b, s, v, other) = never_born i.book unborn has.magic
   not_surface stored given (inr (p, keeps)) (h, has, b, s, v, other) =
-      other (s ∙ sym (base_once (header_of k p) h (same_head p keeps h has) (ap length (sym b))).1 ∙ sym v)
+      other (s ∙ sym (base_once (own p keeps) h (same_head p keeps h has) (ap length (sym b))).1 ∙ sym v)
 
   not_mode : (stored given : Mode) → IsImageOf k g i → IsBeginFault k mode i (ModeDiffers stored given) → ⊥
   not_mode stored given (inl (unborn, blank_is)) (h, has, b, c, s, v, other) = never_born i.book unborn has.magic
   not_mode stored given (inr (p, keeps)) (h, has, b, c, s, v, other) =
-      other (s ∙ sym (mode_of-spelled (header_of k p) h (same_head p keeps h has)) ∙ mode_at p keeps ∙ sym v)
+      other (s ∙ sym (mode_of-spelled (own p keeps) h (same_head p keeps h has)) ∙ mode_at p keeps ∙ sym v)
 
   pub faulted_so : (fault : BeginFault) → HasValues fault → IsImageOf k g i → IsBeginFault k mode i fault → (fault ≡ Disk) ⊎ (fault ≡ Memory)
   faulted_so Disk values opens why = inl refl

@@ -1,6 +1,7 @@
 -- A store that is opened again.
-use Rattle.std.proofs.Common.{◌≡◌, inr, ⊎_elim, ℕ, ◌<◌, ◌^◌, List, length, false, Option, Some}
-use Rattle.std.proofs.Common.{refl, sym, ◌∙◌, ap, subst}
+use Rattle.std.proofs.Common.{◌≡◌, inr, ⊎_elim, ℕ, ◌+◌, ◌<◌, ◌^◌, List, take, drop, get_or}
+use Rattle.std.proofs.Common.{Bool, false, Option, Some, sym, ◌∙◌, ap, subst, arith, lit<}
+use Rattle.std.proofs.lemmas.List.{get_or-drop, get_or-take}
 use Rattle.ov_base.specs.declared.mode.Mode.{Mode}
 use Rattle.ov_disk.specs.Disk.{Image, Only, Told}
 use Rattle.ov_disk.specs.Moments.{IsUntouched}
@@ -9,9 +10,10 @@ use Rattle.ov_history.specs.Placed.{PlacedHistory}
 use Rattle.ov_history.specs.Sealed.{SealedHistory}
 use Rattle.ov_history.specs.Texts.{BriefHistory}
 use Rattle.ov_history.proofs.Showing.{history_is_shown}
-use Rattle.ov_journal.specs.Book.{contents_of, spelled}
+use Rattle.ov_journal.specs.Book.{IsFormat, place_if, spelled}
 use Rattle.ov_journal.specs.Finding.{IsStore}
 use Rattle.ov_journal.specs.Log.{Log}
+use Rattle.ov_journal.specs.Standing.{HasMagic}
 use Rattle.ov_journal.specs.declared.header.Header.{Header}
 use Rattle.ov_images.specs.Damage.{IsFor}
 use Rattle.ov_images.specs.Images.{HasRecords, Keys, Keeps, header_of}
@@ -22,6 +24,18 @@ use Rattle.ov_store.specs.Opened.{Serves, open_with}
 use Rattle.ov_store.specs.Replaying.{IsReplay}
 use Rattle.ov_store.proofs.Histories.{IsOfStore, choose, safe_of, serves_of}
 
+-- the format of a store's header is the one that its magic says
+format_known : (book : List ℕ) (h : Header) → HasMagic book → take 78 book ≡ spelled h
+    → IsFormat h.format
+format_known book h has head =
+    let digit : get_or book 8 0 ≡ 48 + h.format =
+    sym (get_or-take 78 book 8 0 (lit< tt)) ∙ ap (λ (l : List ℕ). get_or l 8 0) head in
+    let said : get_or book 8 0 ≡ 48 + has.format =
+    sym (get_or-drop 1 book 7 0) ∙ sym (get_or-take 8 (drop 1 book) 7 0 (lit< tt))
+    ∙ ap (λ (l : List ℕ). get_or l 7 0) has.magic_bytes in
+    let same : has.format ≡ h.format = omega (arith, digit, said) in
+    subst IsFormat same has.known
+
 module _ {D : Type 0} (tells : DiskTells D) (d0 d1 : D) (quiet : IsUntouched tells d0 d1)
     (k : Keys) (mode : Mode) (h : Header) (log : Log) (bad : Option ℕ) (store : PlacedStore)
     (keys_are : IsFor k mode h) (whole : log.bad ≡ false) (low : h.first < 2 ^ 32)
@@ -31,8 +45,9 @@ module _ {D : Type 0} (tells : DiskTells D) (d0 d1 : D) (quiet : IsUntouched tel
     abbrev p : PlacedHistory
     p = replay.history
 
-    same_header : header_of k p ≡ h
+    same_header : header_of k h.format p ≡ h
     same_header = λ j. record {
+      format = h.format;
       mode = replay.mode_is j;
       first = replay.first_is j;
       base_check = sym keys_are.base j;
@@ -44,14 +59,18 @@ module _ {D : Type 0} (tells : DiskTells D) (d0 d1 : D) (quiet : IsUntouched tel
         let store_is = (is i at).0 in
         let head = store_is.head ∙ ap spelled (sym same_header) in
         let bodies = sym (replay.bodies_are i at) in
-        let ends = sym store_is.records.bad ∙ whole in
+        let step = sym store_is.records.step in
+        let ends = sym store_is.records.bad ∙ ap (λ (b : Bool). place_if b log.end) whole in
         record {
+          format = h.format;
+          known = format_known i.book h store_is.magic store_is.head;
           first = subst (λ (n : ℕ). n < 2 ^ 32) (sym replay.first_is) low;
+          step = log.step;
           form = replay.form;
           laid_out = replay.laid_out i at;
           book = λ j. record {
             head = head j;
-            records = record { bodies = bodies j; bad = ends j };
+            records = record { bodies = bodies j; step = step j; bad = ends j };
           };
         }
 
@@ -93,4 +112,5 @@ module _ {D : Type 0} (tells : DiskTells D) (d0 d1 : D) (quiet : IsUntouched tel
           ∙ mode_chosen;
       found = finds;
       told = λ i read. (i, quiet.reads_same ∙ read);
+      same = λ i read born. quiet.reads_same ∙ read;
     }

@@ -1,6 +1,6 @@
 -- A birth of a store.
 use Rattle.std.proofs.Common.{◌≡◌, inl, inr, ⊎_elim, ℕ, ◌<◌, ◌^◌, List, [], length, false}
-use Rattle.std.proofs.Common.{Option, Some, refl, sym, ◌∙◌, ap, subst, arith}
+use Rattle.std.proofs.Common.{Option, Some, None, refl, sym, ◌∙◌, ap, subst, arith}
 use Rattle.ov_base.specs.declared.mode.Mode.{Mode}
 use Rattle.ov_disk.specs.Disk.{Image, Only, Told, OnlyBook}
 use Rattle.ov_disk.specs.Moments.{LeavesOnly}
@@ -31,10 +31,13 @@ replayed_none master mode first store is none =
 
 -- a new store has no records
 pub has_none : (k : Keys) (mode : Mode) (first : ℕ) (x : Image) → first < 2 ^ 32
-    → contents_of x.book ≡ born (header_of k (blank_placed mode first)) []
+    → contents_of x.book ≡ born (header_of k 2 (blank_placed mode first)) None []
     → HasRecords k (blank_placed mode first) x
 has_none k mode first x low is = record {
+  format = 2;
+  known = inr refl;
   first = low;
+  step = None;
   form = tt;
   laid_out = record { replayed = replays_begin k.surface mode first; free = tt };
   book = is;
@@ -42,7 +45,7 @@ has_none k mode first x low is = record {
 
 -- it keeps the history without updates
 pub keeps_none : (k : Keys) (mode : Mode) (first : ℕ) (x : Image) → first < 2 ^ 32
-    → contents_of x.book ≡ born (header_of k (blank_placed mode first)) []
+    → contents_of x.book ≡ born (header_of k 2 (blank_placed mode first)) None []
     → KeepsAt k (blank_placed mode first) (blank mode first) x
 keeps_none k mode first x low is =
     record { briefs = refl; records = has_none k mode first x low is; files = refl }
@@ -51,10 +54,10 @@ module _ {D : Type 0} (tells : DiskTells D)
     (k : Keys) (mode : Mode) (first : ℕ) (low : first < 2 ^ 32) where
   -- a crash leaves no store, or a new one
   pub leaves_none : (d0 d1 : D) → first ≡ 0
-      → LeavesOnly tells d0 d1 (IsUnbornOrEmpty (header_of k (blank_placed mode first)))
+      → LeavesOnly tells d0 d1 (IsUnbornOrEmpty (header_of k 2 (blank_placed mode first)))
       → LeavesOnly tells d0 d1 (IsImageOf k (blank mode 0))
   leaves_none d0 d1 none leaves =
-      weaker tells d0 d1 (IsUnbornOrEmpty (header_of k (blank_placed mode first)))
+      weaker tells d0 d1 (IsUnbornOrEmpty (header_of k 2 (blank_placed mode first)))
       (IsImageOf k (blank mode 0)) leaves
       (λ x. ⊎_elim (λ un. inl (un, refl))
       (λ is. inr (subst (λ (n : ℕ). Keeps k (blank mode n) x) none
@@ -72,10 +75,10 @@ module _ {D : Type 0} (tells : DiskTells D)
       (is : store.catalogue ≡ empty_catalogue mode first) (none : store.placed ≡ [])
       (told : Told (tells.reads d1) (λ _. (i : Image) × (tells.reads d0 ≡ Some i)))
       (kept : Told (tells.reads d0) (λ i.
-      IsKept tells d1 (born (header_of k (blank_placed mode first)) []) i.blobs)) where
+      IsKept tells d1 (born (header_of k 2 (blank_placed mode first)) None []) i.blobs)) where
     -- what is read now was made last
     kept_now : (i : Image) → tells.reads d1 ≡ Some i
-        → (contents_of i.book ≡ born (header_of k (blank_placed mode first)) [])
+        → (contents_of i.book ≡ born (header_of k 2 (blank_placed mode first)) None [])
         × Only i (tells.may_leave d1)
     kept_now i read =
         let before = told i read in

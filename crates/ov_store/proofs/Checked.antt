@@ -6,6 +6,7 @@ use Rattle.std.proofs.lemmas.List.{append-nil, take_at}
 use Rattle.std.specs.Prelude.{IfOk}
 use Rattle.ov_disk.specs.Disk.{Image, Told}
 use Rattle.ov_disk.specs.Tells.{DiskTells}
+use Rattle.ov_record.specs.Forms.{Form}
 use Rattle.ov_record.specs.Updates.{SealedUpdate}
 use Rattle.ov_history.specs.Briefs.{Brief, brief}
 use Rattle.ov_history.specs.Masters.{Masters}
@@ -16,9 +17,10 @@ use Rattle.ov_history.proofs.Briefly.{brief_all-push}
 use Rattle.ov_journal.specs.Book.{Contents, contents_of, spelled}
 use Rattle.ov_journal.specs.Log.{Log}
 use Rattle.ov_images.specs.Images.{HasRecords, Keeps, Keys, header_of}
-use Rattle.ov_images.specs.Records.{AllHaveForm, bodies_of, record_spelling}
+use Rattle.ov_images.specs.Records.{AllHaveForm, AllHaveFormFrom, bodies_from, bodies_of}
+use Rattle.ov_images.specs.Records.{form_behind, record_spelling}
 use Rattle.ov_images.proofs.Headers.{first_of-spelled, mode_of-spelled}
-use Rattle.ov_images.proofs.Records.{records_apart}
+use Rattle.ov_images.proofs.Records.{records_apart, room_behind}
 use Rattle.ov_placed.specs.Contents.{PlacedStore}
 use Rattle.ov_store.specs.Opened.{BeginsWith, IsSafe, Serves}
 use Rattle.ov_store.specs.Owners.{Checks, IsHistoryOf}
@@ -60,15 +62,18 @@ has_more k g u i (q, keeps) = record {
 }
 
 -- of the updates whose bodies begin with these, the first are these
-fronts : (us ps : List PlacedUpdate) (rest : List (List ℕ)) → AllHaveForm us → AllHaveForm ps
-    → bodies_of us ≡ bodies_of ps ++ rest → (more : List PlacedUpdate) × (us ≡ ps ++ more)
-fronts us [] rest fu fp same = (us, refl)
-fronts [] (p ∷ ps) rest fu fp same = absurd (cc same)
-fronts (u ∷ us) (p ∷ ps) rest fu fp same =
-    let one : record_spelling u ≡ record_spelling p = cc same in
-    let others : bodies_of us ≡ bodies_of ps ++ rest = cc same in
-    let first = records_apart u p fu.0 fp.0 one in
-    let behind = fronts us ps rest fu.1 fp.1 others in
+fronts_from : (step : Option ℕ) (count : ℕ) (us ps : List PlacedUpdate) (rest : List (List ℕ))
+    → AllHaveFormFrom step count us → AllHaveFormFrom step count ps
+    → bodies_from step count us ≡ bodies_from step count ps ++ rest
+    → (more : List PlacedUpdate) × (us ≡ ps ++ more)
+fronts_from step count us [] rest fu fp same = (us, refl)
+fronts_from step count [] (p ∷ ps) rest fu fp same = absurd (cc same)
+fronts_from step count (u ∷ us) (p ∷ ps) rest fu fp same =
+    let form : Form = form_behind step count in
+    let one : record_spelling form u ≡ record_spelling form p = cc same in
+    let others : bodies_from step (count + 1) us ≡ bodies_from step (count + 1) ps ++ rest = cc same in
+    let first = records_apart form (room_behind step count) u p fu.0 fp.0 one in
+    let behind = fronts_from step (count + 1) us ps rest fu.1 fp.1 others in
     (behind.0, λ j. first j ∷ behind.1 j)
 
 unplaced-append : (ps more : List PlacedUpdate)
@@ -103,19 +108,22 @@ module _ {D : Type 0} (tells : DiskTells D) (d : D) (k : Keys) (store : PlacedSt
     abbrev q : HasMore k g i
     q = read_more g f refl serves i read
 
-    begins : BeginsWith k p i
+    begins : BeginsWith k log.step p i
     begins = safe.begins i read
 
-    same_head : spelled (header_of k q.placed) ≡ spelled (header_of k p)
+    same_step : q.has.step ≡ log.step
+    same_step = sym (ap (λ (c : Contents). c.records.step) q.has.book) ∙ begins.step_is
+
+    same_head : spelled (header_of k q.has.format q.placed) ≡ spelled (header_of k begins.format p)
     same_head = sym (ap (λ (c : Contents). c.head) q.has.book) ∙ begins.head
 
     mode_same : g.mode ≡ p.mode
-    mode_same = q.mode_is ∙ mode_of-spelled (header_of k q.placed) (header_of k p) same_head
+    mode_same = q.mode_is ∙ mode_of-spelled (header_of k q.has.format q.placed) (header_of k begins.format p) same_head
 
     first_same : g.first ≡ p.first
     first_same =
         q.first_is
-        ∙ first_of-spelled (header_of k q.placed) (header_of k p) q.has.first begins.first same_head
+        ∙ first_of-spelled (header_of k q.has.format q.placed) (header_of k begins.format p) q.has.first begins.first same_head
 
     as_many : length g.updates ≡ length p.updates
     as_many =
@@ -132,8 +140,11 @@ module _ {D : Type 0} (tells : DiskTells D) (d : D) (k : Keys) (store : PlacedSt
 
     updates_same : brief_all g.updates ≡ unplaced_all p.updates
     updates_same =
-        let front = fronts q.placed.updates p.updates begins.rest q.has.form begins.form
-        (sym (ap (λ (c : Contents). c.records.bodies) q.has.book) ∙ begins.split) in
+        let form = subst (λ (s : Option ℕ). AllHaveForm s q.placed.updates) same_step q.has.form in
+        let bodies = ap (λ (s : Option ℕ). bodies_of s q.placed.updates) (sym same_step)
+        ∙ sym (ap (λ (c : Contents). c.records.bodies) q.has.book) ∙ begins.split in
+        let front = fronts_from log.step 0 q.placed.updates p.updates begins.rest form begins.form
+        bodies in
         same_front (length p.updates) (brief_all g.updates) (unplaced_all p.updates) q.extra
         (unplaced_all front.0) (length-briefs g.updates ∙ as_many) (length-unplaced p.updates)
         (sym q.briefs ∙ ap (λ (us : List PlacedUpdate). unplaced_all us) front.1
@@ -151,6 +162,7 @@ module _ {D : Type 0} (tells : DiskTells D) (d : D) (k : Keys) (store : PlacedSt
     history_read = record {
       placed = p;
       briefs = briefs_same;
+      step = begins.step_is;
       form = begins.form;
       replayed = safe.replayed;
       many = safe.many;
@@ -162,9 +174,10 @@ module _ {D : Type 0} (tells : DiskTells D) (d : D) (k : Keys) (store : PlacedSt
 
   pub checks_all : {E : Type 0} (owner : Masters) (r : Result (Option ℕ) E)
       → IfOk r (λ found. Told (tells.reads d) (λ i. (g : SealedHistory)
-      → IsHistoryOf k.surface log store g i → Checks owner g found))
+      → IsHistoryOf k.surface log store g i → Checks owner log.step g found))
       → IfOk r (λ found. (g : SealedHistory) → Serves tells g (store_of tells d k store f)
-      → Told (tells.reads d) (λ _. Checks owner g found))
-  checks_all owner (Ok found) checked =
-      λ g serves i read. checked i read g (history_read g serves i read)
+      → Told (tells.reads d) (λ i. Checks owner (contents_of i.book).records.step g found))
+  checks_all owner (Ok found) checked = λ g serves i read.
+      subst (λ (s : Option ℕ). Checks owner s g found) (sym (safe.begins i read).step_is)
+      (checked i read g (history_read g serves i read))
   checks_all owner (Err fault) none = none

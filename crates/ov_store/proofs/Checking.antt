@@ -6,7 +6,7 @@ use Rattle.std.proofs.lemmas.List.{get_or_append_left, take_all, take_at}
 use Rattle.std.specs.Prelude.{IfSome}
 use Rattle.ov_base.specs.declared.mode.Mode.{Mode}
 use Rattle.ov_disk.specs.Disk.{Image}
-use Rattle.ov_record.specs.Forms.{second_form}
+use Rattle.ov_record.specs.Forms.{Form}
 use Rattle.ov_record.specs.Updates.{SealedUpdate}
 use Rattle.ov_history.specs.History.{History, start_of, with_update}
 use Rattle.ov_history.specs.Layers.{Layers, layers_of}
@@ -24,68 +24,79 @@ use Rattle.ov_history.proofs.Pushing.{with_updates, with_updates-all}
 use Rattle.ov_history.proofs.Replaying.{goes_taken}
 use Rattle.ov_history.proofs.Showing.{history_is_shown}
 use Rattle.ov_journal.specs.Book.{contents_of}
-use Rattle.ov_journal.specs.Log.{Log, end_from, gates_from, IsLogOfFirst}
+use Rattle.ov_journal.specs.Log.{Log, IsLogOfFirst}
+use Rattle.ov_journal.specs.Steps.{gate_behind, gates_of}
+use Rattle.ov_journal.proofs.Steps.{gates_at, length-gates_of}
 use Rattle.ov_state.specs.Plans.{IsTaken}
 use Rattle.ov_images.specs.Damage.{BeginsWith}
-use Rattle.ov_images.specs.Records.{AllHaveForm, HasRecordForm, bodies_of, record_spelling}
-use Rattle.ov_images.proofs.Records.{firsts_spelling}
+use Rattle.ov_images.specs.Records.{AllHaveFormFrom, HasRecordForm, bodies_from, bodies_of}
+use Rattle.ov_images.specs.Records.{form_behind, record_spelling}
+use Rattle.ov_images.proofs.Records.{firsts_spelling, length-bodies_from}
 use Rattle.ov_placed.specs.Contents.{PlacedStore}
 use Rattle.ov_store.specs.Owners.{FollowsUpdate, HasFalseUpdate, HasTextIn, IsHistoryOf, IsOwners}
 use Rattle.ov_store.specs.Owners.{with_first}
-use Rattle.ov_store.proofs.Histories.{epoch_shown, length-bodies, same_length, stands_by}
-use Rattle.ov_store.proofs.Replays.{IsNext, length-gates}
-use Rattle.ov_store.proofs.Stopping.{gate-end}
+use Rattle.ov_store.proofs.Histories.{epoch_shown, same_length, stands_by}
+use Rattle.ov_store.proofs.Replays.{IsNext}
 use Rattle.ov_store.proofs.NewTexts.{has_text}
 
 -- ---- update number `i` and its record
 
--- Update number `i` of these, and the record of it, which has its first blocks.
-pub record Nth (us : List SealedUpdate) (ps : List PlacedUpdate) (i : ℕ) : Type 0 where
+-- Update number `i` of these, and the record of it, which has its first blocks. The records are behind
+-- so many others, and this one behind as many as `behind` says.
+pub record Nth (step : Option ℕ) (count behind : ℕ) (us : List SealedUpdate) (ps : List PlacedUpdate)
+    (i : ℕ) : Type 0 where
   pub update : SealedUpdate
   pub rest : List SealedUpdate
   pub split : us ≡ take i us ++ update ∷ rest
   pub more : take (i + 1) us ≡ take i us ++ update ∷ []
   pub placed : PlacedUpdate
   pub same : brief update ≡ placed.update
-  pub body : get_or (bodies_of ps) i [] ≡ record_spelling placed
-  pub form : HasRecordForm placed
+  pub body : get_or (bodies_from step count ps) i []
+      ≡ record_spelling (form_behind step behind) placed
+  pub form : HasRecordForm (form_behind step behind) placed
 
-nth : (us : List SealedUpdate) (ps : List PlacedUpdate) (i : ℕ) → AllHaveForm ps
-    → brief_all us ≡ unplaced_all ps → i < length us → Nth us ps i
-nth [] ps i all same lt = absurd (omega (arith, lt))
-nth (u ∷ us) [] i all same lt = absurd (cc same)
-nth (u ∷ us) (p ∷ ps) zero all same lt =
-    let here : brief u ≡ p.update = cc same in
-    record {
-      update = u;
-      rest = us;
-      split = refl;
-      more = refl;
-      placed = p;
-      same = here;
-      body = refl;
-      form = all.0;
-    }
-nth (u ∷ us) (p ∷ ps) (suc i) all same lt =
-    let behind : brief_all us ≡ unplaced_all ps = cc same in
-    let n = nth us ps i all.1 behind (omega (arith, lt)) in
-    let one : suc i + 1 ≡ suc (i + 1) = omega arith in
-    record {
-      update = n.update;
-      rest = n.rest;
-      split = ap (λ (l : List SealedUpdate). u ∷ l) n.split;
-      more = ap (λ (m : ℕ). take m (u ∷ us)) one ∙ ap (λ (l : List SealedUpdate). u ∷ l) n.more;
-      placed = n.placed;
-      same = n.same;
-      body = n.body;
-      form = n.form;
-    }
+module _ (step : Option ℕ) where
+  nth : (count behind : ℕ) (us : List SealedUpdate) (ps : List PlacedUpdate) (i : ℕ)
+      → count + i ≡ behind → AllHaveFormFrom step count ps → brief_all us ≡ unplaced_all ps
+      → i < length us → Nth step count behind us ps i
+  nth count behind [] ps i is all same lt = absurd (omega (arith, lt))
+  nth count behind (u ∷ us) [] i is all same lt = absurd (cc same)
+  nth count behind (u ∷ us) (p ∷ ps) zero is all same lt =
+      let update_is : brief u ≡ p.update = cc same in
+      let here : count ≡ behind = omega (arith, is) in
+      record {
+        update = u;
+        rest = us;
+        split = refl;
+        more = refl;
+        placed = p;
+        same = update_is;
+        body = ap (λ (n : ℕ). record_spelling (form_behind step n) p) here;
+        form = subst (λ (n : ℕ). HasRecordForm (form_behind step n) p) here all.0;
+      }
+  nth count behind (u ∷ us) (p ∷ ps) (suc i) is all same lt =
+      let rest_is : brief_all us ≡ unplaced_all ps = cc same in
+      let n = nth (count + 1) behind us ps i (omega (arith, is)) all.1 rest_is (omega (arith, lt)) in
+      let one : suc i + 1 ≡ suc (i + 1) = omega arith in
+      record {
+        update = n.update;
+        rest = n.rest;
+        split = ap (λ (l : List SealedUpdate). u ∷ l) n.split;
+        more = ap (λ (m : ℕ). take m (u ∷ us)) one
+            ∙ ap (λ (l : List SealedUpdate). u ∷ l) n.more;
+        placed = n.placed;
+        same = n.same;
+        body = n.body;
+        form = n.form;
+      }
 
-take-bodies : (ps : List PlacedUpdate) (i : ℕ) → take i (bodies_of ps) ≡ bodies_of (take i ps)
-take-bodies ps zero = refl
-take-bodies [] (suc i) = refl
-take-bodies (p ∷ ps) (suc i) =
-    ap (λ (l : List (List ℕ)). record_spelling p ∷ l) (take-bodies ps i)
+  take-bodies : (count : ℕ) (ps : List PlacedUpdate) (i : ℕ)
+      → take i (bodies_from step count ps) ≡ bodies_from step count (take i ps)
+  take-bodies count ps zero = refl
+  take-bodies count [] (suc i) = refl
+  take-bodies count (p ∷ ps) (suc i) =
+      ap (λ (l : List (List ℕ)). record_spelling (form_behind step count) p ∷ l)
+      (take-bodies (count + 1) ps i)
 
 take-briefs : (us : List SealedUpdate) (ps : List PlacedUpdate) (i : ℕ)
     → brief_all us ≡ unplaced_all ps → brief_all (take i us) ≡ unplaced_all (take i ps)
@@ -167,36 +178,44 @@ module _ (k : Masters) (log : Log) (store : PlacedStore) (g : SealedHistory) (d 
         owners = tt;
       }
 
+  abbrev bodies : List (List ℕ)
+  bodies = bodies_of log.step ps
+
+  length-bodies : length bodies ≡ length ps
+  length-bodies = length-bodies_from log.step 0 ps
+
   -- the journal of the first records has those of the history
-  first_bodies : (is : IsLogOfFirst log (contents_of d.book).records)
-      → is.front ≡ bodies_of ps
+  first_bodies : (is : IsLogOfFirst log d.book) → is.front ≡ bodies
   first_bodies is =
       let n = length log.offsets in
       let long : length is.front ≡ n =
-      sym (length-gates 78 is.front) ∙ ap length (sym is.offsets) in
-      let same : is.front ++ is.rest ≡ bodies_of ps ++ history.rest =
-      sym is.split ∙ history.split in
+      sym (length-gates_of log.step is.front) ∙ ap length (sym is.offsets) in
+      let same : is.front ++ is.rest ≡ bodies ++ history.rest = sym is.split ∙ history.split in
       sym (take_at is.front is.rest n long) ∙ ap (λ (l : List (List ℕ)). take n l) same
-      ∙ take_at (bodies_of ps) history.rest n (length-bodies ps ∙ history.many)
+      ∙ take_at bodies history.rest n (length-bodies ∙ history.many)
 
   module _ (i : ℕ) (low : i < length g.updates) (c : Catalogue) (so_far : FollowedTo k g i c)
       (body : List ℕ) (next : IsNext i body d) where
-    low_body : i < length (bodies_of ps)
-    low_body = omega (arith, low, length-bodies ps, as_many, history.many)
+    low_body : i < length bodies
+    low_body = omega (arith, low, length-bodies, as_many, history.many)
 
-    bodies_are : get_or (contents_of d.book).records.bodies i [] ≡ get_or (bodies_of ps) i []
+    bodies_are : get_or (contents_of d.book).records.bodies i [] ≡ get_or bodies i []
     bodies_are = ap (λ (l : List (List ℕ)). get_or l i []) history.split
-        ∙ get_or_append_left (bodies_of ps) history.rest [] i low_body
+        ∙ get_or_append_left bodies history.rest [] i low_body
 
-    abbrev n : Nth g.updates ps i
-    n = nth g.updates ps i history.form briefs_same low
+    abbrev n : Nth log.step 0 i g.updates ps i
+    n = nth log.step 0 i g.updates ps i (omega arith) history.form briefs_same low
+
+    -- the form in which the record is
+    abbrev form : Form
+    form = form_behind log.step i
 
     abbrev front : List SealedUpdate
     front = take i g.updates
 
-    begins : BeginsWith (brief n.update) body
-    begins = subst (λ (u : Brief). BeginsWith u body) (sym n.same) (record {
-      form = n.form.0;
+    begins : BeginsWith form (brief n.update) body
+    begins = subst (λ (u : Brief). BeginsWith form u body) (sym n.same) (record {
+      has_form = n.form.0;
       rest = firsts_spelling n.placed.firsts;
       bytes = next.1 ∙ bodies_are ∙ n.body;
     })
@@ -220,7 +239,7 @@ module _ (k : Masters) (log : Log) (store : PlacedStore) (g : SealedHistory) (d 
     -- what was found of whatever update the body may be is so of this one
     abbrev Follows : Catalogue → Bool → Type 0
     Follows later found =
-        (u : SealedUpdate) → BeginsWith (brief u) body
+        (u : SealedUpdate) → BeginsWith form (brief u) body
         → HasTextIn k.surface store (length c.files) d.blobs u → IsTaken c (brief u)
         → FollowsUpdate k c u later found
 
@@ -245,8 +264,8 @@ module _ (k : Masters) (log : Log) (store : PlacedStore) (g : SealedHistory) (d 
     recorded = record history.placed { updates = take i ps }
 
     pub found_false : (later : Catalogue) (place : ℕ) → Follows later false
-        → IsLogOfFirst log (contents_of d.book).records → place ≡ get_or log.offsets i 0
-        → HasFalseUpdate k g place
+        → IsLogOfFirst log d.book → place ≡ get_or log.offsets i 0
+        → HasFalseUpdate k log.step g place
     found_false later place follows is at_gate =
         let wrong = follows n.update begins text taken in
         let updates = take-briefs g.updates ps i briefs_same in
@@ -269,9 +288,9 @@ module _ (k : Masters) (log : Log) (store : PlacedStore) (g : SealedHistory) (d 
                 history.replayed.firsts;
           };
           gate = at_gate ∙ ap (λ (l : List ℕ). get_or l i 0) is.offsets
-              ∙ ap (λ (l : List (List ℕ)). get_or (gates_from 78 l) i 0) (first_bodies is)
-              ∙ gate-end 78 (bodies_of ps) i low_body
-              ∙ ap (end_from 78) (take-bodies ps i);
+              ∙ ap (λ (l : List (List ℕ)). get_or (gates_of log.step l) i 0) (first_bodies is)
+              ∙ gates_at log.step bodies i low_body
+              ∙ ap (gate_behind log.step) (take-bodies log.step 0 ps i);
         }
 
   -- after the last record

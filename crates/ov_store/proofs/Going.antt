@@ -26,11 +26,13 @@ use Rattle.ov_history.proofs.Briefly.{brief_of-push}
 use Rattle.ov_history.proofs.GoingOn.{histories_go_on, stored-push}
 use Rattle.ov_history.proofs.Placed.{files_are_placed, replays_go_on}
 use Rattle.ov_journal.specs.Book.{Contents, contents_of}
-use Rattle.ov_journal.specs.Log.{HasSameRecords, Log, Stands, appended, end_from as end_of, gates_from}
+use Rattle.ov_journal.specs.Log.{HasSameRecords, IsLogOf, IsLogOfFirst, Log, Stands, appended}
+use Rattle.ov_journal.specs.Log.{next_gate}
+use Rattle.ov_journal.proofs.Logs.{first_same, still_first}
 use Rattle.ov_images.specs.Extents.{IsLaidOut, blocks_in, catalogue_at, extents_in_use, stored_in}
 use Rattle.ov_images.specs.Images.{HasRecords, Keeps, KeepsAt, KeepsEither, Keys}
 use Rattle.ov_images.specs.Laws.{placed_as}
-use Rattle.ov_images.specs.Records.{AllHaveForm, bodies_of, record_spelling}
+use Rattle.ov_images.specs.Records.{AllHaveFormFrom, bodies_of, form_behind, record_spelling}
 use Rattle.ov_images.proofs.Extents.{laid_out_front, unplaced-push}
 use Rattle.ov_images.proofs.Keeping.{places_once}
 use Rattle.ov_images.proofs.Records.{bodies-push}
@@ -41,17 +43,17 @@ use Rattle.ov_placed.specs.declared.preparing.Prepared.{Prepared}
 use Rattle.ov_placed.proofs.Counting.{same_members}
 use Rattle.ov_updating.proofs.Standing.{ends_whole}
 use Rattle.ov_updating.proofs.Using.{of_file}
-use Rattle.ov_updating.specs.Updating.{KeepsAtOrMore}
+use Rattle.ov_updating.specs.Updating.{HasSameStep, KeepsAtOrMore}
 use Rattle.ov_store.specs.Opened.{BeginsWith, IsSafe, Opened, Serves, stored_by}
 use Rattle.ov_store.specs.Updating.{LeavesEither, ServesMore}
 use Rattle.ov_store.proofs.Histories.{begins_with, safe_of, stored_same}
 use Rattle.ov_store.proofs.Looking.{store_of}
 use Rattle.ov_store.proofs.Said.{cut_out, said, told_by}
 
-form_front : (us : List PlacedUpdate) (u : PlacedUpdate) → AllHaveForm (us ++ u ∷ [])
-    → AllHaveForm us
-form_front [] u all = tt
-form_front (v ∷ us) u all = (all.0, form_front us u all.1)
+form_front : (step : Option ℕ) (count : ℕ) (us : List PlacedUpdate) (u : PlacedUpdate)
+    → AllHaveFormFrom step count (us ++ u ∷ []) → AllHaveFormFrom step count us
+form_front step count [] u all = tt
+form_front step count (v ∷ us) u all = (all.0, form_front step (count + 1) us u all.1)
 
 -- ---- what is held lies in Blobs
 
@@ -242,7 +244,7 @@ module _ {D : Type 0} (tells : DiskTells D) (k : Keys) (d0 d1 : D) (store : Plac
         (λ i read. (last safe.some_history.0 safe.some_history.2 i read).records) later
         (same.bad ∙ safe.whole)
         (length-append p.updates (v ∷ []) ∙ ap (λ (n : ℕ). n + 1) safe.many
-        ∙ sym (ap length same.offsets ∙ length-append log.offsets (log.end ∷ [])))
+        ∙ sym (ap length same.offsets ∙ length-append log.offsets (next_gate log ∷ [])))
         (λ i read. (stands i read).0)
 
     -- the stored bytes are what the update makes of them, where they are said
@@ -276,6 +278,7 @@ module _ {D : Type 0} (tells : DiskTells D) (k : Keys) (d0 d1 : D) (store : Plac
   left : (x : Image) → tells.may_leave d1 x → (i : Image) → tells.reads d0 ≡ Some i
       → (g : SealedHistory) → Stands0 g
       → KeepsAtOrMore k p g u x × (stored_in k.surface p x.blobs ≡ stored_in k.surface p i.blobs)
+      × HasSameStep i x
   left x may_be i read g serves =
       let run = leaves.leaves i read in
       run.each x (tells.counts_now d1 (tells.moment d0) x run.later may_be) k p g u refl
@@ -296,19 +299,54 @@ module _ {D : Type 0} (tells : DiskTells D) (k : Keys) (d0 d1 : D) (store : Plac
   stored_failed (Some i) (Some j) one two = λ n. Some (bytes_same i j one two n)
 
   -- the records that there were come first
-  begins_still : (x : Image) → (g : SealedHistory) → KeepsAtOrMore k p g u x → BeginsWith k p x
-  begins_still x g (inl same) = begins_with k p x same.records
-  begins_still x g (inr more) =
+  begins_still : (x : Image) (g : SealedHistory) → (contents_of x.book).records.step ≡ log.step
+      → KeepsAtOrMore k p g u x → BeginsWith k log.step p x
+  begins_still x g is (inl same) = begins_with k log.step p x same.records is
+  begins_still x g is (inr more) =
       let has = more.1.records in
       let w = placed_as u more.0 in
-      record {
+      let here = ap (λ (c : Contents). c.records.step) has.book in
+      subst (λ (s : Option ℕ). BeginsWith k s p x) (sym here ∙ is) (record {
+        format = has.format;
+        known = has.known;
         first = has.first;
-        form = form_front p.updates w has.form;
+        form = form_front has.step 0 p.updates w has.form;
         laid_out = laid_out_front k.surface (blocks_in x.blobs) p p.updates (w ∷ []) has.laid_out;
         head = ap (λ (c : Contents). c.head) has.book;
-        rest = record_spelling w ∷ [];
-        split = ap (λ (c : Contents). c.records.bodies) has.book ∙ bodies-push p.updates w;
-      }
+        step_is = here;
+        rest = record_spelling (form_behind has.step (length p.updates)) w ∷ [];
+        split = ap (λ (c : Contents). c.records.bodies) has.book
+            ∙ bodies-push has.step p.updates w;
+      })
+
+  -- what is read now begins with the records that were read
+  module _ (i j : Image) (before : tells.reads d0 ≡ Some i) (after : tells.reads d1 ≡ Some j) where
+    was : IsLogOf log i.book
+    was = (safe.stands refl i before).0
+
+    abbrev left_now : KeepsAtOrMore k p safe.some_history.0 u j
+        × (stored_in k.surface p j.blobs ≡ stored_in k.surface p i.blobs) × HasSameStep i j
+    left_now = left j (tells.reads_one d1 j after) i before safe.some_history.0 safe.some_history.2
+
+    step_now : (contents_of j.book).records.step ≡ log.step
+    step_now = left_now.2 ∙ sym was.step
+
+    begins_now : BeginsWith k log.step p j
+    begins_now = begins_still j safe.some_history.0 step_now left_now.0
+
+    bodies_before : (contents_of i.book).records.bodies ≡ bodies_of log.step p.updates
+    bodies_before =
+        let has = safe.kept refl i before in
+        let here = ap (λ (c : Contents). c.records.step) has.book in
+        ap (λ (c : Contents). c.records.bodies) has.book
+        ∙ ap (λ (s : Option ℕ). bodies_of s p.updates) (sym here ∙ sym was.step)
+
+    first_now : (later : Log) → HasSameRecords log later → IsLogOfFirst later j.book
+    first_now later same =
+        let split = begins_now.split
+        ∙ ap (λ (l : List (List ℕ)). l ++ begins_now.rest) (sym bodies_before) in
+        first_same log later j.book same
+        (still_first log i.book j.book begins_now.rest was split left_now.2)
 
   pub safe_failed : (later : Log) → HasSameRecords log later
       → IsSafe tells later store (store_of tells d1 k store true)
@@ -323,22 +361,11 @@ module _ {D : Type 0} (tells : DiskTells D) (k : Keys) (d0 d1 : D) (store : Plac
         replayed = safe.replayed;
         log_is = λ i read.
             let before = told_before (tells.reads d0) (tells.reads d1) leaves.untold i read in
-            let now = begins_still i g
-            (left i (tells.reads_one d1 i read) before.0 before.1 g serves).0 in
-            let was = safe.stands refl before.0 before.1 in
-            let bodies = ap (λ (c : Contents). c.records.bodies)
-            (safe.kept refl before.0 before.1).book in
-            record {
-              front = bodies_of p.updates;
-              rest = now.rest;
-              split = now.split;
-              offsets = same.offsets ∙ was.0.offsets
-                  ∙ ap (λ (l : List (List ℕ)). gates_from 78 l) bodies;
-              end = same.end ∙ was.0.end ∙ ap (λ (l : List (List ℕ)). end_of 78 l) bodies;
-            };
+            first_now before.0 i before.1 read later same;
         begins = λ i read.
             let before = told_before (tells.reads d0) (tells.reads d1) leaves.untold i read in
-            begins_still i g (left i (tells.reads_one d1 i read) before.0 before.1 g serves).0;
+            subst (λ (s : Option ℕ). BeginsWith k s p i) (sym same.step)
+            (begins_now before.0 i before.1 read);
         stands = λ ok. absurd (cc ok);
         settled = λ ok. absurd (cc ok);
         kept = λ ok. absurd (cc ok);

@@ -17,10 +17,10 @@ use Rattle.ov_history.proofs.Showing.{history_is_shown}
 use Rattle.ov_history.proofs.TextLists.{brief-with_texts, zeros_fit}
 use Rattle.ov_journal.specs.Book.{Contents, contents_of}
 use Rattle.ov_journal.specs.Log.{IsLogOf, Log}
-use Rattle.ov_journal.proofs.Records.{all_first}
+use Rattle.ov_journal.proofs.Logs.{all_first}
 use Rattle.ov_images.specs.Extents.{stored_in}
 use Rattle.ov_images.specs.Images.{HasRecords, Keeps, KeepsAt, Keys}
-use Rattle.ov_images.specs.Records.{bodies_of, record_spelling}
+use Rattle.ov_images.specs.Records.{bodies_of}
 use Rattle.ov_images.proofs.Keeping.{records_are_kept}
 use Rattle.ov_placed.specs.Contents.{PlacedStore}
 use Rattle.ov_record.specs.Updates.{SealedUpdate}
@@ -28,10 +28,6 @@ use Rattle.ov_store.specs.Opened.{BeginsWith, IsSafe, Serves, open_with, stored_
 use Rattle.ov_store.proofs.Said.{cut_out, said, told_by}
 
 -- ---- lengths
-
-pub length-bodies : (updates : List PlacedUpdate) → length (bodies_of updates) ≡ length updates
-length-bodies [] = refl
-length-bodies (u ∷ updates) = ap suc (length-bodies updates)
 
 pub length-outer : (updates : List SealedUpdate) → length (outer_all updates) ≡ length updates
 length-outer [] = refl
@@ -74,15 +70,22 @@ pub stored_same : (master : List ℕ) (p : PlacedHistory) (store : PlacedStore) 
 stored_same master p store i so_far =
     λ j. cut i.blobs (so_far.stands.1 j).files (so_far.places j)
 
-pub begins_with : (k : Keys) (p : PlacedHistory) (i : Image) → HasRecords k p i → BeginsWith k p i
-begins_with k p i has = record {
-  first = has.first;
-  form = has.form;
-  laid_out = has.laid_out;
-  head = ap (λ (c : Contents). c.head) has.book;
-  rest = [];
-  split = ap (λ (c : Contents). c.records.bodies) has.book ∙ sym (append-nil (bodies_of p.updates));
-}
+pub begins_with : (k : Keys) (step : Option ℕ) (p : PlacedHistory) (i : Image) → HasRecords k p i
+    → (contents_of i.book).records.step ≡ step → BeginsWith k step p i
+begins_with k step p i has is =
+    let here = ap (λ (c : Contents). c.records.step) has.book in
+    subst (λ (s : Option ℕ). BeginsWith k s p i) (sym here ∙ is) (record {
+      format = has.format;
+      known = has.known;
+      first = has.first;
+      form = has.form;
+      laid_out = has.laid_out;
+      head = ap (λ (c : Contents). c.head) has.book;
+      step_is = here;
+      rest = [];
+      split = ap (λ (c : Contents). c.records.bodies) has.book
+          ∙ sym (append-nil (bodies_of has.step p.updates));
+    })
 
 -- ---- the history of a store
 
@@ -136,7 +139,7 @@ module _ (k : Keys) (p : PlacedHistory) (store : PlacedStore)
     }
 
     pub safe_of : (log : Log) → log.bad ≡ false → length p.updates ≡ length log.offsets
-        → Told (tells.reads d) (λ i. IsLogOf log (contents_of i.book).records)
+        → Told (tells.reads d) (λ i. IsLogOf log i.book)
         → IsSafe tells log store (open_with tells d k store)
     safe_of log whole many is_log =
         let g = (choose (tells.reads d) has).0 in
@@ -151,8 +154,8 @@ module _ (k : Keys) (p : PlacedHistory) (store : PlacedStore)
           history = p;
           many = many;
           replayed = so_far;
-          log_is = λ i read. all_first log (contents_of i.book).records (is_log i read);
-          begins = λ i read. begins_with k p i (has i read);
+          log_is = λ i read. all_first log i.book (is_log i read);
+          begins = λ i read. begins_with k log.step p i (has i read) (sym (is_log i read).step);
           stands = λ ok i read.
               (is_log i read, λ x left. ap (λ (j : Image). j.book) (settled i read x left));
           settled = λ ok. settled;

@@ -1,8 +1,10 @@
 pub mod Begun
 pub mod Births
+pub mod Carrying
 pub mod Checked
 pub mod Checking
 pub mod Extents
+pub mod Gates
 pub mod Going
 pub mod Histories
 pub mod Looking

@@ -134,5 +134,6 @@ module _ {D : Type 0} (tells : DiskTells D) (k : Keys) (mode : Mode) where
       mode_is = ap (λ (c : Catalogue). c.mode) born.empty;
       found = birth_finds (open_with tells d2 k parts.0) born.serves;
       told = λ i at. born.told i (same ∙ at);
+      same = λ i at begun. absurd (begun (unborn i at));
     }
     opened_at_birth (Err fault) same none = none

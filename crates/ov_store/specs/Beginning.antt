@@ -1,5 +1,5 @@
 -- How a store begins on a disk.
-use Rattle.std.specs.Prelude.{◌≡◌, ◌≢◌, ◌⊎◌, ℕ, Option, Result, Ok, Err, false, ⊤}
+use Rattle.std.specs.Prelude.{◌≡◌, ◌≢◌, ◌⊎◌, ℕ, Option, Some, Result, Ok, Err, false, ⊤}
 use Rattle.ov_base.specs.declared.mode.Mode.{Mode}
 use Rattle.ov_disk.specs.Disk.{Image, Only, StaysTold, Told}
 use Rattle.ov_disk.specs.Moments.{LeavesOnly}
@@ -47,6 +47,10 @@ pub record FindsHistory {D : Type 0} (tells : DiskTells D) (k : Keys) (mode : Mo
   pub some : StandsIn k mode i
   pub each : (g : SealedHistory) → g.mode ≡ mode → IsImageOf k g i → Serves tells g s
 
+-- a disk that had a store, or another file, reads what it read
+abbrev pub ReadsBorn : Option Image → Option Image → Type 0
+ReadsBorn old new = Told old (λ i. (IsUnborn i.book → ⊥) → new ≡ Some i)
+
 -- A store that was just opened on a disk: it is safe with its journal and its first blocks, has this
 -- mode, and stands for each history of the mode for which the image stood that was read, and which
 -- the disk still tells.
@@ -56,6 +60,7 @@ pub record IsOpened {D : Type 0} (tells : DiskTells D) (log : Log) (store : Plac
   pub mode_is : s.catalogue.mode ≡ mode
   pub found : Told read (λ i. FindsHistory tells s.keys mode i s)
   pub told : StaysTold read (tells.reads s.disk)
+  pub same : ReadsBorn read (tells.reads s.disk)
 
 -- A store that was just begun without updates, from this epoch on: it is safe with its journal and
 -- its first blocks, stands for the history without updates, and has an empty catalogue; and the disk
@@ -89,12 +94,14 @@ abbrev pub IsNew : {D : Type 0} → Keys → Mode → Opened D → Type 0
 IsNew k mode s = (s.keys ≡ k) × (s.failed ≡ false) × (s.catalogue.mode ≡ mode)
 
 -- What a caller gets: a store that was just begun, which stands for each history of the mode for
--- which the image stood that was read, and whose disk still tells what it told.
+-- which the image stood that was read, and whose disk still tells what it told: the same image, where
+-- it was a store.
 pub record IsBegun {D : Type 0} (tells : DiskTells D) (k : Keys) (mode : Mode)
     (read : Option Image) (s : Opened D) : Type 0 where
   pub new : IsNew k mode s
   pub found : Told read (λ i. FindsHistory tells k mode i s)
   pub told : StaysTold read (tells.reads s.disk)
+  pub same : ReadsBorn read (tells.reads s.disk)
 
 -- the disk after the call, wherever it is
 abbrev pub disk_left : {D : Type 0} → Result (Opened D) (BeginRefused D) → D

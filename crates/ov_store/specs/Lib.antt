@@ -1,4 +1,5 @@
 pub mod Beginning
+pub mod Carrying
 pub mod Chunks
 pub mod Faults
 pub mod Opened

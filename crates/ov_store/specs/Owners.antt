@@ -17,8 +17,9 @@ use Rattle.ov_history.specs.Sealing.{sealed_update}
 use Rattle.ov_history.specs.KeptLaws.{AllAreOwners}
 use Rattle.ov_history.specs.Texts.{brief_of}
 use Rattle.ov_disk.specs.Disk.{Image}
-use Rattle.ov_journal.specs.Book.{contents_of, gate_behind}
+use Rattle.ov_journal.specs.Book.{contents_of}
 use Rattle.ov_journal.specs.Log.{Log}
+use Rattle.ov_journal.specs.Steps.{gate_behind}
 use Rattle.ov_images.specs.Records.{AllHaveForm, bodies_of}
 use Rattle.ov_placed.specs.Contents.{PlacedStore}
 

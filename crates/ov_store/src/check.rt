@@ -57,8 +57,8 @@ fn follow(
     }
 }
 
-// Goes on with the record of this format with this body, if its update is as its owner seals it. The text of a new
-// file is what the open store has of it.
+// Goes on with the record of this format with this body, if its update is as its owner seals it. The
+// text of a new file is what the open store has of it.
 fn follow_record<D: Disk>(
     alloc: Global,
     disk: &mut D,
@@ -103,8 +103,7 @@ fn first_false<D: Disk>(
     base: &Master,
 ) -> Result<Option<u64>, CheckFault>
     requires count { length journal.now.offsets ≤ placed.now.catalogue.epoch }
-    requires log { Told (D.tells.reads disk.old) (λ i.
-        IsLogOfFirst journal.now i.book) }
+    requires log { Told (D.tells.reads disk.old) (λ i. IsLogOfFirst journal.now i.book) }
     requires files { Told (D.tells.reads disk.old) (λ i.
         AllEndWithin (length i.blobs) placed.now.catalogue.files placed.now.placed) }
     ensures checked { IfOk result (λ found. Told (D.tells.reads disk.old) (λ i.
@@ -120,7 +119,8 @@ fn first_false<D: Disk>(
     'records: for i in 0..journal.count() {
         body.clear();
         journal.body(disk, i, &mut body)?;
-        let (format, body) = (format_of(journal, i), body.as_slice());
+        let format = format_of(journal, i);
+        let body = body.as_slice();
         if !follow_record(alloc, disk, placed, &mut state, surface, base, format, body)? {
             return Ok(Some(journal.offset(i)));
         }

@@ -1,14 +1,20 @@
 //! A store that survives a stop: its updates are written down before they are made.
 //!
 //! A [`Store`] has its catalogue in memory, with the first block of each file (`ov_placed`), and a
-//! disk with a journal of its updates (`ov_journal`); the stored bytes of files lie in extents of the
-//! disk's area Blobs (`ov_blocks`). [`Store::begin`] begins an empty store where there is none, and
-//! else replays the records that an earlier run left, of either format, and no file's bytes. [`Store::update`] prepares
-//! an update, writes the new bytes of files into extents that were free, and then its record, and only
-//! then makes it, which can't fail: so what was answered with `Ok` outlasts each later stop, and a stop
-//! at any moment leaves the history from before or it with this update. [`Store::chunk`] reads stored
-//! bytes, [`Store::check`] looks whether all updates are as their owner seals them, for which it reads
+//! disk with a journal of its updates (`ov_journal`); the stored bytes of files lie in extents of
+//! the disk's area Blobs (`ov_blocks`). [`Store::begin`] begins an empty store of the second
+//! format where there is none, and else replays the records that an earlier run left, in whichever
+//! format each is, and no file's bytes. [`Store::update`] prepares an update, writes the new bytes
+//! of files into extents that were free, and then its record, and only then makes it, which can't
+//! fail: so what was answered with `Ok` outlasts each later stop, and a stop at any moment leaves
+//! the history from before or it with this update. [`Store::chunk`] reads stored bytes,
+//! [`Store::check`] looks whether all updates are as their owner seals them, for which it reads
 //! each file once, and [`Store::close`] gives the disk back.
+//!
+//! A store of the first format is carried over to the second by its first update: this writes a
+//! step record before its own, and all records behind that are in the second format. Programs that
+//! know the first alone open the store no more. [`is_to_be_carried_over`] says before a store is
+//! opened that this is to come, and [`Store::is_to_be_carried_over`] says it of an open one.
 //!
 //! **What a contract sees** is one value, `Opened` (`specs/Opened`): the disk, the keys, the
 //! catalogue, the stored bytes, which are cut out of what the disk reads and so are said only where it
@@ -24,6 +30,7 @@
 //! | `Opened` | an open store as a value, and for which history it stands |
 //! | `Updating` | what an update answers, and what it leaves |
 //! | `Beginning` | why no store is begun, and what a crash in a beginning leaves |
+//! | `Carrying` | stores that their next update carries over |
 //! | `Chunks` | what is answered to a question for stored bytes |
 //! | `Owners` | updates that are as their owner seals them, and the first that isn't |
 //! | `Replaying`, `Faults` | inner: records that are replayed, and why not |
@@ -34,6 +41,7 @@
 
 mod begin;
 mod birth;
+mod carrying;
 mod check;
 mod chunk;
 mod fault;
@@ -46,5 +54,6 @@ mod texts;
 mod update;
 
 pub use begin::BeginRefused;
+pub use carrying::is_to_be_carried_over;
 pub use fault::{BeginFault, ChunkFault, StoreFault};
 pub use store::Store;

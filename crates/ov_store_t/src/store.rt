@@ -5,6 +5,7 @@ ghost use Rattle.ov_history.specs.Briefs.{brief};
 ghost use Rattle.ov_state.specs.Plans.{IsFitting};
 
 mod callers;
+mod carried;
 mod damage;
 mod stored;
 

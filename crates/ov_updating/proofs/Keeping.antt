@@ -4,7 +4,7 @@ use Rattle.std.specs.Prelude.{Contains, IfOk, Result, Ok, Err, Option, Some, Non
 use Rattle.std.specs.List.{flat_map}
 use Rattle.ov_disk.specs.Disk.{Image}
 use Rattle.ov_disk.specs.Tells.{DiskTells}
-use Rattle.ov_journal.specs.Book.{contents_of, with_body}
+use Rattle.ov_journal.specs.Book.{Contents, contents_of, with_body}
 use Rattle.ov_blocks.specs.Extents.{blocks_of}
 use Rattle.ov_blocks.specs.declared.extents.Extent.{Extent}
 use Rattle.ov_blocks.specs.declared.extents.TheConstants.{BLOCK_BYTES}
@@ -37,6 +37,23 @@ use Rattle.ov_updating.proofs.Holding.{hold_all}
 use Rattle.ov_updating.proofs.Standing.{HasAsMuch, all_ready, cut_same, ends_whole, same_bytes}
 use Rattle.ov_updating.proofs.Taking.{all_take_free, are_free, are_numbers, files_counted}
 use Rattle.ov_updating.proofs.Using.{in_use}
+
+-- ---- what Book says
+
+-- an image that stands for all that another stood for has its records
+same_book : (held : List Extent) (i x : Image) → StandsAsBefore held i x
+    → contents_of x.book ≡ contents_of i.book
+same_book held i x stands =
+    (stands.stands (contents_of i.book) [] (λ n d lt. absurd (omega (arith, lt)))
+    (record { book = refl; files_are = λ n d lt. absurd (omega (arith, lt)) })).book
+
+-- or one more
+more_book : (turned : ℕ → ℕ → ℕ → ℕ) (text body : List ℕ) (held : List Extent) (moves : List Move) (i x : Image)
+    → StandsAfter turned text body held moves i x
+    → contents_of x.book ≡ with_body body (contents_of i.book)
+more_book turned text body held moves i x after =
+    (after.stands (contents_of i.book) [] (λ n d lt. absurd (omega (arith, lt)))
+    (record { book = refl; files_are = λ n d lt. absurd (omega (arith, lt)) })).book
 
 module _ (master : List ℕ) (a : Asked) (k : Keys) (p : PlacedHistory) (g : SealedHistory) (u : SealedUpdate) (i : Image)
     (can : CanGoOn master a k p g u i) where
@@ -79,10 +96,7 @@ module _ (master : List ℕ) (a : Asked) (k : Keys) (p : PlacedHistory) (g : Sea
 
   as_before : (x : Image) → StandsAsBefore a.held i x → KeepsAt k p g x
   as_before x stands =
-      keeps_same k p g i x can.keeps
-      (stands.stands (contents_of i.book) [] (λ n d lt. absurd (omega (arith, lt)))
-      (record { book = refl; files_are = λ n d lt. absurd (omega (arith, lt)) })).book
-      stands.no_shorter (bytes_before x stands)
+      keeps_same k p g i x can.keeps (same_book a.held i x stands) stands.no_shorter (bytes_before x stands)
 
   -- ---- with the update
 
@@ -116,8 +130,7 @@ module _ (master : List ℕ) (a : Asked) (k : Keys) (p : PlacedHistory) (g : Sea
           (are_free (recoated k.surface a.rewrites) a.text i.blobs x.blobs (files_of a.placed a.rewrites) a.held
           (extents_in_use c placed) moves go among after.blobs.moved));
       book =
-          (after.stands (contents_of i.book) [] (λ n d lt. absurd (omega (arith, lt)))
-          (record { book = refl; files_are = λ n d lt. absurd (omega (arith, lt)) })).book
+          more_book (recoated k.surface a.rewrites) a.text (body_with a.front moves) a.held moves i x after
           ∙ ap (λ (front : List ℕ). with_body (front ++ flat_map u32 firsts) (contents_of i.book)) can.update.front;
       no_shorter = after.blobs.kept.no_shorter;
       old = same_stored x as_much;
@@ -156,16 +169,19 @@ module _ (master : List ℕ) (a : Asked) (i x : Image) where
   keeps_either (inl before) k p g u can = (
     inl (as_before master a k p g u i can x before),
     bytes_before master a k p g u i can x before,
+    ap (λ (c : Contents). c.records.step) (same_book a.held i x before),
   )
   keeps_either (inr (moves, go, after)) k p g u can = (
     inr (firsts_of moves, keeps_with moves go after k p g u can),
     same_stored master a k p g u i can x
         (as_much master a k p g u i can moves x go (turned_by moves k can.surface after)),
+    ap (λ (c : Contents). c.records.step)
+        (more_book (recoated master a.rewrites) a.text (body_with a.front moves) a.held moves i x after),
   )
 
 -- before the first call of the disk
 pub keeps_yet : (master : List ℕ) (a : Asked) (i : Image) → KeepsItOrMore master a i i
-keeps_yet master a i k p g u can = (inl can.keeps, refl)
+keeps_yet master a i k p g u can = (inl can.keeps, refl, refl)
 
 pub lasts : {D : Type 0} (tells : DiskTells D) (master : List ℕ) (a : Asked) (disk : D) (i : Image) (moves : List Move)
     → GoToFree (files_of a.placed a.rewrites) a.held moves

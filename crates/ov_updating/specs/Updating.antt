@@ -4,6 +4,7 @@ use Rattle.ov_base.specs.declared.limits.TheConstants.{MAX_FILES, MAX_FILE_BYTES
 use Rattle.ov_disk.specs.Disk.{Image, Only}
 use Rattle.ov_disk.specs.Tells.{DiskTells}
 use Rattle.ov_blocks.specs.declared.extents.Extent.{Extent}
+use Rattle.ov_journal.specs.Book.{contents_of}
 use Rattle.ov_record.specs.Forms.{second_form}
 use Rattle.ov_record.specs.Stored.{HasBriefForm, brief_spelling}
 use Rattle.ov_record.specs.Updates.{SealedUpdate}
@@ -72,13 +73,19 @@ KeepsAtOrMore k p g u c =
     KeepsAt k p g c
     ⊎ ((firsts : List ℕ) × KeepsAt k (with_placed p (placed_as u firsts)) (with_sealed g u) c)
 
--- Whatever history the first image keeps, the second keeps that, or it with the update; and the files
--- that there were have their bytes where they had them.
+-- as many records of the second image come before the step record as of the first
+abbrev pub HasSameStep : Image → Image → Type 0
+HasSameStep i c = (contents_of c.book).records.step ≡ (contents_of i.book).records.step
+
+-- Whatever history the first image keeps, the second keeps that, or it with the update; the files
+-- that there were have their bytes where they had them, and the records before the step record are
+-- the same.
 abbrev pub KeepsItOrMore : List ℕ → Asked → Image → Image → Type 0
 KeepsItOrMore master a i c =
     (k : Keys) (p : PlacedHistory) (g : SealedHistory) (u : SealedUpdate)
     → CanGoOn master a k p g u i
     → KeepsAtOrMore k p g u c × (stored_in k.surface p c.blobs ≡ stored_in k.surface p i.blobs)
+    × HasSameStep i c
 
 -- whatever history the first image keeps, the second keeps it with the update, which has these first
 -- blocks

@@ -3,9 +3,10 @@
 //! `ov_moves` moves files into other extents and puts a record behind them; it knows of bytes that
 //! are turned, and of records that are lists of bytes. `ov_images` says which history an image of a
 //! disk keeps. This crate joins the two: what is turned is the coats of files ([`ov_recoat`]), the
-//! record is an update's spelling and the first blocks of the extents that it fills, and so an image
-//! that kept a history keeps it, or it with the update. `ov_placed` calls it, and makes the update in
-//! the catalogue.
+//! record is an update's spelling in the second form and the first blocks of the extents that it
+//! fills, and so an image that kept a history keeps it, or it with the update. In a store of the first
+//! format the journal puts a step record before the first such record, and no image is another for
+//! that. `ov_placed` calls it, and makes the update in the catalogue.
 //!
 //! * [`update`] is the whole of an update but for the catalogue: it finds new extents, writes the new
 //!   bytes of each file there, appends the record, and gives up the old extents. Its caller has the
@@ -19,8 +20,9 @@
 //! under several keys, is never an argument: the clauses hold of each that the disk's image keeps.
 //!
 //! * Where the disk tells its bytes, a crash at any moment leaves an image that keeps the history, or
-//!   it with the update (`KeepsItOrMore`); and the extents that files had hold what they held, so that
-//!   a store whose disk failed can go on reading them.
+//!   it with the update (`KeepsItOrMore`); the extents that files had hold what they held, and the
+//!   records before the step record are the same, so that a store whose disk failed can go on reading
+//!   both.
 //! * Where the disk told its bytes, one image alone can be left at `Ok`, and it keeps the history with
 //!   the update and with the first blocks that are answered (`UpdateLasts`). Each file has gone into
 //!   the lowest free run (`GoToFree`), and Blobs has grown into the new extents alone.

@@ -90,6 +90,14 @@ pub const TWO_STORES: &str =
     "where these keys had a store before, run nothing more: read Restoring \
     in OPERATING.md";
 
+/// What is said of a book that is of the first format and has no step record.
+pub const OLDER: &str =
+    "is of an older format; its next update carries it over, and then no older program opens it";
+
+/// What to do before an update that carries the store over.
+pub const KEEP_A_COPY: &str =
+    "keep a copy of this folder before that update: read Stores of an older version in OPERATING.md";
+
 const MEMORY_AT_FIRST: &str = "the system refused memory; nothing was answered; free some, and \
     ask for the epoch before you run the script again";
 

@@ -43,7 +43,8 @@ use std::io::{ErrorKind, IsTerminal, Write};
 use std::process::ExitCode;
 use texts::{HELP, VERSION};
 use told::{
-    BLOBS_FILE, BOOK_FILE, KEY_FILE, TRACE_FILE, explain, explain_line, new_store, open_keys,
+    BLOBS_FILE, BOOK_FILE, KEY_FILE, TRACE_FILE, explain, explain_line, new_store, older_store,
+    open_keys,
 };
 
 // The word that a run without a count of replies begins with.
@@ -153,6 +154,13 @@ fn bad_line_of<S: Source>(
     }
 }
 
+// Says what is to come of a store of an older format, where the words ask for it.
+fn look_at_store(rt: &HostRuntime, words: &[String], disk: &mut FileDisk<HostRuntime>) {
+    if is_first("run", words) || is_first("load", words) {
+        older_store(rt, disk);
+    }
+}
+
 // Calls `load` or, with all other words, `run`, over the files of the folder.
 fn answer_over_files<W: Write>(
     rt: &HostRuntime,
@@ -167,6 +175,7 @@ fn answer_over_files<W: Write>(
         Ok(files) => files,
         Err(Memory) => return end_at(put_memory(&mut out), stage_by_words(words, false)),
     };
+    look_at_store(rt, words, &mut disk);
     let (code, bad_line) = if is_first("load", words) {
         let code = load(alloc, words, &mut keys, &mut out, &mut trace, &mut disk);
         (code, None)

@@ -1,10 +1,14 @@
 //! What is wrong and what to do, on standard error. Where that can't be written the status has to
 //! do.
 use crate::End;
-use crate::advice::{AFTER_BAD_LINE, Stage, TWO_STORES, advice_on, on_file, on_lack, what_lasts};
+use crate::advice::{
+    AFTER_BAD_LINE, KEEP_A_COPY, OLDER, Stage, TWO_STORES, advice_on, on_file, on_lack, what_lasts,
+};
 use crate::lacks::Lack;
 use ov_answering::Status;
-use ov_files::{begins, fault_of, is_open_to_others};
+use ov_disk::Disk;
+use ov_files::{begins, fault_of, is_of_first_format, is_open_to_others};
+use ov_store::is_to_be_carried_over;
 
 /// The file of the two masters, in the folder where the program runs.
 pub const KEY_FILE: &str = "keys.hex";
@@ -86,5 +90,16 @@ pub fn new_store(rt: &HostRuntime) {
             "overstore: note: there was no store in this folder, so a new one was begun"
         );
         let _ = eprintln!(rt; "overstore: hint: {TWO_STORES}");
+    }
+}
+
+/// Says so where the store of this folder, which is on this disk, is of the first format and its next
+/// update carries it over. Nothing is written.
+pub fn older_store<D: Disk>(rt: &HostRuntime, disk: &mut D) {
+    if is_of_first_format(rt, BOOK_FILE)
+        && matches!(is_to_be_carried_over(rt.alloc(), disk), Ok(true))
+    {
+        let _ = eprintln!(rt; "overstore: note: {BOOK_FILE} {OLDER}");
+        let _ = eprintln!(rt; "overstore: hint: {KEEP_A_COPY}");
     }
 }

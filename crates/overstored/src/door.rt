@@ -32,30 +32,31 @@ pub struct SpokenDoor<N: Net + AllocGlobal + Drop, R> {
     pub door: TcpDoor<N>,
     listens: Arc<AtomicBool, Global>,
     logs: bool,
-    begun: Option<Begun>,
+    news: Option<News>,
     given: u64,
     closed: bool,
     faults: u64,
     rt: R,
 }
 
-/// A store that is begun before its door listens: its book and its mode.
+/// What is said of the store with a book before its door listens.
 #[derive(Drop)]
-pub struct Begun {
-    pub book: String,
-    pub mode: Mode,
+pub enum News {
+    /// It was begun, in this mode.
+    Begun { book: String, mode: Mode },
+    /// It is of the first format, and its next update carries it over.
+    Older { book: String },
 }
 
 impl<N: Net + AllocGlobal + Drop, R> SpokenDoor<N, R> {
     /// This door, which gave nothing yet, with a runtime that prints; where it notes that it listens;
-    /// whether a log is kept; and the store that is begun, if one is, of which it says so once it is
-    /// asked to listen.
+    /// whether a log is kept; and what it says of the store, if anything, once it is asked to listen.
     pub fn new(
         door: TcpDoor<N>,
         rt: R,
         listens: Arc<AtomicBool, Global>,
         logs: bool,
-        begun: Option<Begun>,
+        news: Option<News>,
     ) -> SpokenDoor<N, R>
         ensures given { result.given ≡ 0 }
         ensures open_ { result.closed ≡ false }
@@ -64,7 +65,7 @@ impl<N: Net + AllocGlobal + Drop, R> SpokenDoor<N, R> {
             door,
             listens,
             logs,
-            begun,
+            news,
             given: 0,
             closed: false,
             faults: 0,
@@ -121,8 +122,9 @@ impl<N: Net + AllocGlobal + Drop, R: Eprint + Clock + AllocGlobal + Copy + Drop>
     } };
 
     fn listen(&mut self, address: &mut Vec<u8>) -> Result<(), Fault> {
-        match &self.begun {
-            Some(begun) => told::new_store(&self.rt, begun.book.as_str(), begun.mode),
+        match &self.news {
+            Some(News::Begun { book, mode }) => told::new_store(&self.rt, book.as_str(), *mode),
+            Some(News::Older { book }) => told::older_store(&self.rt, book.as_str()),
             None => {}
         }
         match self.door.listen(address) {

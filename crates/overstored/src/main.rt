@@ -26,15 +26,16 @@ mod texts;
 mod told;
 
 use disk::SpokenDisk;
-use door::{Begun, SpokenDoor};
+use door::{News, SpokenDoor};
 use ov_base::Memory;
-use ov_disk::FileDisk;
-use ov_files::{FileFault, begins, fault_of, held_places, words_of};
+use ov_disk::{Disk, FileDisk};
+use ov_files::{FileFault, begins, fault_of, held_places, is_of_first_format, words_of};
 use ov_host::host;
 use ov_io::{FileSource, Source, StdSink};
 use ov_serving::Spawner;
 use ov_session::{OpenGate, SILENCE_SECONDS, TcpDoor};
 use ov_settings::{Settings, read_settings};
+use ov_store::is_to_be_carried_over;
 use std::alloc::Global;
 use std::io::ErrorKind;
 use std::net::Net;
@@ -95,16 +96,36 @@ fn begun_by(
     settings: &Settings,
     book: &str,
     blobs: &str,
-) -> Result<Option<Begun>, Memory> {
+) -> Result<Option<News>, Memory> {
     let may_begin = matches!(fault_of(rt, blobs), None | Some(FileFault::NotMade));
     if !may_begin || !begins(rt, book) {
         return Ok(None);
     }
     let book = String::from_str(rt.alloc(), book)?;
-    Ok(Some(Begun {
+    Ok(Some(News::Begun {
         book,
         mode: settings.mode,
     }))
+}
+
+// What the server says of the store before it listens, if anything. Nothing is written.
+fn news_of<D: Disk>(
+    rt: &HostRuntime,
+    settings: &Settings,
+    book: &str,
+    blobs: &str,
+    disk: &mut D,
+) -> Result<Option<News>, Memory> {
+    if !is_of_first_format(rt, book) {
+        return begun_by(rt, settings, book, blobs);
+    }
+    match is_to_be_carried_over(rt.alloc(), disk) {
+        Ok(true) => {
+            let book = String::from_str(rt.alloc(), book)?;
+            Ok(Some(News::Older { book }))
+        }
+        _ => Ok(None),
+    }
 }
 
 // The disk over these files, which knows by the flag whether the server listens.
@@ -146,10 +167,10 @@ where
     let blobs = text_of(settings.blobs.as_slice());
     let address = text_of(settings.address.as_slice());
     let (listens, known) = flags(rt.alloc())?;
-    let disk = disk_over(rt, book, blobs, known)?;
+    let mut disk = disk_over(rt, book, blobs, known)?;
     let door = TcpDoor::new(*net, address, SILENCE_SECONDS)?;
-    let begun = begun_by(rt, settings, book, blobs)?;
-    let mut door = SpokenDoor::new(door, *rt, listens, logs, begun);
+    let news = news_of(rt, settings, book, blobs, &mut disk)?;
+    let mut door = SpokenDoor::new(door, *rt, listens, logs, news);
     let mut spawner = Spawner::new(rt.alloc());
     let mut out = StdSink::new(rt.stdout());
     let status = host(

@@ -168,6 +168,12 @@ pub const ONE_FILE: (&str, &str) = (
 pub const TWO_STORES: &str =
     "where these keys had a store before, stop the server: read Restoring in OPERATING.md";
 
+/// What is to come of a book that is of the first format, and what to do.
+pub const OLDER: (&str, &str) = (
+    "it is of an older format; its next update carries it over, and then no older program opens it",
+    "keep copies of both files before that: read Stores of an older version in OPERATING.md",
+);
+
 /// What is wrong with a book where a write to the store's files failed, and what to do.
 pub const FAILED_WRITE: (&str, &str) = (
     "a write to the store failed, so no update is accepted any more",

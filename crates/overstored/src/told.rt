@@ -1,7 +1,7 @@
 //! What is wrong and what to do, on standard error. Where that can't be written the status has to
 //! do.
 use crate::texts::{
-    ACCEPTING, CHANGED, IN_USE, LISTENING, NO_ADDRESS, NO_FILE, NO_LINE, NO_ROOM, ONE_FILE,
+    ACCEPTING, CHANGED, IN_USE, LISTENING, NO_ADDRESS, NO_FILE, NO_LINE, NO_ROOM, OLDER, ONE_FILE,
     OTHER_KEY, TWO_STORES, WRONG_WORDS, error_in, hint_on, hint_on_door, on_file, on_store,
 };
 use ov_base::Mode;
@@ -176,6 +176,13 @@ pub fn new_store<R: Eprint>(rt: &R, book: &str, mode: Mode) {
         "overstored: note: there was no store at {book}, so a new one was begun, in mode {mode}"
     );
     let _ = eprintln!(rt; "overstored: hint: {TWO_STORES}");
+}
+
+/// Says that this book is of the first format, and what its next update does.
+pub fn older_store<R: Eprint>(rt: &R, book: &str) {
+    let (note, hint) = OLDER;
+    let _ = eprintln!(rt; "overstored: note: {book}: {note}");
+    let _ = eprintln!(rt; "overstored: hint: {hint}");
 }
 
 // Says what is wrong with this file of a store, or with its folder.

@@ -18,7 +18,8 @@ returns-in-Ok-clause-found g c =
     (looked g.D.Disk.tells (plain_masters c.args.masters)
     (keys c.base_check_of-base_check.result c.args.masters.surface.bytes) c.args.mode c.args.disk
     c.in-Ok.store (ap (λ b. keys b c.args.masters.surface.bytes) c.base_check_of-base_check.ensures)
-    c.in-Ok.ensures.begun.new.0 (c.in-Ok.ensures.begun.found, c.in-Ok.ensures.begun.told)
+    c.in-Ok.ensures.begun.new.0
+    (c.in-Ok.ensures.begun.found, c.in-Ok.ensures.begun.told, c.in-Ok.ensures.begun.same)
     c.checked.result c.checked.ensures.owners
     c.checked.ensures.untouched.reads_same).0
 
@@ -27,7 +28,8 @@ returns-in-Ok-clause-fault g c =
     (looked g.D.Disk.tells (plain_masters c.args.masters)
     (keys c.base_check_of-base_check.result c.args.masters.surface.bytes) c.args.mode c.args.disk
     c.in-Ok.store (ap (λ b. keys b c.args.masters.surface.bytes) c.base_check_of-base_check.ensures)
-    c.in-Ok.ensures.begun.new.0 (c.in-Ok.ensures.begun.found, c.in-Ok.ensures.begun.told)
+    c.in-Ok.ensures.begun.new.0
+    (c.in-Ok.ensures.begun.found, c.in-Ok.ensures.begun.told, c.in-Ok.ensures.begun.same)
     c.checked.result c.checked.ensures.owners
     c.checked.ensures.untouched.reads_same).1
 

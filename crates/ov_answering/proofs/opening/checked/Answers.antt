@@ -3,6 +3,7 @@ use Rattle.ov_disk.specs.Calls.{IsDiskCall}
 use Rattle.ov_disk.specs.Disk.{Told}
 use Rattle.ov_disk.specs.Moments.{IsUntouched}
 use Rattle.ov_history.specs.Sealed.{SealedHistory}
+use Rattle.ov_journal.specs.Book.{contents_of}
 use Rattle.ov_store.specs.Opened.{Serves}
 use Rattle.ov_store.specs.Owners.{Checks, masters as both}
 use Rattle.ov_store.specs.declared.fault.BeginFault.TheVariants.{Disk}
@@ -15,7 +16,8 @@ returns-in-None-clause-owners g c = λ h serves i read.
     let P : Option ℕ → Type 0 =
     λ found. (h : SealedHistory) → Serves g.D.Disk.tells h c.args.store
     → Told (g.D.Disk.tells.reads c.args.store.disk)
-    (λ _. Checks (both c.args.base.now.bytes c.args.store.keys.surface) h found) in
+    (λ i. Checks (both c.args.base.now.bytes c.args.store.keys.surface)
+    (contents_of i.book).records.step h found) in
     let all = all_found P c.check.result (sym c.fault_found.ensures ∙ c.in-None.is)
     c.check.ensures.checked in
     (all h serves i read, c.check.ensures.served h serves)
@@ -25,8 +27,9 @@ returns-in-Some-clause-owners g c = λ h serves i read.
     let P : Option ℕ → Type 0 =
     λ found. (h : SealedHistory) → Serves g.D.Disk.tells h c.args.store
     → Told (g.D.Disk.tells.reads c.args.store.disk)
-    (λ _. Checks (both c.args.base.now.bytes c.args.store.keys.surface) h found) in
-    false_found P (IsCheckFault (both c.args.base.now.bytes c.args.store.keys.surface) h)
+    (λ i. Checks (both c.args.base.now.bytes c.args.store.keys.surface)
+    (contents_of i.book).records.step h found) in
+    false_found P (IsCheckFault (both c.args.base.now.bytes c.args.store.keys.surface) i h)
     c.check.result c.in-Some.fault
     (sym c.fault_found.ensures ∙ c.in-Some.is) c.check.ensures.checked tt tt
     (λ place found. (refl, found h serves i read))

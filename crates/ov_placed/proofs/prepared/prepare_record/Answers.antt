@@ -5,6 +5,7 @@ use Rattle.ov_history.specs.Briefs.{Brief}
 use Rattle.ov_history.specs.Placed.{count_of}
 use Rattle.ov_history.specs.Rewrites.{Rewrite, rewrites_of}
 use Rattle.ov_record.specs.Briefs.{plain_brief}
+use Rattle.ov_record.specs.Forms.{Form, form_in}
 use Rattle.ov_state.specs.Entries.{plain_rewrites}
 use Rattle.ov_state.specs.Plans.{IsChange}
 use Rattle.ov_state.specs.declared.change.Rewrite.{Rewrite as StateRewrite}
@@ -14,24 +15,26 @@ use Rattle.ov_placed.specs.Replaying.{placed_update}
 use Rattle.ov_placed.specs.declared.fault.ReplayFault.{ReplayFault}
 use Rattle.ov_placed.proofs.Files.{few_rewrites}
 use Rattle.ov_placed.proofs.Spots.{bad_if_miscounted, bad_if_misspelled, bad_if_untaken, begins}
-use Rattle.ov_placed.proofs.Spots.{one_front}
+use Rattle.ov_placed.proofs.Spots.{format_has_room, one_front}
 use Rattle.ov_placed.proofs.prepared.prepare_record.Goals as goal
 
 pub returns-in_err-update-clause-fault : goal.returns-in_err-update-clause-fault
 returns-in_err-update-clause-fault c = λ blocks placed.
+    let form : Form = form_in c.args.format in
     let d = c.args.catalogue.now.catalogue in
     let p = err_from_is_err_and c.from_residual.result c.from_residual.ensures.1 in
-    rw p.1 (subst (λ (fault : ReplayFault). NamesSpot (IsBadFor blocks d placed c.args.body.now c.args.gate) fault) (sym p.2)
-    (bad_if_misspelled blocks d placed c.args.body.now c.args.gate c.in_err-update.field-0.0
+    rw p.1 (subst (λ (fault : ReplayFault). NamesSpot (IsBadFor form blocks d placed c.args.body.now c.args.gate) fault) (sym p.2)
+    (bad_if_misspelled form blocks d placed c.args.body.now c.args.gate c.in_err-update.field-0.0
     c.in_err-update.ensures.fault))
 
 pub returns-in_err-change-clause-fault : goal.returns-in_err-change-clause-fault
 returns-in_err-change-clause-fault c = λ blocks placed.
+    let form : Form = form_in c.args.format in
     let d = c.args.catalogue.now.catalogue in
     let p = err_from_is_err_and c.from_residual-in_err-change.result
     c.from_residual-in_err-change.ensures.1 in
-    rw p.1 (subst (λ (fault : ReplayFault). NamesSpot (IsBadFor blocks d placed c.args.body.now c.args.gate) fault) (sym p.2)
-    (bad_if_untaken blocks d placed c.args.body.now c.args.gate c.in_err-change.field-0.0
+    rw p.1 (subst (λ (fault : ReplayFault). NamesSpot (IsBadFor form blocks d placed c.args.body.now c.args.gate) fault) (sym p.2)
+    (bad_if_untaken form blocks d placed c.args.body.now c.args.gate c.in_err-change.field-0.0
     (plain_brief c.in_ok-update.update) c.in_ok-update.ensures.found
     c.in_err-change.ensures.fault))
 
@@ -43,6 +46,7 @@ count_of-count-requires c =
 
 pub returns-in_err-record-clause-fault : goal.returns-in_err-record-clause-fault
 returns-in_err-record-clause-fault c = λ blocks placed.
+    let form : Form = form_in c.args.format in
     let d = c.args.catalogue.now.catalogue in
     let b : Brief = plain_brief c.in_ok-update.update in
     let is = c.in_ok-change.ensures.change in
@@ -52,20 +56,21 @@ returns-in_err-record-clause-fault c = λ blocks placed.
     c.count_of-count.ensures.count
     ∙ ap (λ (rs : List StateRewrite). count_of (plain_rewrites rs)) c.rewrites.ensures
     ∙ ap (λ (rs : List Rewrite). count_of rs) is.rewrites in
-    rw p.1 (subst (λ (fault : ReplayFault). NamesSpot (IsBadFor blocks d placed c.args.body.now c.args.gate) fault) (sym p.2)
-    (bad_if_miscounted blocks d placed c.args.body.now c.args.gate c.in_err-record.field-0.0 b
+    rw p.1 (subst (λ (fault : ReplayFault). NamesSpot (IsBadFor form blocks d placed c.args.body.now c.args.gate) fault) (sym p.2)
+    (bad_if_miscounted form blocks d placed c.args.body.now c.args.gate c.in_err-record.field-0.0 b
     c.in_ok-update.ensures.found is.taken
-    (subst (λ (n : ℕ). NamesSpot (StopsInBody n c.args.body.now c.args.gate) c.in_err-record.field-0.0) count
+    (subst (λ (n : ℕ). NamesSpot (StopsInBody form n c.args.body.now c.args.gate) c.in_err-record.field-0.0) count
     c.in_err-record.ensures.fault)))
 
 pub returns-clause-change : goal.returns-clause-change
 returns-clause-change c =
+    let form : Form = form_in c.args.format in
     let d = c.args.catalogue.now.catalogue in
     let b : Brief = plain_brief c.in_ok-update.update in
     let u = placed_update c.in_ok-record.record in
     let is = c.in_ok-change.ensures.change in
-    let same : b ≡ u.update = one_front b u.update c.args.body.now c.in_ok-update.ensures.found
-    (begins u c.args.body.now c.in_ok-record.ensures.found) in
+    let same : b ≡ u.update = one_front form (format_has_room c.args.format) b u.update c.args.body.now
+    c.in_ok-update.ensures.found (begins form u c.args.body.now c.in_ok-record.ensures.found) in
     record {
       made = subst (λ (a : Brief). IsChange {W = WIDTH} (64 * WIDTH) c.args.surface.now.bytes d a
           c.in_ok-change.change) same is;

@@ -1,18 +1,20 @@
 use Rattle.std.proofs.Common.{◌≡◌, ◌∙◌, ℕ, ◌<◌, ◌^◌, List, [], get_or, length, refl, ap, subst, sym, arith, take}
+use Rattle.std.specs.Prelude.{None}
 use Rattle.std.proofs.lemmas.List.{get_or_read}
 use Rattle.std.proofs.lemmas.Result.{err_from_is_err_and}
 use Rattle.ov_images.specs.Damage.{HasBadRecord}
-use Rattle.ov_journal.specs.Log.{end_from}
+use Rattle.ov_journal.specs.Runs.{end_from}
+use Rattle.ov_record.specs.Forms.{second_form}
 use Rattle.ov_placed.specs.Faults.{IsBadFor, NamesSpot}
 use Rattle.ov_placed.specs.Replaying.{TakesRecord}
 use Rattle.ov_placed.specs.declared.fault.ReplayFault.{ReplayFault}
 use Rattle.ov_placed.proofs.Replays.{replay_none}
-use Rattle.ov_placed_t.proofs.Gates.{all_replayed, end-more, next-ends, next_replayed, next_stops}
+use Rattle.ov_placed_t.proofs.Gates.{all_replayed, end-more, next-ends, next_replayed, next_stops, second_of}
 use Rattle.ov_placed_t.proofs.replaying.replay_all.Goals as goal
 
 pub loop-body-init : goal.loop-body-init
 loop-body-init c = record {
-  replay = replay_none c.args.surface.now.bytes c.args.mode c.args.first c.args.blocks
+  replay = replay_none c.args.surface.now.bytes c.args.mode c.args.first c.args.blocks None
       c.in_ok-replayed.replayed c.in_ok-replayed.ensures.catalogue c.in_ok-replayed.ensures.placed;
   gate = λ low. refl;
 }
@@ -29,7 +31,7 @@ loop-body-preserved c =
       replay = next_replayed bodies i [] c.loop-body-test.true c.args.surface.now.bytes c.args.mode
           c.args.first c.args.blocks c.loop-body.replayed c.loop-body.invariant.replay
           c.replay.new.self
-          (subst (λ (l : List ℕ). TakesRecord c.args.surface.now.bytes c.args.blocks
+          (subst (λ (l : List ℕ). TakesRecord c.args.surface.now.bytes second_form c.args.blocks
           c.loop-body.replayed l c.replay.new.self) same c.in_ok-replay.ensures.taken);
       gate = λ low.
           let before : c.loop-body.gate ≡ end_from 78 (take i bodies) =
@@ -55,11 +57,11 @@ returns-in_err-replay-clause-fault c =
     let p = err_from_is_err_and c.from_residual-in_err-replay.result
     c.from_residual-in_err-replay.ensures.1 in
     rw p.1 (subst (λ (fault : ReplayFault). NamesSpot (λ spot. end_from 78 bodies < 2 ^ 64
-    → HasBadRecord master c.args.mode c.args.first c.args.blocks bodies spot) fault) (sym p.2)
+    → HasBadRecord master c.args.mode c.args.first c.args.blocks (second_of bodies) spot) fault) (sym p.2)
     (next_stops bodies i [] c.loop-body-test.true master c.args.mode c.args.first c.args.blocks
     c.loop-body.replayed c.loop-body.invariant.replay c.loop-body.gate c.in_err-replay.field-0.0
     c.loop-body.invariant.gate
-    (subst (λ (l : List ℕ). NamesSpot (IsBadFor c.args.blocks
+    (subst (λ (l : List ℕ). NamesSpot (IsBadFor second_form c.args.blocks
     c.loop-body.replayed.catalogue c.loop-body.replayed.placed l c.loop-body.gate)
     c.in_err-replay.field-0.0) same c.in_err-replay.ensures.fault)))
 

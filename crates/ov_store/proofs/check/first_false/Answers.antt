@@ -1,5 +1,8 @@
 use Rattle.std.proofs.Common.{rules, ◌≡◌, ◌-◌, ◌<◌, Bool, true, false, length, sym, ◌∙◌, subst, arith}
 use Rattle.ov_disk.proofs.Runs.{looks_then, untouched}
+use Rattle.ov_record.specs.Forms.{Form}
+use Rattle.ov_history.specs.Briefs.{brief}
+use Rattle.ov_images.specs.Damage.{BeginsWith}
 use Rattle.ov_store.specs.Owners.{FollowsUpdate, masters}
 use Rattle.ov_store.proofs.Checking.{as_many, followed_all, followed_more, followed_none}
 use Rattle.ov_store.proofs.Checking.{found_false}
@@ -67,8 +70,9 @@ returns-then-not-branch-clause-checked g c = λ d read h history.
     (next d read) c.follow_record.new.state.catalogue c.offset.result
     (λ u begins text taken. subst (λ (b : Bool).
     FollowsUpdate k c.records.state.catalogue u c.follow_record.new.state.catalogue b) no
-    (c.in_ok-follow_record.ensures.followed d (c.body.ensures.untouched.reads_same ∙ again) u begins
-    text taken))
+    (c.in_ok-follow_record.ensures.followed d (c.body.ensures.untouched.reads_same ∙ again) u
+    (subst (λ (form : Form). BeginsWith form (brief u) c.as_slice-body.result.now)
+    (sym c.format_of-format.ensures) begins) text taken))
     (c.requires.log d read) (search rules)
 
 pub returns-then-not-branch-clause-call : goal.returns-then-not-branch-clause-call
@@ -105,7 +109,8 @@ records-preserved g c =
           (λ u begins text taken. subst (λ (b : Bool).
           FollowsUpdate k c.records.state.catalogue u c.follow_record.new.state.catalogue b) yes
           (c.in_ok-follow_record.ensures.followed d (c.body.ensures.untouched.reads_same ∙ again) u
-          begins text taken));
+          (subst (λ (form : Form). BeginsWith form (brief u) c.as_slice-body.result.now)
+          (sym c.format_of-format.ensures) begins) text taken));
       same = search rules;
       later = search rules;
     }

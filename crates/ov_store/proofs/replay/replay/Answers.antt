@@ -1,8 +1,10 @@
 use Rattle.std.proofs.Common.{rules, ◌≡◌, ◌<◌, length, sym, ◌∙◌, subst, arith}
 use Rattle.std.proofs.lemmas.Result.{err_from_is_err_and}
 use Rattle.ov_disk.proofs.Runs.{untouched, looks_then}
-use Rattle.ov_journal.specs.Book.{contents_of}
-use Rattle.ov_journal.proofs.Records.{all_first}
+use Rattle.ov_journal.proofs.Logs.{all_first}
+use Rattle.ov_record.specs.Forms.{Form}
+use Rattle.ov_placed.specs.Faults.{IsBadFor, NamesSpot}
+use Rattle.ov_placed.specs.Replaying.{TakesRecord}
 use Rattle.ov_store.specs.Replaying.{IsReplayFault}
 use Rattle.std.specs.Prelude.{Err}
 use Rattle.ov_store.specs.declared.fault.BeginFault.{BeginFault}
@@ -16,7 +18,7 @@ pub records-init : goal.records-init
 records-init g c = record {
   untouched = c.in_ok-blocks.ensures.untouched;
   made = replay_none c.args.surface.now.bytes c.args.mode c.args.first c.in_ok-blocks.blocks
-      (g.D.Disk.tells.reads c.args.disk.now) _ c.in_ok-store.ensures.catalogue
+      c.args.journal.now.step (g.D.Disk.tells.reads c.args.disk.now) _ c.in_ok-store.ensures.catalogue
       c.in_ok-store.ensures.placed;
   same = search rules;
   later = search rules;
@@ -56,7 +58,10 @@ returns-in_err-replay-clause-fault g c i is =
     (g.D.Disk.tells.reads c.args.disk.now) c.args.journal.now c.requires.log c.known.ensures
     c.records.i c.records.store c.as_slice.result.now c.offset-gate.result c.records.invariant.made
     c.offset-gate.ensures.place c.in_ok-blocks.ensures.blocks c.in_err-replay.field-0.0
-    c.in_err-replay.ensures.fault i is (next i is)))
+    (subst (λ (form : Form). NamesSpot (IsBadFor form c.in_ok-blocks.blocks
+    c.records.store.catalogue c.records.store.placed c.as_slice.result.now c.offset-gate.result)
+    c.in_err-replay.field-0.0) c.format_of-format.ensures c.in_err-replay.ensures.fault)
+    i is (next i is)))
 
 pub returns-in_err-replay-clause-untouched : goal.returns-in_err-replay-clause-untouched
 returns-in_err-replay-clause-untouched g c =
@@ -87,8 +92,11 @@ records-preserved g c =
       untouched = looks_then g.D.Disk.tells c.args.disk.now c.records.disk c.body.new.disk
           c.records.invariant.untouched c.body.ensures.untouched;
       made = replay_more c.args.surface.now.bytes c.args.mode c.args.first c.in_ok-blocks.blocks
-          (g.D.Disk.tells.reads c.args.disk.now) c.records.i c.records.store c.replay.new.self
-          c.as_slice.result.now c.records.invariant.made c.in_ok-replay.ensures.taken next;
+          c.args.journal.now.step (g.D.Disk.tells.reads c.args.disk.now) c.records.i c.records.store
+          c.replay.new.self c.as_slice.result.now c.records.invariant.made
+          (subst (λ (form : Form). TakesRecord c.args.surface.now.bytes form c.in_ok-blocks.blocks
+          c.records.store c.as_slice.result.now c.replay.new.self) c.format_of-format.ensures
+          c.in_ok-replay.ensures.taken) next;
       same = search rules;
       later = search rules;
     }

@@ -3,6 +3,7 @@ use Rattle.std.proofs.lemmas.Result.{IfErr-weaker, err_from_is_err_and}
 use Rattle.ov_history.specs.Catalogue.{Catalogue}
 use Rattle.ov_history.specs.Placed.{PlacedUpdate, placed_after}
 use Rattle.ov_images.specs.Extents.{UpdateTakesFree}
+use Rattle.ov_record.specs.Forms.{form_in}
 use Rattle.ov_state.specs.Changes.{applied}
 use Rattle.ov_state.specs.declared.state.TheConstants.{WIDTH}
 use Rattle.ov_placed.specs.Contents.{PlacedStore}
@@ -16,9 +17,9 @@ pub returns-in_err-change-clause-fault : goal.returns-in_err-change-clause-fault
 returns-in_err-change-clause-fault c =
     let s : PlacedStore = c.args.self.now in
     let p = err_from_is_err_and c.from_residual.result c.from_residual.ensures.1 in
-    rw p.1 (subst (λ (fault : ReplayFault). NamesSpot (IsBadFor c.args.blocks s.catalogue
+    rw p.1 (subst (λ (fault : ReplayFault). NamesSpot (IsBadFor (form_in c.args.format) c.args.blocks s.catalogue
     s.placed c.args.body.now c.args.gate) fault) (sym p.2)
-    (subst (λ (t : PlacedStore). NamesSpot (IsBadFor c.args.blocks t.catalogue t.placed
+    (subst (λ (t : PlacedStore). NamesSpot (IsBadFor (form_in c.args.format) c.args.blocks t.catalogue t.placed
     c.args.body.now c.args.gate) c.in_err-change.field-0.0) c.self.view_is
     (c.in_err-change.ensures.fault c.args.blocks c.self.inside.placed.items)))
 
@@ -53,9 +54,10 @@ returns-clause-taken c =
     u change) c.self.view_is c.in_ok-change.ensures.change in
     all_ok (new.catalogue ≡ applied d change) (new.placed ≡ placed_after d u places)
     (UpdateTakesFree c.args.blocks d places u)
-    (TakesRecord master c.args.blocks s c.args.body.now new) c.take.result
+    (TakesRecord master (form_in c.args.format) c.args.blocks s c.args.body.now new) c.take.result
     c.take.ensures.catalogue c.take.ensures.placed c.take.ensures.free
-    (takes_record WIDTH (64 * WIDTH) master c.args.blocks s u change is c.args.body.now
+    (takes_record WIDTH (64 * WIDTH) master c.args.blocks s u change is (form_in c.args.format)
+    c.args.body.now
     c.in_ok-change.ensures.record d places
     (c.in_ok-change.ensures.same ∙ ap (λ (t : PlacedStore). t.catalogue) c.self.view_is)
     (ap (λ (t : PlacedStore). t.placed) c.self.view_is) new)
@@ -71,8 +73,9 @@ returns-clause-fault c =
     let is = subst (λ (t : PlacedStore). IsPlacedChange {W = WIDTH} (64 * WIDTH) master t.catalogue
     u change) c.self.view_is c.in_ok-change.ensures.change in
     IfErr-weaker c.take.result (NamesSpot (UpdateIsTakenAt c.args.blocks d places u))
-    (NamesSpot (IsBadFor c.args.blocks s.catalogue s.placed c.args.body.now c.args.gate))
-    (bad_if_not_free WIDTH (64 * WIDTH) master c.args.blocks s u change is c.args.body.now
+    (NamesSpot (IsBadFor (form_in c.args.format) c.args.blocks s.catalogue s.placed c.args.body.now c.args.gate))
+    (bad_if_not_free WIDTH (64 * WIDTH) master c.args.blocks s u change is (form_in c.args.format)
+    c.args.body.now
     c.in_ok-change.ensures.record d places
     (c.in_ok-change.ensures.same ∙ ap (λ (t : PlacedStore). t.catalogue) c.self.view_is)
     (ap (λ (t : PlacedStore). t.placed) c.self.view_is) c.args.gate)

@@ -4,6 +4,7 @@ use Rattle.ov_base.specs.declared.key.Key.{Key}
 use Rattle.ov_disk.specs.Disk.{Told}
 use Rattle.ov_history.specs.Sealed.{SealedHistory}
 use Rattle.ov_images.specs.Images.{Keys}
+use Rattle.ov_journal.specs.Book.{contents_of}
 use Rattle.ov_store.specs.Opened.{Opened, Serves}
 use Rattle.ov_store.specs.Owners.{Checks, masters}
 use Rattle.ov_store.proofs.Checked.{checks_all}
@@ -47,11 +48,13 @@ returns-clause-checked g c =
     subst (λ (old : Opened g.row.D.Denot). IfOk c.first_false.result (λ found.
     (h : SealedHistory) → Serves g.D.Disk.tells h old
     → Told (g.D.Disk.tells.reads old.disk)
-    (λ _. Checks (masters c.args.base.now.bytes old.keys.surface) h found))) c.self.view_is
+    (λ i. Checks (masters c.args.base.now.bytes old.keys.surface) (contents_of i.book).records.step h
+    found))) c.self.view_is
     (subst (λ (base : Key). IfOk c.first_false.result (λ found.
     (h : SealedHistory) → Serves g.D.Disk.tells h s
     → Told (g.D.Disk.tells.reads s.disk)
-    (λ _. Checks (masters base.bytes s.keys.surface) h found))) c.new-base.ensures
+    (λ i. Checks (masters base.bytes s.keys.surface) (contents_of i.book).records.step h found)))
+    c.new-base.ensures
     (checks_all g.D.Disk.tells c.self.inside.disk k c.self.inside.placed c.self.inside.failed
     c.self.inside.journal c.self.invariant (masters c.new-base.result.bytes k.surface)
     c.first_false.result c.first_false.ensures.checked))
