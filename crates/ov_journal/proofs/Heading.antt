@@ -85,9 +85,9 @@ front_read x l n k is long =
 
 -- an open gate with a length that can't be
 pub bad_length : (bytes : List ℕ) → get_or bytes 0 0 ≡ 1 → (Fits (drop 1 bytes) → ⊥) → run_after 0 bytes ≡ record { bodies = []; bad = true }
-bad_length [] gate no = refl
-bad_length (g ∷ rest) gate no =
-    let none : is_length rest ≡ false = false_from_ne_true (is_length rest) (λ is. no (fits rest is)) in
+bad_length [] gate unfit = refl
+bad_length (g ∷ rest) gate unfit =
+    let none : is_length rest ≡ false = false_from_ne_true (is_length rest) (λ is. unfit (fits rest is)) in
     ap (λ (x : ℕ). run_after 0 (x ∷ rest)) gate ∙ (λ i. past_gate true (none i) (body_in rest) (run_after (length_in rest + 4) rest))
 
 -- ---- whether it is a step record

@@ -49,7 +49,7 @@ is_stepless book is none =
       due = λ k. is k && test k;
     }
 
-pub is_stepped : (book : List ℕ) (old : ℕ) → is_first (take 78 book) ≡ true → before_step (run_after 78 book).bodies ≡ old → old < length (run_after 78 book).bodies → IsStepped book
+abbrev pub is_stepped : (book : List ℕ) (old : ℕ) → is_first (take 78 book) ≡ true → before_step (run_after 78 book).bodies ≡ old → old < length (run_after 78 book).bodies → IsStepped book
 is_stepped book old is here lt =
     let run = run_after 78 book in
     let test : has_no_step run.bodies ≡ false = has_step run.bodies (omega (arith, here, lt)) in
