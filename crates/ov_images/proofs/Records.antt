@@ -3,8 +3,6 @@ use Rattle.std.proofs.Common.{◌≡◌, ℕ, suc, ◌+◌, ◌≤◌, Bool, tru
 use Rattle.std.proofs.Common.{length, Ok, refl, sym, ap, subst, ◌∙◌, arith, take, drop}
 use Rattle.std.proofs.Common.{length-append}
 use Rattle.std.proofs.lemmas.Bool.{le-ltb}
-use Rattle.std.proofs.lemmas.List.{length-take-le}
-use Rattle.std.proofs.lemmas.List.Sums.{prefix_len-le-length}
 use Rattle.std.specs.List.{AllByRecursion, flat_map, remove}
 use Rattle.std.specs.Prelude.{Option, Some, not}
 use Rattle.ov_fields.specs.Spelling.{u32}
@@ -22,6 +20,7 @@ use Rattle.ov_history.specs.Placed.{PlacedUpdate}
 use Rattle.ov_journal.specs.Book.{contents_of, is_first, records_in}
 use Rattle.ov_journal.specs.Runs.{Run, run_after}
 use Rattle.ov_journal.specs.Steps.{before_step, comes_before, is_step, without_step}
+use Rattle.ov_journal.proofs.Steps.{few_before}
 use Rattle.ov_images.specs.Records.{AllHaveForm, AllHaveFormFrom, HasRecordForm, StopsInRecord}
 use Rattle.ov_images.specs.Records.{StopsInUpdate, bodies_from, bodies_of, form_behind, form_if}
 use Rattle.ov_images.specs.Records.{record_spelling, stored}
@@ -39,22 +38,6 @@ room_behind step count = room_if (comes_before step count)
 -- behind as many records as come before a step record the form is the second
 pub second_behind : (old count : ℕ) → old ≤ count → form_behind (Some old) count ≡ second_form
 second_behind old count le = ap form_if (le-ltb count old le)
-
--- those before the one that is taken out stay
-before_removed : (bodies : List (List ℕ)) (place : ℕ) → place ≤ length bodies
-    → place ≤ length (remove bodies place)
-before_removed bodies place low =
-    omega (
-      arith,
-      length-append (take place bodies) (drop (suc place) bodies),
-      length-take-le place bodies low,
-    )
-
--- no more records come before the step record than there are beside it
-few_before : (bodies : List (List ℕ)) → before_step bodies ≤ length (without_step bodies)
-few_before bodies =
-    before_removed bodies (before_step bodies)
-    (prefix_len-le-length (λ (body : List ℕ). not (is_step body)) bodies)
 
 second_in : (first : Bool) (run : Run)
     → form_behind (records_in first run).step (length (records_in first run).bodies) ≡ second_form

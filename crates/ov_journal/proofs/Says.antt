@@ -5,7 +5,7 @@ use Rattle.std.specs.List.{remove}
 use Rattle.std.proofs.lemmas.Bool.{cases_Bool, eq-eqb}
 use Rattle.std.proofs.lemmas.List.Edits.{remove-append_left}
 use Rattle.ov_journal.specs.Book.{Records, Contents, contents_of, is_due, is_first, place_if, records_in, with_body}
-use Rattle.ov_journal.specs.Frames.{Layout, layout_of, with_record}
+use Rattle.ov_journal.specs.Frames.{Layout, with_record}
 use Rattle.ov_journal.specs.Runs.{Run, run_after, end_from}
 use Rattle.ov_journal.specs.Steps.{step_body, before_step, has_no_step}
 use Rattle.ov_journal.proofs.Steps.{remove_past, remove_last, no_step, a_step, before_stays, before_push, has_step, IsSplit, split_at_step, IsLow}

@@ -1,47 +1,22 @@
 -- The step record before a record, and what the two of them make of a Book's contents.
-use Rattle.std.proofs.Common.{◌≡◌, inl, inr, ℕ, ◌+◌, ◌-◌, List, [], ◌∷◌, ◌++◌, length, Bool, true, false, Option, Some, refl, sym, ◌∙◌, ap, subst, arith}
+use Rattle.std.proofs.Common.{◌≡◌, inl, inr, ℕ, ◌+◌, List, Bool, true, false, Option, Some, refl, sym, ◌∙◌, ap, subst, arith}
 use Rattle.ov_disk.specs.Disk.{Image, OnlyBook, Told}
 use Rattle.ov_disk.specs.Tells.{DiskTells}
 use Rattle.ov_disk.proofs.Runs.{started, then_on, weaker}
 use Rattle.ov_journal.specs.Book.{contents_of, is_due, with_body}
-use Rattle.ov_journal.specs.Frames.{EndsAt, IsLaidOut, IsReady, IsWithoutOrWith, Layout, MakesReady, Puts, PutsAtMost, SaysNoMore, SaysTheSame, layout_of}
+use Rattle.ov_journal.specs.Frames.{EndsAt, IsReady, IsWithoutOrWith, Layout, MakesReady, Puts, PutsAtMost, SaysNoMore, SaysTheSame, layout_of}
 use Rattle.ov_journal.specs.Lasting.{AddsAtMost, Lasts}
-use Rattle.ov_journal.specs.Log.{IsBeforeOrAfter, Log, appended}
-use Rattle.ov_journal.specs.Making.{awaits, made_behind, old_of}
+use Rattle.ov_journal.specs.Log.{IsBeforeOrAfter, Log}
 use Rattle.ov_journal.specs.Runs.{end_from}
-use Rattle.ov_journal.specs.Steps.{step_body, step_size}
-use Rattle.ov_journal.specs.declared.step.Step.{Step}
-use Rattle.ov_journal.specs.declared.step.Step.TheVariants.{Never, Due, Made}
+use Rattle.ov_journal.specs.Steps.{step_body}
 use Rattle.ov_journal.proofs.Says.{contents_in, due_in, says_record, says_step, stays_settled, step_settles}
 use Rattle.ov_journal.proofs.Steps.{end_push}
 
--- ---- what a journal knows of its step record once it stands
-
-pub settled : (step : Step) (count : ℕ) → awaits (made_behind step count) ≡ false
-settled Never count = refl
-settled Due count = refl
-settled (Made old) count = refl
-
-pub same_old : (step : Step) (count more : ℕ) → old_of (made_behind step count) more ≡ old_of step count
-same_old Never count more = refl
-same_old Due count more = refl
-same_old (Made old) count more = refl
+-- ---- a journal by its parts
 
 -- the journal with these parts
 abbrev pub log_of : List ℕ → ℕ → Bool → ℕ → ℕ → Option ℕ → Bool → Log
 log_of offsets end bad room longest step due = record { offsets = offsets; end = end; bad = bad; room = room; longest = longest; step = step; due = due }
-
--- the journal with one record more
-pub is_appended : (offsets items : List ℕ) (end gate last n room longest count : ℕ) (bad : Bool) (step made : Step) → gate ≡ end + step_size (awaits step) → items ≡ offsets ++ gate ∷ []
-    → last ≡ gate + (5 + n) → made ≡ made_behind step count → count ≡ length offsets
-    → log_of items last bad (room - 1) longest (old_of made (length items)) (awaits made) ≡ appended n (log_of offsets end bad room longest (old_of step (length offsets)) (awaits step))
-is_appended offsets items end gate last n room longest count bad step made is_gate is_items is_last is_made is_count =
-    let items_are : items ≡ offsets ++ (end + step_size (awaits step)) ∷ [] = is_items ∙ ap (λ (g : ℕ). offsets ++ g ∷ []) is_gate in
-    let end_is : last ≡ end + step_size (awaits step) + 5 + n = omega (arith, is_last, is_gate) in
-    let step_is : old_of made (length items) ≡ old_of step (length offsets) =
-    ap (λ (s : Step). old_of s (length items)) is_made ∙ same_old step count (length items) ∙ ap (old_of step) is_count in
-    let due_is : awaits made ≡ false = ap awaits is_made ∙ settled step count in
-    λ k. record { offsets = items_are k; end = end_is k; bad = bad; room = room - 1; longest = longest; step = step_is k; due = due_is k }
 
 module _ {D : Type 0} (tells : DiskTells D) where
   -- each image has whole records and ends at this gate, with nothing pending

@@ -1,6 +1,7 @@
 -- Where the step record is among the bodies of a store, and where it puts the gates.
 use Rattle.std.proofs.Common.{◌≡◌, inl, inr, ℕ, zero, suc, ◌+◌, ◌-◌, ◌≤◌, ◌<◌, List, [], ◌∷◌, ◌++◌, length, take, drop, get_or, Bool, true, false, cond, ◌==◌, leb, Option, Some, None, refl, sym, ◌∙◌, ap, arith, append_assoc, length-append, take-append-drop}
 use Rattle.std.specs.List.{remove}
+use Rattle.std.specs.Prelude.{not}
 use Rattle.std.proofs.lemmas.Bool.{eqb-true, eqb-false, ne_eqb, le-leb, lt-leb}
 use Rattle.std.proofs.lemmas.Bool.Decides.{leb_tells, eqb_tells}
 use Rattle.std.proofs.lemmas.List.{append-nil, drop_all, drop_at, drop-append-le, drop_more, length-take, length-take-le, take_all, take_at, take-append-le, get_or_append_left, get_or-append_right, get_or-take, get_or-drop}
@@ -8,7 +9,7 @@ use Rattle.std.proofs.lemmas.List.Edits.{remove-append_right}
 use Rattle.std.proofs.lemmas.List.Folds.{position_or_len_push}
 use Rattle.std.proofs.lemmas.List.Sums.{passes_at_first, prefix_len-le-length}
 use Rattle.ov_journal.specs.Runs.{gates_from, end_from}
-use Rattle.ov_journal.specs.Steps.{step_body, is_step, before_step, has_no_step, step_size, gate_behind, gates_of, comes_next}
+use Rattle.ov_journal.specs.Steps.{step_body, is_step, before_step, without_step, has_no_step, step_size, gate_behind, gates_of, comes_next}
 use Rattle.ov_journal.proofs.Reading.{end_from-size}
 
 -- ---- an entry taken out of a list
@@ -25,10 +26,26 @@ pub step_size-le : (made : Bool) → step_size made ≤ 6
 step_size-le true = omega arith
 step_size-le false = omega arith
 
+-- those before the one that is taken out stay
+before_removed : (bodies : List (List ℕ)) (place : ℕ) → place ≤ length bodies
+    → place ≤ length (remove bodies place)
+before_removed bodies place low =
+    omega (
+      arith,
+      length-append (take place bodies) (drop (suc place) bodies),
+      length-take-le place bodies low,
+    )
+
 -- ---- the first step record
 
 pub before-le : (bodies : List (List ℕ)) → before_step bodies ≤ length bodies
 before-le bodies = prefix_len-le-length _ bodies
+
+-- no more records come before the step record than there are beside it
+pub few_before : (bodies : List (List ℕ)) → before_step bodies ≤ length (without_step bodies)
+few_before bodies =
+    before_removed bodies (before_step bodies)
+    (prefix_len-le-length (λ (body : List ℕ). not (is_step body)) bodies)
 
 pub no_step : (bodies : List (List ℕ)) → has_no_step bodies ≡ true → before_step bodies ≡ length bodies
 no_step bodies is = eqb-true (before_step bodies) (length bodies) is

@@ -1,4 +1,4 @@
-use Rattle.std.proofs.Common.{◌≡◌, List, ℕ, take, drop, sym, ◌∙◌, ap, arith}
+use Rattle.std.proofs.Common.{List, ℕ, take, sym, ◌∙◌, ap, arith}
 use Rattle.std.specs.Int.{w32, from_be_bytes}
 use Rattle.std.proofs.lemmas.Bool.{and_parts}
 use Rattle.ov_journal.proofs.Heading.{begins_in, is_none, is_one}
