@@ -18,6 +18,24 @@ fn two_users() -> &'static Row<'static> {
     &TWO_USERS
 }
 
+// The first bytes of the Book of two users, of the format with this digit, and these behind them.
+fn front_and(
+    rt: &impl Abort,
+    alloc: Global,
+    format: u8,
+    front: usize,
+    end: &[u8],
+) -> Result<Vec<u8>, AllocError> {
+    let words = words(alloc, &["run", "full"])?;
+    let disk = left_by(rt, alloc, &words, two_users());
+    let book = changed(alloc, disk.book(), 8, format);
+    drop(disk);
+    let mut book = book?;
+    book.truncate(front);
+    book.extend_from_slice(end)?;
+    Ok(book)
+}
+
 // The Book of two users, of the format with this digit. These bytes stand where its end gate was, at
 // 100.
 fn book_of_two(
@@ -26,14 +44,7 @@ fn book_of_two(
     format: u8,
     end: &[u8],
 ) -> Result<Vec<u8>, AllocError> {
-    let words = words(alloc, &["run", "full"])?;
-    let disk = left_by(rt, alloc, &words, two_users());
-    let book = changed(alloc, disk.book(), 8, format);
-    drop(disk);
-    let mut book = book?;
-    book.truncate(100);
-    book.extend_from_slice(end)?;
-    Ok(book)
+    front_and(rt, alloc, format, 100, end)
 }
 
 // Asserts that a run over the first Book answers a script so, and leaves the second.
@@ -150,6 +161,43 @@ fn steps_that_are_damage(rt: HostRuntime) -> Result<(), Fail> {
     assert_damaged(&rt, alloc, b'1', longer, b"error damaged book 105\n")
 }
 
+// Behind a step record, whose gate is at 100: a length that can't be, at its own place; and an
+// enrolment of a user who is there, at its gate.
+#[test]
+fn damage_behind_a_step(rt: HostRuntime) -> Result<(), Fail> {
+    let alloc = rt.alloc();
+    let empty = b"\x01\0\0\0\x01\x05\x01\0\0\0\0";
+    assert_damaged(&rt, alloc, b'1', empty, b"error damaged book 107\n")?;
+    let again = b"\x01\0\0\0\x01\x05\x01\0\0\0\x07\x01\x05alice\0";
+    assert_damaged(&rt, alloc, b'1', again, b"error damaged book 106\n")
+}
+
+static FIRST_USER: Row<'static> = Row {
+    script: b"enrol a\n",
+    status: 0,
+    lines: b"ok 1\nend epoch 1\n",
+};
+
+fn first_user() -> &'static Row<'static> {
+    &FIRST_USER
+}
+
+// A store of the first format without a record: the step record is its first.
+#[test]
+fn a_store_without_records(rt: HostRuntime) -> Result<(), Fail> {
+    let alloc = rt.alloc();
+    let before = front_and(&rt, alloc, b'1', 78, END)?;
+    let behind = front_and(
+        &rt,
+        alloc,
+        b'1',
+        78,
+        b"\x01\0\0\0\x01\x05\x01\0\0\0\x03\x01\x01a\0",
+    )?;
+    assert_left(&rt, alloc, before, first_user(), &behind)?;
+    Ok(())
+}
+
 // The Book of one user and one file of one byte under these keys, in `full`, as a program of the first
 // format left it: its set has 32 bytes. Its Blobs is that of a store of the second format.
 const FIRST_FILE: &[u8] = b"\x01OVERENC1\0\0\0\0\0\
@@ -193,6 +241,23 @@ fn first_file_stepped(alloc: Global) -> Result<Vec<u8>, AllocError> {
     Ok(front)
 }
 
+// The gate of the second file's record is at 174, and its tag begins at 312. With another tag it isn't
+// its owner's.
+fn assert_tag_counts(rt: &impl Abort, alloc: Global, disk: &MemDisk) -> Result<(), Fail> {
+    assert!(rt; disk.book().len() == 353);
+    let byte = disk.book()[312] ^ 1;
+    let book = changed(alloc, disk.book(), 312, byte)?;
+    assert_shut(
+        rt,
+        alloc,
+        "full",
+        &book,
+        disk.blobs(),
+        8,
+        b"error damaged book 174\n",
+    )
+}
+
 /// A file that was created in the first format, and one that is created in the second: the records of
 /// both have their own sets, of 32 and of 128 bytes.
 #[test]
@@ -206,8 +271,9 @@ fn files_of_both_formats(rt: HostRuntime) -> Result<(), Fail> {
     assert_eq!(rt; disk.book().len(), 353);
     assert!(rt; disk.book().starts_with(front.as_slice()));
     assert_row(&rt, alloc, &words, 4096, next(), &mut disk);
+    let damaged = assert_tag_counts(&rt, alloc, &disk);
     drop(disk);
-    Ok(())
+    damaged
 }
 
 // A place in that Book, the byte that is put there, and the line of a run over it. The number of

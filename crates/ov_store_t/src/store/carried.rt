@@ -109,6 +109,38 @@ fn a_stop_after_each_call_of_that_update(rt: HostRuntime) {
     }
 }
 
+/// The disk of two users, which fails at this call of the update that carries it over.
+fn failing_at(rt: &impl Abort, alloc: Global, call: u64) -> MemDisk {
+    let store = begun(alloc, two_users(rt, alloc), Mode::Delta).expect(rt, "a store");
+    let opened = store.close();
+    let mut disk = two_users(rt, alloc);
+    disk.fail_at(opened.calls().saturating_add(call))
+        .expect(rt, "memory");
+    drop(opened);
+    disk
+}
+
+/// Where that call fails the update does, and is made once the store is opened again.
+fn expect_fault_at(rt: &impl Abort, alloc: Global, call: u64) {
+    let disk = failing_at(rt, alloc, call);
+    let mut store = begun(alloc, disk, Mode::Delta).expect(rt, "a store");
+    assert_eq!(rt; make(rt, alloc, &mut store, 3), Err(StoreFault::Disk));
+    assert_eq!(rt; make(rt, alloc, &mut store, 3), Err(StoreFault::Failed));
+    let disk = store.close();
+    for tear in [Tear::Old, Tear::New, Tear::Fill(0), Tear::Fill(255)] {
+        expect_carried_once(rt, alloc, image(rt, &disk, disk.calls(), tear));
+    }
+    drop(disk);
+}
+
+/// It makes eight calls: four for the step record, and four for its own.
+#[test]
+fn a_fault_at_each_call_of_that_update(rt: HostRuntime) {
+    for call in 0..8 {
+        expect_fault_at(&rt, rt.alloc(), call);
+    }
+}
+
 // ---- a file
 
 /// The base master and the surface master of the store with a file. No clause says their bytes.
