@@ -1,7 +1,7 @@
 mod Blobs
 mod Books
+mod BothFormats
 mod Damaged
-mod Formats
 mod OneFile
 mod ThreeFiles
 mod UsedAgain
