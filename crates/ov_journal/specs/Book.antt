@@ -5,7 +5,7 @@ use Rattle.std.specs.Prelude.{Bool, true, false, ◌==◌, ◌&&◌, codes, Opti
 use Rattle.std.specs.Int.{w32, to_be_bytes}
 use Rattle.ov_base.specs.Modes.{mode_byte}
 use Rattle.ov_journal.specs.Runs.{Run, run_after, end_from}
-use Rattle.ov_journal.specs.Steps.{before_step, without_step, has_no_step}
+use Rattle.ov_journal.specs.Steps.{before_step, step_body, without_step, has_no_step}
 use Rattle.ov_journal.specs.declared.header.Header.{Header}
 
 -- the formats of stores
@@ -85,6 +85,16 @@ contents_of book = record {
 -- one.
 abbrev pub is_due : List ℕ → Bool
 is_due book = is_first (take 78 book) && has_no_step (run_after 78 book).bodies
+
+-- A step record behind the last record of a whole store of the first format, where none stood
+-- before, changes nothing of what Book says.
+abbrev pub StepSaysNothing : Type 0
+StepSaysNothing =
+    (book more : List ℕ) → is_due book ≡ true → (run_after 78 book).bad ≡ false
+    → take 78 more ≡ take 78 book
+    → run_after 78 more
+    ≡ record { bodies = (run_after 78 book).bodies ++ step_body ∷ []; bad = false }
+    → contents_of more ≡ contents_of book
 
 -- a store with this header, this many bodies before its step record, and these bodies, whole
 abbrev pub born : Header → Option ℕ → List (List ℕ) → Contents

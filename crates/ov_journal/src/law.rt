@@ -1,5 +1,5 @@
 //! What a Book can be.
-ghost use Rattle.ov_journal.specs.Book.{HeadersAreSpelledApart};
+ghost use Rattle.ov_journal.specs.Book.{HeadersAreSpelledApart, StepSaysNothing};
 ghost use Rattle.ov_journal.specs.Standing.{IsOneThing};
 
 /// No Book is unborn and a store, and none is a store with a header and a store without a mode. So
@@ -12,4 +12,10 @@ pub fn a_book_is_one_thing()
 /// Two headers with the same bytes are the same.
 pub fn headers_are_spelled_apart()
     ensures { HeadersAreSpelledApart }
+{}
+
+/// A step record behind the last record of a store of the first format changes nothing of what the
+/// store says. So a stop between the two appends of the first update leaves the store from before.
+pub fn a_step_record_says_nothing()
+    ensures { StepSaysNothing }
 {}

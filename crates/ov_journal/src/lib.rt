@@ -49,4 +49,4 @@ pub use fault::{CheckFault, JournalFault};
 pub use found::Found;
 pub use header::Header;
 pub use journal::Journal;
-pub use law::{a_book_is_one_thing, headers_are_spelled_apart};
+pub use law::{a_book_is_one_thing, a_step_record_says_nothing, headers_are_spelled_apart};
