@@ -3,5 +3,6 @@ mod Books
 mod BothFormats
 mod Damaged
 mod OneFile
+mod StepPlaces
 mod ThreeFiles
 mod UsedAgain
