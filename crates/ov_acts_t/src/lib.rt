@@ -4,3 +4,5 @@
 
 #[cfg(test)]
 mod acts;
+#[cfg(test)]
+mod limits;

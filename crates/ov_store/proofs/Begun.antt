@@ -22,6 +22,7 @@ use Rattle.ov_placed.specs.Contents.{PlacedStore}
 use Rattle.ov_store.specs.Beginning.{FindsHistory, IsOpened}
 use Rattle.ov_store.specs.Opened.{Serves, open_with}
 use Rattle.ov_store.specs.Replaying.{IsReplay}
+use Rattle.ov_store.proofs.Carrying.{never_born}
 use Rattle.ov_store.proofs.Histories.{IsOfStore, choose, safe_of, serves_of}
 
 -- the format of a store's header is the one that its magic says
@@ -113,4 +114,5 @@ module _ {D : Type 0} (tells : DiskTells D) (d0 d1 : D) (quiet : IsUntouched tel
       found = finds;
       told = λ i read. (i, quiet.reads_same ∙ read);
       same = λ i read born. quiet.reads_same ∙ read;
+      fresh = λ i read un. absurd (never_born i.book un (is i read).0.magic);
     }

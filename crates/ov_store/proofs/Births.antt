@@ -10,7 +10,7 @@ use Rattle.ov_history.specs.Catalogue.{Catalogue, empty_catalogue}
 use Rattle.ov_history.specs.Placed.{IsReplayedTo, PlacedHistory, blank_placed}
 use Rattle.ov_history.specs.Sealed.{blank}
 use Rattle.ov_history.proofs.Placed.{replays_begin}
-use Rattle.ov_journal.specs.Book.{contents_of, born}
+use Rattle.ov_journal.specs.Book.{Contents, contents_of, born, is_first}
 use Rattle.ov_journal.specs.Log.{Log, IsUnbornOrEmpty, IsKept, Stands}
 use Rattle.ov_journal.specs.Standing.{IsUnborn}
 use Rattle.ov_images.specs.Images.{HasRecords, Keys, Keeps, KeepsAt, IsImageOf, header_of}
@@ -113,4 +113,5 @@ module _ {D : Type 0} (tells : DiskTells D)
       serves = serves_none;
       empty = is;
       told = λ i read. ((kept i read).now, (kept i read).is_read);
+      fresh = λ i read. ap (λ (c : Contents). is_first c.head) (kept_now i read).0;
     }

@@ -180,6 +180,13 @@ module _ {D : Type 0} (tells : DiskTells D) (k : Keys) (d0 d1 : D) (store : Plac
       (leaves.leaves i read)
       (λ x goes. either g x (goes k p g u refl (may g serves i read)).0))
 
+  pub leaves_step : Told (tells.reads d0) (λ i. LeavesOnly tells d0 d1 (HasSameStep i))
+  leaves_step i read =
+      let some = safe.some_history in
+      weaker tells d0 d1 (KeepsOrGoesOn (64 * WIDTH) k.surface store prepared i) (HasSameStep i)
+      (leaves.leaves i read)
+      (λ x goes. (goes k p some.0 u refl (may some.0 some.2 i read)).2)
+
   -- ---- once it is made
 
   module _ (new : PlacedStore)

@@ -1,11 +1,12 @@
 -- An update of an open store, for each clause of its contract.
 use Rattle.std.proofs.Common.{◌≡◌, inl, ℕ, Bool, true, false, Ok, Err, refl, sym, ◌∙◌, ap, subst}
-use Rattle.ov_disk.specs.Disk.{Told}
+use Rattle.ov_disk.specs.Disk.{Image, Only, Told}
 use Rattle.ov_disk.specs.Moments.{LeavesOnly}
 use Rattle.ov_disk.specs.Tells.{DiskTells}
 use Rattle.ov_disk.proofs.Runs.{started}
 use Rattle.ov_history.specs.Catalogue.{Catalogue}
 use Rattle.ov_images.specs.Images.{KeepsEither, Keys}
+use Rattle.ov_journal.specs.Book.{contents_of}
 use Rattle.ov_journal.specs.Log.{HasSameRecords, Log, Stands, appended}
 use Rattle.ov_moves.specs.Placing.{LiesIn}
 use Rattle.ov_moves.specs.Runs.{LeavesAtMost}
@@ -14,10 +15,12 @@ use Rattle.ov_placed.specs.Contents.{HoldsFiles, HoldsTheSame, PlacedStore}
 use Rattle.ov_placed.specs.Updating.{IsPrepared, KeepsOrGoesOn, MakesUpdate}
 use Rattle.ov_placed.specs.declared.preparing.Prepared.{Prepared}
 use Rattle.ov_record.specs.Updates.{SealedUpdate}
+use Rattle.ov_updating.specs.Updating.{HasSameStep}
+use Rattle.ov_store.specs.Carrying.{IsCarriedOver, LeavesStep}
 use Rattle.ov_store.specs.Opened.{IsSafe, Opened}
 use Rattle.ov_store.specs.Updating.{LeavesEither, ServesMore, Updates}
 use Rattle.ov_store.specs.declared.fault.StoreFault.TheVariants.{Disk as DiskFailed}
-use Rattle.ov_store.proofs.Going.{catalogue_more, leaves_either, lies_in, safe_failed, safe_more}
+use Rattle.ov_store.proofs.Going.{catalogue_more, leaves_either, leaves_step, lies_in, safe_failed, safe_more}
 use Rattle.ov_store.proofs.Going.{safe_same, same_view, serves_more, stored_failed, stored_more}
 use Rattle.ov_store.proofs.Looking.{store_of}
 
@@ -49,6 +52,11 @@ module _ {D : Type 0} (tells : DiskTells D) (k : Keys) (d0 d1 : D) (f : Bool) (s
       subst (λ (s : Opened D). LeavesEither tells u s later) view
       (leaves_either tells k d0 d1 mid log still_safe u prepared prepared_is leaves later disk_is)
 
+  pub step_kept : (later : Opened D) → later.disk ≡ d1 → LeavesStep tells before later
+  step_kept later disk_is ok i read =
+      subst (λ (d : D). LeavesOnly tells d0 d (HasSameStep i)) (sym disk_is)
+      (leaves_step tells k d0 d1 mid log still_safe u prepared prepared_is leaves i read)
+
   module _ (new : PlacedStore) (made : MakesUpdate tells (64 * WIDTH) k.surface mid prepared d0 d1 new) where
     abbrev after : Opened D
     after = store_of tells d1 k new f
@@ -65,6 +73,13 @@ module _ {D : Type 0} (tells : DiskTells D) (k : Keys) (d0 d1 : D) (f : Bool) (s
         subst (λ (b : Bool). IsSafe tells later new (store_of tells d1 k new b)) (sym sound)
         (safe_more tells k d0 d1 mid log still_safe u prepared prepared_is leaves new made later count
         has stands)
+
+    pub carried : (later : Log) (count : ℕ) → HasSameRecords (appended count log) later
+        → Stands tells later d1 → IsCarriedOver tells before after
+    carried later count has stands i read now read_now =
+        let was = (safe.stands sound i read).0 in
+        let is_now = (stands now read_now).0 in
+        (sym is_now.step ∙ has.step ∙ was.step, sym is_now.due ∙ has.due)
 
     pub answered : (epoch : ℕ) → epoch ≡ new.catalogue.epoch → Updates u before after (Ok epoch)
     answered epoch epoch_is =
@@ -105,6 +120,14 @@ not_begun {D} tells u s later same g serves sound i read =
     subst (λ (d : D). LeavesOnly tells s.disk d (KeepsEither s.keys g u)) (sym same)
     (started tells s.disk (KeepsEither s.keys g u)
     (λ x left. inl (serves.disk sound i read x left)))
+
+pub step_not_begun : {D : Type 0} (tells : DiskTells D) (s later : Opened D)
+    → (s.failed ≡ false → Told (tells.reads s.disk) (λ i. Only i (tells.may_leave s.disk)))
+    → later.disk ≡ s.disk → LeavesStep tells s later
+step_not_begun {D} tells s later settled same sound i read =
+    subst (λ (d : D). LeavesOnly tells s.disk d (HasSameStep i)) (sym same)
+    (started tells s.disk (HasSameStep i)
+    (λ x left. ap (λ (j : Image). (contents_of j.book).records.step) (settled sound i read x left)))
 
 -- The store is as it was but for its room, and so is its disk.
 module _ {D : Type 0} (tells : DiskTells D) (k : Keys) (d0 : D) (f : Bool) (log : Log)

@@ -1,8 +1,11 @@
 //! Stores of the first format, which their next update carries over to the second.
-ghost use Rattle.std.specs.Prelude.{◌≡◌, ◌↔◌, IfOk, IsErrOf, IsTrue, OnOk, false};
+ghost use Rattle.std.specs.Prelude.{◌≡◌, ◌↔◌, IfErr, IfOk, IsErrOf, IsTrue, OnOk, false};
+ghost use Rattle.ov_base.specs.declared.mode.Mode.{Mode};
 ghost use Rattle.ov_disk.specs.Calls.{IsDiskCall};
 ghost use Rattle.ov_disk.specs.Disk.{Told};
 ghost use Rattle.ov_disk.specs.Moments.{IsUntouched, LeavesOnly};
+ghost use Rattle.ov_images.specs.Images.{Keys};
+ghost use Rattle.ov_store.specs.Beginning.{IsBeginFault};
 ghost use Rattle.ov_store.specs.Carrying.{IsToBeCarriedOver};
 ghost use Rattle.ov_store.specs.declared.fault.BeginFault.TheVariants.{Disk as DiskFailed};
 
@@ -18,6 +21,9 @@ use std::alloc::Global;
 pub fn is_to_be_carried_over<D: Disk>(alloc: Global, disk: &mut D) -> Result<bool, BeginFault>
     ensures says { IfOk result (λ due. Told (D.tells.reads disk.old) (λ i.
         IsTrue due ↔ IsToBeCarriedOver i.book)) }
+    // No keys and no mode are known, so the cause is one whatever they are.
+    ensures fault { Told (D.tells.reads disk.old) (λ i.
+        IfErr result (λ fault. (k : Keys) (mode : Mode) → IsBeginFault k mode i fault)) }
     // Nothing is written, whatever is answered.
     ensures any_moment { LeavesOnly D.tells disk.old disk.new (D.tells.may_leave disk.old) }
     ensures untouched { OnOk result (IsUntouched D.tells disk.old disk.new) }
@@ -35,7 +41,7 @@ pub fn is_to_be_carried_over<D: Disk>(alloc: Global, disk: &mut D) -> Result<boo
 
 impl<D: Disk> Store<D> {
     /// Whether the next update carries the store over to the second format: it is of the first, and
-    /// none did so yet. After a fault of the disk it is as before the update that failed.
+    /// none did so yet.
     pub fn is_to_be_carried_over(&self) -> bool
         ensures { self.now.failed ≡ false → Told (D.tells.reads self.now.disk) (λ i.
             IsTrue result ↔ IsToBeCarriedOver i.book) }

@@ -4,6 +4,7 @@ ghost use Rattle.ov_disk.specs.Disk.{StaysTold};
 ghost use Rattle.ov_record.specs.Updates.{sealed_update};
 ghost use Rattle.ov_history.specs.Briefs.{brief};
 ghost use Rattle.ov_state.specs.Plans.{IsFitting};
+ghost use Rattle.ov_store.specs.Carrying.{IsCarriedOver, LeavesStep};
 ghost use Rattle.ov_store.specs.Updating.{GoesOnAfter, IsCallOf, LeavesEither, ServesMore, Updates};
 ghost use Rattle.ov_store.specs.declared.fault.StoreFault.TheVariants.{Disk};
 
@@ -32,6 +33,10 @@ impl<D: Disk> Store<D> {
         // At `Ok` the history with the update lasts.
         ensures served { OnOk result
             (ServesMore D.tells (sealed_update update) self.old self.new) }
+        // Whatever a crash leaves is of the format from before. At `Ok` a store of the first format
+        // has a step record, in front of its first record in the second form.
+        ensures step { LeavesStep D.tells self.old self.new }
+        ensures carried { OnOk result (IsCarriedOver D.tells self.old self.new) }
         // A disk that told its bytes still tells them, whatever is answered.
         ensures told { StaysTold (D.tells.reads self.old.disk) (D.tells.reads self.new.disk) }
 

@@ -1,14 +1,16 @@
-use Rattle.std.proofs.Common.{◌≡◌, true, Ok, Err, refl, ◌∙◌, ap, subst}
+use Rattle.std.proofs.Common.{◌≡◌, true, false, Ok, Err, refl, ◌∙◌, ap, subst}
 use Rattle.ov_images.specs.Images.{Keys}
 use Rattle.ov_record.specs.Updates.{sealed_update}
 use Rattle.ov_history.specs.Catalogue.{Catalogue}
+use Rattle.ov_disk.specs.Disk.{Only, Told}
+use Rattle.ov_store.specs.Carrying.{IsCarriedOver, LeavesStep}
 use Rattle.ov_store.specs.Opened.{Opened}
 use Rattle.ov_store.specs.Updating.{LeavesEither, ServesMore, Updates}
 use Rattle.ov_store.specs.declared.fault.StoreFault.TheVariants.{Disk as DiskFailed}
 use Rattle.ov_store.proofs.Going.{safe_same}
 use Rattle.ov_store.proofs.Looking.{store_of}
-use Rattle.ov_store.proofs.Made.{answered, any_moment, faulted, held_lies, not_begun, safe_after}
-use Rattle.ov_store.proofs.Made.{safe_after_fault, safe_unmade, served}
+use Rattle.ov_store.proofs.Made.{answered, any_moment, carried, faulted, held_lies, not_begun, safe_after}
+use Rattle.ov_store.proofs.Made.{safe_after_fault, safe_unmade, served, step_kept, step_not_begun}
 use Rattle.ov_store.proofs.store.Store.update.Goals as goal
 
 pub invariant_of-self : goal.invariant_of-self
@@ -158,3 +160,69 @@ returns-clause-served g c =
     c.self.inside.journal c.self.inside.placed c.prepare.new.self c.prepare.ensures.same
     c.self.invariant (sealed_update c.args.update) c.in_ok-prepared.prepared
     c.in_ok-prepared.ensures.prepared c.update.ensures.any_moment c.update.new.self c.in-Ok.ensures.made)
+
+pub returns-in_err-prepared-clause-step : goal.returns-in_err-prepared-clause-step
+returns-in_err-prepared-clause-step g c =
+    let k : Keys = record {
+      base_check = c.self.inside.base_check;
+      surface = c.self.inside.surface.bytes;
+    } in
+    step_not_begun g.D.Disk.tells c.args.self.now
+    (store_of g.D.Disk.tells c.self.inside.disk k c.prepare.new.self c.self.inside.failed)
+    (subst (λ (s : Opened g.row.D.Denot). s.failed ≡ false → Told (g.D.Disk.tells.reads s.disk)
+    (λ i. Only i (g.D.Disk.tells.may_leave s.disk))) c.self.view_is c.self.invariant.settled)
+    (ap (λ (s : Opened g.row.D.Denot). s.disk) c.self.view_is)
+
+pub returns-in-Err-Memory-clause-step : goal.returns-in-Err-Memory-clause-step
+returns-in-Err-Memory-clause-step g c =
+    let k : Keys = record {
+      base_check = c.self.inside.base_check;
+      surface = c.self.inside.surface.bytes;
+    } in
+    let later : Opened g.row.D.Denot = store_of g.D.Disk.tells c.update.new.disk k c.update.new.self c.self.inside.failed in
+    subst (λ (s : Opened g.row.D.Denot). LeavesStep g.D.Disk.tells s later) c.self.view_is
+    (step_kept g.D.Disk.tells k c.self.inside.disk c.update.new.disk c.self.inside.failed c.if-self.false
+    c.self.inside.journal c.self.inside.placed c.prepare.new.self c.prepare.ensures.same
+    c.self.invariant (sealed_update c.args.update) c.in_ok-prepared.prepared
+    c.in_ok-prepared.ensures.prepared c.update.ensures.any_moment later refl)
+
+pub returns-in-Err-Disk-clause-step : goal.returns-in-Err-Disk-clause-step
+returns-in-Err-Disk-clause-step g c =
+    let k : Keys = record {
+      base_check = c.self.inside.base_check;
+      surface = c.self.inside.surface.bytes;
+    } in
+    let later : Opened g.row.D.Denot = store_of g.D.Disk.tells c.update.new.disk k c.update.new.self true in
+    subst (λ (s : Opened g.row.D.Denot). LeavesStep g.D.Disk.tells s later) c.self.view_is
+    (step_kept g.D.Disk.tells k c.self.inside.disk c.update.new.disk c.self.inside.failed c.if-self.false
+    c.self.inside.journal c.self.inside.placed c.prepare.new.self c.prepare.ensures.same
+    c.self.invariant (sealed_update c.args.update) c.in_ok-prepared.prepared
+    c.in_ok-prepared.ensures.prepared c.update.ensures.any_moment later refl)
+
+pub returns-clause-step : goal.returns-clause-step
+returns-clause-step g c =
+    let k : Keys = record {
+      base_check = c.self.inside.base_check;
+      surface = c.self.inside.surface.bytes;
+    } in
+    let later : Opened g.row.D.Denot = store_of g.D.Disk.tells c.update.new.disk k c.update.new.self c.self.inside.failed in
+    subst (λ (s : Opened g.row.D.Denot). LeavesStep g.D.Disk.tells s later) c.self.view_is
+    (step_kept g.D.Disk.tells k c.self.inside.disk c.update.new.disk c.self.inside.failed c.if-self.false
+    c.self.inside.journal c.self.inside.placed c.prepare.new.self c.prepare.ensures.same
+    c.self.invariant (sealed_update c.args.update) c.in_ok-prepared.prepared
+    c.in_ok-prepared.ensures.prepared c.update.ensures.any_moment later refl)
+
+pub returns-clause-carried : goal.returns-clause-carried
+returns-clause-carried g c =
+    let k : Keys = record {
+      base_check = c.self.inside.base_check;
+      surface = c.self.inside.surface.bytes;
+    } in
+    let later : Opened g.row.D.Denot = store_of g.D.Disk.tells c.update.new.disk k c.update.new.self c.self.inside.failed in
+    subst (λ (s : Opened g.row.D.Denot). IsCarriedOver g.D.Disk.tells s later) c.self.view_is
+    (carried g.D.Disk.tells k c.self.inside.disk c.update.new.disk c.self.inside.failed c.if-self.false
+    c.self.inside.journal c.self.inside.placed c.prepare.new.self c.prepare.ensures.same
+    c.self.invariant (sealed_update c.args.update) c.in_ok-prepared.prepared
+    c.in_ok-prepared.ensures.prepared c.update.ensures.any_moment c.update.new.self
+    c.in-Ok.ensures.made c.update.new.journal c.in-Ok.ensures.log.0 c.in-Ok.ensures.log.1
+    c.in-Ok.ensures.stands)
