@@ -1,10 +1,9 @@
 -- Records with first blocks are spelled apart, and are read again.
-use Rattle.std.proofs.Common.{◌≡◌, ℕ, suc, ◌+◌, ◌≤◌, Bool, true, false, List, [], ◌∷◌, ◌++◌}
-use Rattle.std.proofs.Common.{length, Ok, refl, sym, ap, subst, ◌∙◌, arith, take, drop}
-use Rattle.std.proofs.Common.{length-append}
+use Rattle.std.proofs.Common.{◌≡◌, ℕ, ◌+◌, ◌≤◌, Bool, true, false, List, [], ◌∷◌, ◌++◌}
+use Rattle.std.proofs.Common.{length, Ok, refl, sym, ap, subst, ◌∙◌, arith, take}
 use Rattle.std.proofs.lemmas.Bool.{le-ltb}
-use Rattle.std.specs.List.{AllByRecursion, flat_map, remove}
-use Rattle.std.specs.Prelude.{Option, Some, not}
+use Rattle.std.specs.List.{AllByRecursion, flat_map}
+use Rattle.std.specs.Prelude.{Option, Some}
 use Rattle.ov_fields.specs.Spelling.{u32}
 use Rattle.ov_fields.specs.Reading.{placed}
 use Rattle.ov_fields.proofs.FieldLaws.{number_reads, wide32}
@@ -19,7 +18,7 @@ use Rattle.ov_history.specs.Briefs.{Brief}
 use Rattle.ov_history.specs.Placed.{PlacedUpdate}
 use Rattle.ov_journal.specs.Book.{contents_of, is_first, records_in}
 use Rattle.ov_journal.specs.Runs.{Run, run_after}
-use Rattle.ov_journal.specs.Steps.{before_step, comes_before, is_step, without_step}
+use Rattle.ov_journal.specs.Steps.{before_step, comes_before, without_step}
 use Rattle.ov_journal.proofs.Steps.{few_before}
 use Rattle.ov_images.specs.Records.{AllHaveForm, AllHaveFormFrom, HasRecordForm, StopsInRecord}
 use Rattle.ov_images.specs.Records.{StopsInUpdate, bodies_from, bodies_of, form_behind, form_if}

@@ -1,7 +1,8 @@
 mod Blobs
 mod Books
+mod BothFormats
 mod Damaged
-mod Formats
 mod OneFile
+mod StepPlaces
 mod ThreeFiles
 mod UsedAgain

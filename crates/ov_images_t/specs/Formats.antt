@@ -58,6 +58,10 @@ step_record = 1 ∷ 0 ∷ 0 ∷ 0 ∷ 1 ∷ 5 ∷ []
 abbrev pub longer_record : List ℕ
 longer_record = 1 ∷ 0 ∷ 0 ∷ 0 ∷ 2 ∷ 5 ∷ 0 ∷ []
 
+-- an open gate and a length that can't be: no byte
+abbrev pub bad_length : List ℕ
+bad_length = 1 ∷ 0 ∷ 0 ∷ 0 ∷ 0 ∷ []
+
 -- what a creation of a file of one byte has behind its list: no token, a tag, the number of bytes,
 -- and its first block
 abbrev pub behind_list : List ℕ
@@ -161,6 +165,21 @@ abbrev pub LongerBodyIsNoStep : Type 0
 LongerBodyIsNoStep =
     (k : Keys) → length k.base_check ≡ 32
     → IsDamagedAt 1 k (first_book k (alice_record ++ bob_record ++ longer_record)) 105
+
+-- Before a step record such a body, whose gate is at place 100, is damaged where it is without one.
+abbrev pub DamageStaysBeforeTheStep : Type 0
+DamageStaysBeforeTheStep =
+    (k : Keys) → length k.base_check ≡ 32
+    → IsDamagedAt 1 k (first_book k (alice_record ++ bob_record ++ longer_record ++ step_record))
+    105
+
+-- A length that can't be is damaged at its place, behind its gate: at 101 behind alice and bob, and
+-- at 107 behind their step record.
+abbrev pub DamageMovesBehindTheStep : Type 0
+DamageMovesBehindTheStep =
+    (k : Keys) → length k.base_check ≡ 32
+    → IsDamagedAt 1 k (first_book k (alice_record ++ bob_record ++ bad_length)) 101
+    × IsDamagedAt 1 k (first_book k (alice_record ++ bob_record ++ step_record ++ bad_length)) 107
 
 -- A creation with its list in 32 bytes is a record of a store of the first format. Under `OVERENC2`
 -- it ends before its list does, at place 172: its gate is at 90.

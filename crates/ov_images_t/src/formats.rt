@@ -1,4 +1,5 @@
 //! Rows of both formats: which records a store of which has, and what a step record changes.
+ghost use Rattle.ov_images_t.specs.Formats.{DamageMovesBehindTheStep, DamageStaysBeforeTheStep};
 ghost use Rattle.ov_images_t.specs.Formats.{FirstFormatIsKept, LongerBodyIsNoStep};
 ghost use Rattle.ov_images_t.specs.Formats.{NewStoresAreOfTheSecond, OneStepIsLeftOut};
 ghost use Rattle.ov_images_t.specs.Formats.{RecordsFollowTheStep, ShortListsAreOfTheFirst};
@@ -30,6 +31,12 @@ pub fn one_step_record_is_left_out()
 /// A body that begins as that of a step record and goes on is damage at its first byte.
 pub fn a_longer_body_is_no_step_record()
     ensures { LongerBodyIsNoStep }
+{}
+
+/// A step record moves the places of damage behind it by its bytes, and none before it.
+pub fn a_step_record_moves_the_places_behind_it()
+    ensures before { DamageStaysBeforeTheStep }
+    ensures behind { DamageMovesBehindTheStep }
 {}
 
 /// A creation with its list in 32 bytes is a record of the first format, and damage in a store of

@@ -17,6 +17,6 @@ pub use extents::{
 };
 pub use formats::{
     a_longer_body_is_no_step_record, a_step_record_changes_nothing, a_step_record_changes_the_form,
-    new_stores_are_of_the_second_format, one_step_record_is_left_out, records_follow_a_step_record,
-    short_lists_are_of_the_first_format,
+    a_step_record_moves_the_places_behind_it, new_stores_are_of_the_second_format,
+    one_step_record_is_left_out, records_follow_a_step_record, short_lists_are_of_the_first_format,
 };

@@ -1,5 +1,5 @@
 use Rattle.std.proofs.Common.{sym, ◌∙◌}
-use Rattle.ov_journal.proofs.Records.{all_first}
+use Rattle.ov_journal.proofs.Logs.{all_first}
 use Rattle.ov_disk_t.proofs.journal.bodies.Goals as goal
 
 pub body-requires-clause-records : goal.body-requires-clause-records

@@ -1,4 +1,4 @@
-use Rattle.ov_images_t.proofs.Formats.{longer_body_is_no_step}
+use Rattle.ov_images_t.proofs.BothFormats.{longer_body_is_no_step}
 use Rattle.ov_images_t.proofs.formats.a_longer_body_is_no_step_record.Goals as goal
 
 pub returns : goal.returns

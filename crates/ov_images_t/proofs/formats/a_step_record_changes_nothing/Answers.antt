@@ -1,4 +1,4 @@
-use Rattle.ov_images_t.proofs.Formats.{first_format_is_kept, step_changes_nothing}
+use Rattle.ov_images_t.proofs.BothFormats.{first_format_is_kept, step_changes_nothing}
 use Rattle.ov_images_t.proofs.formats.a_step_record_changes_nothing.Goals as goal
 
 pub returns-clause-before : goal.returns-clause-before

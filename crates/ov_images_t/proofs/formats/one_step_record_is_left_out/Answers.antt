@@ -1,4 +1,4 @@
-use Rattle.ov_images_t.proofs.Formats.{one_step_is_left_out}
+use Rattle.ov_images_t.proofs.BothFormats.{one_step_is_left_out}
 use Rattle.ov_images_t.proofs.formats.one_step_record_is_left_out.Goals as goal
 
 pub returns : goal.returns

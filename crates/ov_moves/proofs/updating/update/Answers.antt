@@ -1,7 +1,6 @@
 use Rattle.std.proofs.Common.{◌≡◌, List, ℕ, sym, ◌∙◌, subst}
 use Rattle.ov_disk.proofs.Runs.{on_both, then_on, weaker}
 use Rattle.ov_blocks.specs.Writes.{IsLeftBy}
-use Rattle.ov_journal.specs.Book.{contents_of}
 use Rattle.ov_journal.specs.Log.{IsBeforeOrAfter, IsLogOf}
 use Rattle.ov_moves.specs.Moves.{IsKeptOutside}
 use Rattle.ov_moves.specs.Updating.{IsBeforeOrAfterAll}
