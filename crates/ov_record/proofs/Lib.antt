@@ -1,4 +1,5 @@
 pub mod BriefLaws
 pub mod BriefPlaces
+pub mod ByBrief
 pub mod UpdateLaws
 pub mod UpdatePlaces

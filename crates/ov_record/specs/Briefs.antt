@@ -30,6 +30,20 @@ text_of (SealedCreate file list tokens tag text) = Some text
 text_of (SealedGrant user file token) = None
 text_of (SealedRevoke user file) = None
 
+-- the update with this brief, and with these bytes of its file
+abbrev pub with_text : Brief → List ℕ → SealedUpdate
+with_text (BriefEnrol user) text = SealedEnrol user
+with_text (BriefCreate file list tokens tag size) text = SealedCreate file list tokens tag text
+with_text (BriefGrant user file token) text = SealedGrant user file token
+with_text (BriefRevoke user file) text = SealedRevoke user file
+
+-- how many bytes the file has that is created
+abbrev pub text_size : Brief → ℕ
+text_size (BriefEnrol user) = 0
+text_size (BriefCreate file list tokens tag size) = size
+text_size (BriefGrant user file token) = 0
+text_size (BriefRevoke user file) = 0
+
 -- the brief without the width of its set
 abbrev pub plain_brief : {W : ℕ} → BriefOf W → Brief
 plain_brief (Enrol name) = BriefEnrol name

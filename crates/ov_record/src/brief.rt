@@ -1,7 +1,8 @@
 //! Updates without the bytes of their files.
 ghost use Rattle.std.specs.Prelude.{◌≡◌, ◌≤◌};
 ghost use Rattle.ov_base.specs.declared.limits.TheConstants.{MAX_SET_WORDS};
-ghost use Rattle.ov_record.specs.Briefs.{brief, plain_brief, text_of, IsFitting};
+ghost use Rattle.ov_record.specs.Briefs.{brief, plain_brief, text_of, text_size, with_text};
+ghost use Rattle.ov_record.specs.Briefs.{IsFitting};
 ghost use Rattle.ov_record.specs.Updates.{sealed_update};
 
 use crate::Update;
@@ -66,6 +67,40 @@ impl<const W: usize> Brief<W> {
             }
             Update::Grant { user, file, token } => (Brief::Grant { user, file, token }, None),
             Update::Revoke { user, file } => (Brief::Revoke { user, file }, None),
+        }
+    }
+
+    /// How many bytes the file has, where the update creates one.
+    pub(crate) fn text_size(&self) -> u32
+        ensures { result ≡ text_size (plain_brief self.now) }
+    {
+        match self {
+            Brief::Create { length, .. } => *length,
+            _ => 0,
+        }
+    }
+
+    /// The update with these bytes of its file, where it creates one.
+    pub(crate) fn into_update(self, text: Octets) -> Update<W>
+        ensures { sealed_update result ≡ with_text (plain_brief self.entry) text }
+    {
+        match self {
+            Brief::Enrol { name } => Update::Enrol { name },
+            Brief::Create {
+                name,
+                list,
+                tokens,
+                tag,
+                length: _,
+            } => Update::Create {
+                name,
+                list,
+                tokens,
+                tag,
+                bytes: text,
+            },
+            Brief::Grant { user, file, token } => Update::Grant { user, file, token },
+            Brief::Revoke { user, file } => Update::Revoke { user, file },
         }
     }
 

@@ -63,8 +63,9 @@ fn take_revocation<const W: usize>(bytes: &[u8]) -> Result<(Brief<W>, &[u8]), Fi
     Ok((Brief::Revoke { user, file }, rest))
 }
 
+/// The update at the front of the bytes, without the bytes of its file.
 #[tactic(auto, unfolding(crate::specs::Reading::brief_at))]
-fn take_brief<const W: usize>(
+pub fn take_brief<const W: usize>(
     alloc: Global,
     form: Form<W>,
     bytes: &[u8],

@@ -1,6 +1,6 @@
 //! Writing updates.
 
-ghost use Rattle.std.specs.Prelude.{◌≡◌, ◌≤◌, ◌*◌, ◌++◌, length, OnErr, OnOk};
+ghost use Rattle.std.specs.Prelude.{◌≡◌, ◌≤◌, ◌*◌, ◌++◌, length, IfOk, OnErr, OnOk};
 ghost use Rattle.ov_base.specs.declared.limits.TheConstants.{MAX_SET_WORDS};
 ghost use Rattle.ov_record.specs.Spelling.{spelling, body_of, HasForm, IsWithinLimits};
 ghost use Rattle.ov_record.specs.Forms.{form_of};
@@ -9,8 +9,9 @@ ghost use Rattle.ov_record.specs.Updates.{sealed_update};
 use crate::pieces::{put_creation, put_grant, put_revocation};
 use crate::within::known_form;
 use crate::{Form, Update};
-use ov_base::Memory;
+use ov_base::{Memory, Octets};
 use ov_fields::{append, put_name};
+use std::alloc::Global;
 
 /// The bytes of the file that is created.
 fn body<const W: usize>(update: &Update<W>) -> &[u8]
@@ -71,4 +72,46 @@ pub fn write<const W: usize>(
     let mut front = Vec::new(*out.allocator());
     put_front(form, update, &mut front)?;
     append(&front, body(update), &[], out)
+}
+
+/// The bytes of the file that is created, in their allocation.
+fn into_body<const W: usize>(alloc: Global, update: Update<W>) -> Octets
+    ensures { result ≡ body_of (sealed_update update.entry) }
+{
+    match update {
+        Update::Create { bytes, .. } => bytes,
+        _ => Octets::new(alloc),
+    }
+}
+
+/// Puts bytes in front of those of a list, in its allocation where that has the room.
+fn put_before(front: &[u8], out: &mut Vec<u8>) -> Result<(), Memory>
+    ensures { OnOk result (out.new.items ≡ front.now ++ out.old.items) }
+{
+    out.reserve_exact(front.len())?;
+    out.extend_from_slice(front)?;
+    out.rotate_right(front.len());
+    Ok(())
+}
+
+/// The one spelling of an update in this form, for a W from 1 to `MAX_SET_WORDS`. That of a creation
+/// is made around the bytes of its file, in their allocation where that has the room.
+pub fn into_spelling<const W: usize>(
+    alloc: Global,
+    form: Form<W>,
+    update: Update<W>,
+) -> Result<Octets, Memory>
+    requires width { (1 ≤ W) × (W ≤ MAX_SET_WORDS) }
+    requires limits { IsWithinLimits (form_of form) (sealed_update update) }
+    ensures ok { IfOk result (λ octets. octets
+        ≡ spelling (form_of form.entry) (sealed_update update.entry)) }
+    // What is written can be read again.
+    ensures form { HasForm (form_of form.entry) (sealed_update update.entry) }
+{
+    known_form(form, &update);
+    let mut front = Vec::new(alloc);
+    put_front(form, &update, &mut front)?;
+    let mut whole = into_body(alloc, update).into_vec();
+    put_before(&front, &mut whole)?;
+    Ok(Octets::from_vec(whole))
 }
