@@ -1,4 +1,4 @@
-use Rattle.std.proofs.Common.{◌≡◌, ℕ, List, [], length, Option, refl, sym, ◌∙◌, ap, subst}
+use Rattle.std.proofs.Common.{◌≡◌, ◌*◌, ℕ, List, [], length, Option, refl, sym, ◌∙◌, ap, subst}
 use Rattle.ov_history.specs.Briefs.{brief}
 use Rattle.ov_history.specs.Placed.{replaced, with_unplaced}
 use Rattle.ov_history.specs.Rewrites.{rewrites_of}
