@@ -161,14 +161,31 @@ fn look_at_store(rt: &HostRuntime, words: &[String], disk: &mut FileDisk<HostRun
     }
 }
 
-// Calls `load` or, with all other words, `run`, over the files of the folder.
+// Calls `load` or, with all other words, `run`: the status, and which line of the script was bad.
+fn answer<W: Write>(
+    rt: &HostRuntime,
+    words: &[String],
+    keys: &mut Tried<FileSource<HostRuntime>>,
+    out: &mut Counted<StdSink<&mut Watched<W>>>,
+    trace: &mut FileSink<HostRuntime>,
+    disk: &mut FileDisk<HostRuntime>,
+) -> (u8, Option<(u64, Lack)>) {
+    let alloc = rt.alloc();
+    if is_first("load", words) {
+        return (load(alloc, words, keys, out, trace, disk), None);
+    }
+    let mut script = Recent::new(alloc, StdSource::new(rt.stdin()));
+    let code = run(alloc, words, keys, &mut script, out, trace, disk);
+    (code, bad_line_of(alloc, &script, out.bad_line()))
+}
+
+// Answers these words over the files of the folder.
 fn answer_over_files<W: Write>(
     rt: &HostRuntime,
     words: &[String],
     shows: bool,
     replies: &mut Watched<W>,
 ) -> End {
-    let alloc = rt.alloc();
     let no_store_before = begins(rt, BOOK_FILE);
     let mut out = Counted::new(StdSink::new(replies), *rt, shows);
     let (mut keys, mut disk, mut trace) = match files_of(*rt) {
@@ -176,22 +193,7 @@ fn answer_over_files<W: Write>(
         Err(Memory) => return end_at(put_memory(&mut out), stage_by_words(words, false)),
     };
     look_at_store(rt, words, &mut disk);
-    let (code, bad_line) = if is_first("load", words) {
-        let code = load(alloc, words, &mut keys, &mut out, &mut trace, &mut disk);
-        (code, None)
-    } else {
-        let mut script = Recent::new(alloc, StdSource::new(rt.stdin()));
-        let code = run(
-            alloc,
-            words,
-            &mut keys,
-            &mut script,
-            &mut out,
-            &mut trace,
-            &mut disk,
-        );
-        (code, bad_line_of(alloc, &script, out.bad_line()))
-    };
+    let (code, bad_line) = answer(rt, words, &mut keys, &mut out, &mut trace, &mut disk);
     out.end();
     if no_store_before {
         new_store(rt);
