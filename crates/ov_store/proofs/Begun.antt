@@ -22,7 +22,7 @@ use Rattle.ov_placed.specs.Contents.{PlacedStore}
 use Rattle.ov_store.specs.Beginning.{FindsHistory, IsOpened}
 use Rattle.ov_store.specs.Opened.{Serves, open_with}
 use Rattle.ov_store.specs.Replaying.{IsReplay}
-use Rattle.ov_store.proofs.Carrying.{never_born}
+use Rattle.ov_store.proofs.CarriedOver.{never_born}
 use Rattle.ov_store.proofs.Histories.{IsOfStore, choose, safe_of, serves_of}
 
 -- the format of a store's header is the one that its magic says

@@ -1,6 +1,6 @@
 pub mod Begun
 pub mod Births
-pub mod Carrying
+pub mod CarriedOver
 pub mod Checked
 pub mod Checking
 pub mod Extents
