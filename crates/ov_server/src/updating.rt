@@ -26,11 +26,11 @@ use std::alloc::Global;
 const SPELLING_PLACE: u32 = 5;
 
 /// The owner's tag of an update's spelling, made at an epoch.
-fn owner_tag(surface: &SurfaceMaster, epoch: u32, spelling: &[u8]) -> [u8; 32]
+fn owner_tag(surface: &SurfaceMaster, epoch: u32, spelling: &Octets) -> [u8; 32]
     requires { length spelling.now ≤ MAX_FRAME_BYTES }
     ensures { result ≡ owner_tag surface.now.bytes epoch spelling.now }
 {
-    surface.owner_mac(&epoch.to_be_bytes(), spelling)
+    surface.owner_mac(&epoch.to_be_bytes(), spelling.as_slice())
 }
 
 impl<D: Disk> Server<D> {
@@ -82,7 +82,7 @@ impl<D: Disk> Server<D> {
             → request_of request ≡ Ok (requests.Update epoch spelling tag.now)
             → AsksServer D.tells self.old self.new request reply.new.items result }
     {
-        if !same(&owner_tag(&self.surface, epoch, spelling.as_slice()), tag) {
+        if !same(&owner_tag(&self.surface, epoch, &spelling), tag) {
             return reply_with(Ok(Answer::BadTag), reply);
         }
         let now = self.store.state().epoch();
