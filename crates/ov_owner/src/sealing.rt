@@ -12,7 +12,7 @@ ghost use Rattle.ov_owner.specs.Helpers.{Seals};
 
 use crate::OwnerFault;
 use crate::change::Change;
-use ov_base::limits::SET_WORDS;
+use ov_base::limits::{MAX_FILE_BYTES, MAX_FRAME_BYTES, SET_WORDS};
 use ov_base::{Key, Memory, Name, Octets};
 use ov_base_layer::{seal_access, seal_cover};
 use ov_graph::Cover;
@@ -53,12 +53,16 @@ fn plan_of(answer: Answer) -> Result<Plan, OwnerFault>
     }
 }
 
-/// The base text of a file.
+/// Bytes of a frame beside those of a file.
+const AROUND: usize = (MAX_FRAME_BYTES - MAX_FILE_BYTES) as usize;
+
+/// The base text of a file, in a list that has room for all that a frame has around it.
 fn base_coated(alloc: Global, access: &Key, number: u32, bytes: &[u8]) -> Result<Octets, Memory>
     requires { length bytes.now ≤ MAX_FILE_BYTES }
     ensures { IfOk result (λ text. text ≡ base_text access.now.bytes number bytes.now) }
 {
-    let mut text = bytes.to_vec(alloc)?;
+    let mut text = Vec::with_capacity(alloc, bytes.len() + AROUND)?;
+    text.extend_from_slice(bytes)?;
     base_encrypt(access, number, 0, &mut text);
     Ok(Octets::from_vec(text))
 }

@@ -4,6 +4,7 @@ ghost use Rattle.ov_record.specs.Spelling.{HasForm, IsWithinLimits};
 ghost use Rattle.ov_record.specs.Updates.{sealed_update};
 ghost use Rattle.ov_record.specs.Forms.{second_form};
 ghost use Rattle.ov_wire.specs.Requests.{HasRequestLimits};
+ghost use Rattle.ov_wire.specs.declared.request.Request.TheVariants as requests;
 ghost use Rattle.ov_owner.specs.Causes.{HasOwnerCause};
 ghost use Rattle.ov_owner.specs.Errands.{Errand};
 ghost use Rattle.ov_owner.specs.Talks.{update_request};
@@ -11,12 +12,13 @@ ghost use Rattle.ov_owner.specs.Helpers.{IsSent, owner_fault, sent_of};
 
 use crate::OwnerFault;
 use crate::sealing::Sealed;
+use ov_base::limits::SET_WORDS;
 use ov_base::{Memory, Octets};
 use ov_model::frames_take_updates;
-use ov_peer::{ExchangeFault, Peer, exchange};
-use ov_record::{Form, write};
+use ov_peer::{ExchangeFault, Peer, exchange_update};
+use ov_record::{Form, Update, into_spelling};
 use ov_tokens::SurfaceMaster;
-use ov_wire::{Answer, Request};
+use ov_wire::Answer;
 use std::alloc::Global;
 
 /// What came of an Update that was sent.
@@ -54,45 +56,42 @@ fn sent_of(answer: Answer) -> Result<Sent, OwnerFault>
     }
 }
 
-/// The request of an update, with the owner's tag under the surface master.
-fn update_request(
+/// The spelling of an update, and the owner's tag of it under the surface master.
+fn tagged(
     alloc: Global,
     surface: &SurfaceMaster,
-    sealed: &Sealed,
-) -> Result<Request, Memory>
-    requires { IsWithinLimits second_form (sealed_update sealed.now.update) }
-    ensures request { IfOk result (λ request. request
-        ≡ update_request surface.now.bytes sealed.now.epoch (sealed_update sealed.now.update)) }
-    ensures form { IfOk result (λ request. HasForm second_form (sealed_update sealed.now.update)) }
-    ensures limits { IfOk result HasRequestLimits }
+    epoch: u32,
+    update: Update<SET_WORDS>,
+) -> Result<(Octets, [u8; 32]), Memory>
+    requires { IsWithinLimits second_form (sealed_update update) }
+    ensures request { IfOk result (λ x. requests.Update epoch x.0 x.1
+        ≡ update_request surface.now.bytes epoch (sealed_update update)) }
+    ensures form { IfOk result (λ x. HasForm second_form (sealed_update update)) }
+    ensures limits { IfOk result (λ x. HasRequestLimits (requests.Update epoch x.0 x.1)) }
 {
     frames_take_updates();
-    let mut spelling = Vec::new(alloc);
-    write(Form::SECOND, &sealed.update, &mut spelling)?;
-    let epoch = sealed.epoch.to_be_bytes();
-    let tag = surface.owner_mac(&epoch, &spelling);
-    Ok(Request::Update {
-        epoch: sealed.epoch,
-        spelling: Octets::from_vec(spelling),
-        tag,
-    })
+    let spelling = into_spelling(alloc, Form::SECOND, update)?;
+    let tag = surface.owner_mac(&epoch.to_be_bytes(), spelling.as_slice());
+    Ok((spelling, tag))
 }
 
-/// Sends an update, whatever the errand and the tries before it.
+/// Sends an update, whatever the errand and the tries before it. The bytes of a file go into the
+/// frame in their list, and aren't copied.
 pub fn send<P: Peer>(
     alloc: Global,
     peer: &mut P,
     surface: &SurfaceMaster,
-    sealed: &Sealed,
+    sealed: Sealed,
 ) -> Result<Sent, OwnerFault>
-    requires { IsWithinLimits second_form (sealed_update sealed.now.update) }
+    requires { IsWithinLimits second_form (sealed_update sealed.update) }
     ensures sent { (e : Errand) (tries : List ℕ) → IsSent P.tells surface.now.bytes e tries
-        sealed.now.epoch (sealed_update sealed.now.update) peer.old peer.new result }
+        sealed.epoch (sealed_update sealed.update) peer.old peer.new result }
     ensures same { P.tells.borrow peer.new ≡ P.tells.borrow peer.old }
     ensures cause { HasOwnerCause (P.tells.faults peer.old) (P.tells.faults peer.new) result }
 {
-    let request = update_request(alloc, surface, sealed)?;
-    match exchange(alloc, peer, &request) {
+    let Sealed { epoch, update } = sealed;
+    let (spelling, tag) = tagged(alloc, surface, epoch, update)?;
+    match exchange_update(alloc, peer, epoch, spelling, &tag) {
         Ok(answer) => sent_of(answer),
         Err(fault) => Err(fault_of(fault)),
     }

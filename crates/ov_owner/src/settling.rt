@@ -65,11 +65,12 @@ pub fn settle<P: Peer>(
     let mut least = 0;
     for i in 0..MAX_TRIES {
         let sealed = ask(alloc, peer, base, change, least)?;
-        match send(alloc, peer, surface, &sealed)? {
+        let made_at = sealed.epoch;
+        match send(alloc, peer, surface, sealed)? {
             Sent::Accepted(epoch) => return Ok(epoch),
             Sent::Stale(epoch) => least = epoch,
         }
-        epochs[i] = sealed.epoch;
+        epochs[i] = made_at;
     }
     Err(OwnerFault::Unsettled { epochs })
 }

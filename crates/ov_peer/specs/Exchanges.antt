@@ -15,6 +15,10 @@ use Rattle.ov_peer.specs.Tells.{PeerTells}
 use Rattle.ov_peer.specs.declared.fault.ExchangeFault.{ExchangeFault}
 use Rattle.ov_peer.specs.declared.fault.ExchangeFault.TheVariants.{BadReply, Link, Memory}
 
+-- whatever is replied to the one request is read as to the other
+abbrev pub AreReadAlike : Request → Request → Type 0
+AreReadAlike r q = (reply : List ℕ) → answer_of r reply ≡ answer_of q reply
+
 -- the peer was asked this request, and its reply reads so
 pub record Answered {P : Type 0} (peer : PeerTells P) (p q : P) (request : Request)
     (read : Result Answer ℕ) : Type 0 where

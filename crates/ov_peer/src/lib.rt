@@ -13,7 +13,8 @@
 //! own update or without it (`LeavesTold`). A peer behind a link tells nothing, and the same
 //! clauses hold of it with nothing told.
 //!
-//! * [`exchange`] writes a request, asks it, and reads the answer.
+//! * [`exchange`] writes a request, asks it, and reads the answer. [`exchange_update`] does so of an
+//!   Update, whose frame it makes around the update's spelling.
 //! * [`AskFault`] is why an asker of an answerer, as a session has one, has no reply.
 //! * [`put_frame`] puts a frame to a sink behind its length field, a short one in one call.
 //! * [`Traced`] puts each frame of a peer to a sink, and tells what its peer tells.
@@ -43,7 +44,7 @@ mod peer;
 mod traced;
 
 pub use answerer::{Answerer, is_accepted};
-pub use asking::exchange;
+pub use asking::{exchange, exchange_update};
 pub use fault::{AskFault, ExchangeFault, PeerFault};
 pub use fixed::FixedPeer;
 pub use framing::put_frame;

@@ -74,8 +74,8 @@ fourth_node : entry_of after.catalogue 2 3 ≡ Some (Node 3 (from_node 0 ∷ fro
 unfolding lib.Count.ones
 fourth_node = refl
 
--- the entry of this node has 106 bytes, behind a kind byte and a flag
-fourth_length : length (answer_bytes (answers.PageOf (page_of (entry_of after.catalogue 2 3)))) ≡ 108
+-- the entry of this node has 202 bytes, behind a kind byte and a flag
+fourth_length : length (answer_bytes (answers.PageOf (page_of (entry_of after.catalogue 2 3)))) ≡ 204
 unfolding lib.Count.ones bytes_of
 fourth_length = refl
 

@@ -4,7 +4,7 @@ ghost use Rattle.std.specs.Prelude.{◌≡◌};
 ghost use Rattle.ov_record.specs.Forms.{first_form, form_of, second_form};
 
 use ov_base::limits::{MAX_FILE_BYTES, MAX_USERS, SET_WORDS};
-use ov_base::{Name, UserSet};
+use ov_base::{Name, Octets, UserSet};
 use ov_record::*;
 use ov_tokens::{Edge, Token};
 use std::alloc::Global;
@@ -45,6 +45,19 @@ fn spellings_are_read_and_written_again(rt: HostRuntime) -> Result<(), Fail> {
             Err(_) => {}
         }
         assert_eq!(rt; out.as_slice(), bytes);
+    }
+    Ok(())
+}
+
+#[test]
+fn spellings_are_read_and_written_in_their_own_list(rt: HostRuntime) -> Result<(), Fail> {
+    for bytes in SPELLINGS {
+        let spelling = Octets::copy(rt.alloc(), bytes)?;
+        let again = match read_whole(rt.alloc(), Form::FIRST, spelling) {
+            Ok(update) => into_spelling(rt.alloc(), Form::FIRST, update)?,
+            Err(_) => Octets::new(rt.alloc()),
+        };
+        assert_eq!(rt; again.as_slice(), bytes);
     }
     Ok(())
 }

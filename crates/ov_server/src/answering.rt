@@ -38,10 +38,10 @@ impl<D: Disk> Server<D> {
     }
 
     /// Answers a request.
-    fn answer_request(&mut self, asked: &Request, reply: &mut Vec<u8>) -> Result<(), Memory>
-        requires { HasRequestForm asked.now }
+    fn answer_request(&mut self, asked: Request, reply: &mut Vec<u8>) -> Result<(), Memory>
+        requires { HasRequestForm asked }
         ensures { (request : List ℕ)
-            → request_of request ≡ Ok asked.now
+            → request_of request ≡ Ok asked
             → AsksServer D.tells self.old self.new request reply.new.items result }
     {
         self.known();
@@ -49,30 +49,30 @@ impl<D: Disk> Server<D> {
         let state = self.store.state();
         match asked {
             Request::Hello => reply_with(Ok(self.welcome()), reply),
-            Request::Ask { question } => reply_with(answer_ask(alloc, state, question), reply),
+            Request::Ask { question } => reply_with(answer_ask(alloc, state, &question), reply),
             Request::Cover {
                 file,
                 length,
                 names,
-            } => self.cover_and_remember(file, *length, names, reply),
+            } => self.cover_and_remember(&file, length, &names, reply),
             Request::Update {
                 epoch,
                 spelling,
                 tag,
-            } => self.answer_update(*epoch, spelling.as_slice(), tag, reply),
+            } => self.answer_update(epoch, spelling, &tag, reply),
             Request::Chain { user, file } => {
-                reply_with(answer_chain(alloc, state, user, file), reply)
+                reply_with(answer_chain(alloc, state, &user, &file), reply)
             }
             Request::Chunk {
                 file,
                 generation,
                 start,
                 count,
-            } => self.answer_chunk(*file, *generation, *start, *count, reply),
+            } => self.answer_chunk(file, generation, start, count, reply),
             Request::Page { part, number } => {
-                reply_with(answer_page(alloc, state, *part, *number), reply)
+                reply_with(answer_page(alloc, state, part, number), reply)
             }
-            Request::List { file } => reply_with(answer_list(alloc, state, file), reply),
+            Request::List { file } => reply_with(answer_list(alloc, state, &file), reply),
         }
     }
 
@@ -93,7 +93,7 @@ impl<D: Disk> Server<D> {
             (IsNewFault self.old request.now reply.new.items) }
     {
         match read_request(*reply.allocator(), request) {
-            Ok(asked) => self.answer_request(&asked, reply),
+            Ok(asked) => self.answer_request(asked, reply),
             Err(WireFault::Bad { at }) => reply_with(Ok(Answer::BadRequest { at }), reply),
             Err(WireFault::Memory) => reply_with(Err(Memory), reply),
         }

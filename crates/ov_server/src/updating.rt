@@ -12,10 +12,10 @@ ghost use Rattle.ov_server.specs.Answering.{serving_of, AsksServer};
 
 use crate::reply::{reply_fault, reply_with};
 use crate::server::Server;
-use ov_base::Memory;
+use ov_base::{Memory, Octets};
 use ov_disk::Disk;
 use ov_keyed::same;
-use ov_record::{Form, RecordFault, Update, read};
+use ov_record::{Form, RecordFault, Update, read_whole};
 use ov_state::WIDTH;
 use ov_store::StoreFault;
 use ov_tokens::SurfaceMaster;
@@ -26,11 +26,11 @@ use std::alloc::Global;
 const SPELLING_PLACE: u32 = 5;
 
 /// The owner's tag of an update's spelling, made at an epoch.
-fn owner_tag(surface: &SurfaceMaster, epoch: u32, spelling: &[u8]) -> [u8; 32]
+fn owner_tag(surface: &SurfaceMaster, epoch: u32, spelling: &Octets) -> [u8; 32]
     requires { length spelling.now ≤ MAX_FRAME_BYTES }
     ensures { result ≡ owner_tag surface.now.bytes epoch spelling.now }
 {
-    surface.owner_mac(&epoch.to_be_bytes(), spelling)
+    surface.owner_mac(&epoch.to_be_bytes(), spelling.as_slice())
 }
 
 impl<D: Disk> Server<D> {
@@ -73,16 +73,16 @@ impl<D: Disk> Server<D> {
     pub(crate) fn answer_update(
         &mut self,
         epoch: u32,
-        spelling: &[u8],
+        spelling: Octets,
         tag: &[u8; 32],
         reply: &mut Vec<u8>,
     ) -> Result<(), Memory>
-        requires { length spelling.now ≤ MAX_FRAME_BYTES }
+        requires { length spelling ≤ MAX_FRAME_BYTES }
         ensures { (request : List ℕ)
-            → request_of request ≡ Ok (requests.Update epoch spelling.now tag.now)
+            → request_of request ≡ Ok (requests.Update epoch spelling tag.now)
             → AsksServer D.tells self.old self.new request reply.new.items result }
     {
-        if !same(&owner_tag(&self.surface, epoch, spelling), tag) {
+        if !same(&owner_tag(&self.surface, epoch, &spelling), tag) {
             return reply_with(Ok(Answer::BadTag), reply);
         }
         let now = self.store.state().epoch();
@@ -90,7 +90,7 @@ impl<D: Disk> Server<D> {
             return reply_with(Ok(Answer::Stale { epoch: now }), reply);
         }
         let alloc = *reply.allocator();
-        match read(alloc, Form::SECOND, spelling) {
+        match read_whole(alloc, Form::SECOND, spelling) {
             Ok(update) => self.make(alloc, update, reply),
             Err(RecordFault::BadRecord { at }) => {
                 let at = SPELLING_PLACE + at;

@@ -12,9 +12,10 @@
 //! in the grammar continues, or the end. Two laws say of it that the bytes before it go on to a
 //! request or an answer, and that they don't with the field at it ([`bad_requests_are_placed`],
 //! [`bad_answers_are_placed`]; `IsWrongPlace` in ov_fields). [`write_request`] appends a request's
-//! spelling, and [`write_answer`] puts an answer's in place of what was there. An answer within the
-//! limits of a store (`HasAnswerForm` in `specs/AnswerForm`) fits a frame, and is read as itself or
-//! not at all, whatever was asked ([`answers_are_read_alike`]).
+//! spelling, [`update_frame`] makes that of an Update around the update's own, so that a file's
+//! bytes aren't copied, and [`write_answer`] puts an answer's in place of what was there. An answer
+//! within the limits of a store (`HasAnswerForm` in `specs/AnswerForm`) fits a frame, and is read as
+//! itself or not at all, whatever was asked ([`answers_are_read_alike`]).
 //!
 //! An update's spelling and a catalogue entry are in frames as they are. Where they end, or what is
 //! wrong with them, is found by the definitions of `specs/Updates` and `specs/Entries`; the law
@@ -53,4 +54,4 @@ pub use laws::{
 };
 pub use request::{Question, Request};
 pub use request_reading::read_request;
-pub use request_writing::write_request;
+pub use request_writing::{update_frame, write_request};

@@ -1,14 +1,15 @@
 //! Writing requests.
 
-ghost use Rattle.std.specs.Prelude.{◌≡◌, ◌≤◌, ◌∷◌, ◌++◌, length, OnErr, OnOk};
+ghost use Rattle.std.specs.Prelude.{◌≡◌, ◌≤◌, ◌∷◌, ◌++◌, length, IfOk, OnErr, OnOk};
 ghost use Rattle.ov_fields.specs.Spelling.{counted, name_field, u32};
+ghost use Rattle.ov_wire.specs.declared.request.Request.TheVariants.{Update};
 ghost use Rattle.ov_wire.specs.Requests.{question_bytes, request_bytes, request_body, HasRequestForm, HasRequestLimits};
 
 use crate::form::known_request_form;
 use crate::names::put_names;
 use crate::{Question, Request, kinds};
-use ov_base::{Memory, Name, Names};
-use ov_fields::{append, put_name, put_two, put_u32};
+use ov_base::{Memory, Name, Names, Octets};
+use ov_fields::{append, known_tag, put_name, put_two, put_u32};
 
 /// Appends a byte and a name.
 fn put_byte_and_name(byte: u8, name: &Name, out: &mut Vec<u8>) -> Result<(), Memory>
@@ -127,4 +128,31 @@ pub fn write_request(request: &Request, out: &mut Vec<u8>) -> Result<(), Memory>
     put_front(request, &mut front)?;
     let (body, end) = body(request);
     append(&front, body, end, out)
+}
+
+/// Puts the kind byte and the epoch of an Update in front, and the owner's tag behind.
+fn put_around(epoch: u32, tag: &[u8; 32], frame: &mut Vec<u8>) -> Result<(), Memory>
+    ensures { OnOk result (frame.new.items ≡ 4 ∷ u32 epoch ++ frame.old.items ++ tag.now) }
+{
+    frame.reserve_exact(37)?;
+    frame.extend_from_slice(tag)?;
+    frame.push(kinds::UPDATE)?;
+    frame.extend_from_slice(&epoch.to_be_bytes())?;
+    frame.rotate_right(5);
+    Ok(())
+}
+
+/// The frame of an Update, as [`write_request`] appends it. It is made around the update's spelling,
+/// in the allocation of that where it has the room.
+pub fn update_frame(epoch: u32, spelling: Octets, tag: &[u8; 32]) -> Result<Vec<u8>, Memory>
+    requires { HasRequestLimits (Update epoch spelling tag.now) }
+    ensures ok { IfOk result (λ frame. frame.items
+        ≡ request_bytes (Update epoch spelling tag.now)) }
+    // What is written can be read again.
+    ensures form { HasRequestForm (Update epoch spelling tag.now) }
+{
+    known_tag(tag);
+    let mut frame = spelling.into_vec();
+    put_around(epoch, tag, &mut frame)?;
+    Ok(frame)
 }

@@ -19,17 +19,17 @@ returns-then-not-same g c =
     let key : c.self.inside.surface.bytes ≡ s.keys.surface =
     sym c.self.invariant
     ∙ ap (λ (o : Opened g.row.D.Denot). o.keys.surface) c.self.view_is in
-    let wrong : c.args.tag.now ≢ owner_tag s.keys.surface c.args.epoch c.args.spelling.now =
+    let wrong : c.args.tag.now ≢ owner_tag s.keys.surface c.args.epoch c.args.spelling =
     λ right.
     true≢false
     (sym
     (c.same.ensures.1
-    (c.owner_tag.ensures ∙ ap (λ k. owner_tag k c.args.epoch c.args.spelling.now) key
+    (c.owner_tag.ensures ∙ ap (λ k. owner_tag k c.args.epoch c.args.spelling) key
     ∙ sym right))
     ∙ c.if-not-same.true) in
     λ request is.
     answers_still g.D.Disk.tells s request
-    (Ok (requests.Update c.args.epoch c.args.spelling.now c.args.tag.now)) is (Ok answers.BadTag)
+    (Ok (requests.Update c.args.epoch c.args.spelling c.args.tag.now)) is (Ok answers.BadTag)
     c.reply_with.new.reply.items c.reply_with.result wrong tt
     (refl, λ u has. absurd (other_tag _ request u has _ _ _ is wrong))
     (c.reply_with.ensures.ok, c.reply_with.ensures.err)
@@ -40,9 +40,9 @@ returns-then-epoch-now g c =
     let key : c.self.inside.surface.bytes ≡ s.keys.surface =
     sym c.self.invariant
     ∙ ap (λ (o : Opened g.row.D.Denot). o.keys.surface) c.self.view_is in
-    let right : c.args.tag.now ≡ owner_tag s.keys.surface c.args.epoch c.args.spelling.now =
+    let right : c.args.tag.now ≡ owner_tag s.keys.surface c.args.epoch c.args.spelling =
     sym (c.same.ensures.0 c.if-not-same.false) ∙ c.owner_tag.ensures
-    ∙ ap (λ k. owner_tag k c.args.epoch c.args.spelling.now) key in
+    ∙ ap (λ k. owner_tag k c.args.epoch c.args.spelling) key in
     let now_is : c.epoch-now.result ≡ s.catalogue.epoch =
     c.epoch-now.ensures ∙ ap (λ (k : Catalogue). k.epoch) c.state.ensures
     ∙ ap (λ (o : Opened g.row.D.Denot). o.catalogue.epoch) c.self.view_is in
@@ -50,7 +50,7 @@ returns-then-epoch-now g c =
     λ same. c.if-epoch-now.true (same ∙ sym now_is) in
     λ request is.
     answers_still g.D.Disk.tells s request
-    (Ok (requests.Update c.args.epoch c.args.spelling.now c.args.tag.now)) is
+    (Ok (requests.Update c.args.epoch c.args.spelling c.args.tag.now)) is
     (Ok (answers.Stale c.epoch-now.result)) c.reply_with-then-epoch-now.new.reply.items
     c.reply_with-then-epoch-now.result (right, wrong, now_is) c.epoch-now.type_inv
     (refl, λ u has. absurd (other_epoch _ request u has _ _ _ is wrong))
@@ -62,21 +62,21 @@ returns-in-Ok g c =
     let key : c.self.inside.surface.bytes ≡ s.keys.surface =
     sym c.self.invariant
     ∙ ap (λ (o : Opened g.row.D.Denot). o.keys.surface) c.self.view_is in
-    let right : c.args.tag.now ≡ owner_tag s.keys.surface c.args.epoch c.args.spelling.now =
+    let right : c.args.tag.now ≡ owner_tag s.keys.surface c.args.epoch c.args.spelling =
     sym (c.same.ensures.0 c.if-not-same.false) ∙ c.owner_tag.ensures
-    ∙ ap (λ k. owner_tag k c.args.epoch c.args.spelling.now) key in
+    ∙ ap (λ k. owner_tag k c.args.epoch c.args.spelling) key in
     let now_is : c.epoch-now.result ≡ s.catalogue.epoch =
     c.epoch-now.ensures ∙ ap (λ (k : Catalogue). k.epoch) c.state.ensures
     ∙ ap (λ (o : Opened g.row.D.Denot). o.catalogue.epoch) c.self.view_is in
     let here : c.args.epoch ≡ s.catalogue.epoch = c.if-epoch-now.false ∙ now_is in
     let asked : ℕ → Result Request ℕ =
-    λ e. Ok (requests.Update e c.args.spelling.now c.args.tag.now) in
+    λ e. Ok (requests.Update e c.args.spelling c.args.tag.now) in
     λ request is.
     c.make.ensures request (record {
-      spelling = c.args.spelling.now;
+      spelling = c.args.spelling;
       tag = c.args.tag.now;
       is = is ∙ ap asked here;
-      right = right ∙ ap (λ e. owner_tag s.keys.surface e c.args.spelling.now) here;
+      right = right ∙ ap (λ e. owner_tag s.keys.surface e c.args.spelling) here;
       spells = c.in-Ok.ensures.exact;
     })
 
@@ -86,19 +86,19 @@ returns-in-Err-BadRecord g c =
     let key : c.self.inside.surface.bytes ≡ s.keys.surface =
     sym c.self.invariant
     ∙ ap (λ (o : Opened g.row.D.Denot). o.keys.surface) c.self.view_is in
-    let right : c.args.tag.now ≡ owner_tag s.keys.surface c.args.epoch c.args.spelling.now =
+    let right : c.args.tag.now ≡ owner_tag s.keys.surface c.args.epoch c.args.spelling =
     sym (c.same.ensures.0 c.if-not-same.false) ∙ c.owner_tag.ensures
-    ∙ ap (λ k. owner_tag k c.args.epoch c.args.spelling.now) key in
+    ∙ ap (λ k. owner_tag k c.args.epoch c.args.spelling) key in
     let now_is : c.epoch-now.result ≡ s.catalogue.epoch =
     c.epoch-now.ensures ∙ ap (λ (k : Catalogue). k.epoch) c.state.ensures
     ∙ ap (λ (o : Opened g.row.D.Denot). o.catalogue.epoch) c.self.view_is in
     let here : c.args.epoch ≡ s.catalogue.epoch = c.if-epoch-now.false ∙ now_is in
     let place : ℕ = c.in-Err-BadRecord.at in
-    let wrong : update_of second_form c.args.spelling.now ≡ Err place =
+    let wrong : update_of second_form c.args.spelling ≡ Err place =
     rw c.in-Err-BadRecord.field-0-is at c.in-Err-BadRecord.ensures.exact in
     λ request is.
     answers_still g.D.Disk.tells s request
-    (Ok (requests.Update c.args.epoch c.args.spelling.now c.args.tag.now)) is
+    (Ok (requests.Update c.args.epoch c.args.spelling c.args.tag.now)) is
     (Ok (answers.BadRequest (5 + place))) c.reply_with-in-Err-BadRecord.new.reply.items
     c.reply_with-in-Err-BadRecord.result (
       right,
@@ -109,8 +109,8 @@ returns-in-Err-BadRecord g c =
     )
     (omega (
       arith,
-      placed_low (length c.args.spelling.now) place
-          (all_of (update_at second_form c.args.spelling.now)) wrong,
+      placed_low (length c.args.spelling) place
+          (all_of (update_at second_form c.args.spelling)) wrong,
       c.requires,
     ))
     (refl, λ u has. absurd (spells_none _ request u has _ _ _ is place wrong)) (
@@ -122,6 +122,6 @@ pub returns-in-Err-Memory : goal.returns-in-Err-Memory
 returns-in-Err-Memory g c =
     λ request is.
     answers_still g.D.Disk.tells c.args.self.now request
-    (Ok (requests.Update c.args.epoch c.args.spelling.now c.args.tag.now)) is (Err _)
+    (Ok (requests.Update c.args.epoch c.args.spelling c.args.tag.now)) is (Err _)
     c.reply_with-in-Err-Memory.new.reply.items c.reply_with-in-Err-Memory.result tt tt tt
     (c.reply_with-in-Err-Memory.ensures.ok, c.reply_with-in-Err-Memory.ensures.err)
