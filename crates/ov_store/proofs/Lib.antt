@@ -4,6 +4,7 @@ pub mod CarriedOver
 pub mod Checked
 pub mod Checking
 pub mod Extents
+pub mod Fronts
 pub mod Gates
 pub mod Going
 pub mod Histories
