@@ -20,7 +20,7 @@ use Rattle.ov_history.specs.Placed.{PlacedHistory}
 use Rattle.ov_history.specs.Sealed.{SealedHistory}
 use Rattle.ov_history.specs.Texts.{BriefHistory}
 use Rattle.ov_store.specs.Beginning.{IsBeginFault}
-use Rattle.ov_store.proofs.Carrying.{never_born}
+use Rattle.ov_store.proofs.CarriedOver.{never_born}
 use Rattle.ov_store.specs.declared.fault.BeginFault.{BeginFault}
 use Rattle.ov_store.specs.declared.fault.BeginFault.TheVariants.{Disk, NotAStore, Damaged, BaseDiffers, SurfaceDiffers, ModeDiffers, Memory}
 use Rattle.ov_report.specs.Faults.{HasValues}
