@@ -222,8 +222,8 @@ module _ {D : Type 0} (tells : DiskTells D) where
         (g : SealedHistory) → Serves tells g s
         → Told (tells.reads s.disk) (λ i. IsChecked tells k i g r)
 
-    seen : (r : Result (Opened D) (BeginRefused D)) → Owners r → (i : Image) → tells.reads first ≡ Some i
-        → (g : SealedHistory) → g.mode ≡ mode
+    seen : (r : Result (Opened D) (BeginRefused D)) → Owners r → (i : Image)
+        → (read : tells.reads first ≡ Some i) → (g : SealedHistory) → g.mode ≡ mode
         → IsImageOf (keys_of k) g i → IsChecked tells k (found.1 i read).0 g r
     seen r owners i read g is image =
         let told = found.1 i read in
