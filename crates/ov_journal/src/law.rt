@@ -14,8 +14,9 @@ pub fn headers_are_spelled_apart()
     ensures { HeadersAreSpelledApart }
 {}
 
-/// A step record behind the last record of a store of the first format changes nothing of what the
-/// store says. So a stop between the two appends of the first update leaves the store from before.
+/// A step record behind the last record of a whole store of the first format, where none stood
+/// before, changes nothing of what the store says. So a stop between the two appends of the first
+/// update leaves the store from before.
 pub fn a_step_record_says_nothing()
     ensures { StepSaysNothing }
 {}

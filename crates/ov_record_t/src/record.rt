@@ -136,7 +136,7 @@ fn the_first_wrong_byte_is_named(rt: HostRuntime) {
     }
 }
 
-/// The form of the oldest records, which contracts see as `first_form`.
+/// The form of the older records, which contracts see as `first_form`.
 fn first() -> Form<4>
     ensures { form_of result ≡ first_form }
 {

@@ -40,8 +40,9 @@ pub fn is_to_be_carried_over<D: Disk>(alloc: Global, disk: &mut D) -> Result<boo
 }
 
 impl<D: Disk> Store<D> {
-    /// Whether the next update carries the store over to the second format: it is of the first, and
-    /// none did so yet.
+    /// Whether the next update that isn't refused carries the store over to the second format: it is
+    /// of the first, and has no step record. After a fault of the disk in an update this is what was
+    /// so before that update.
     pub fn is_to_be_carried_over(&self) -> bool
         ensures { self.now.failed ≡ false → Told (D.tells.reads self.now.disk) (λ i.
             IsTrue result ↔ IsToBeCarriedOver i.book) }

@@ -11,7 +11,7 @@
 //! [`Store::check`] looks whether all updates are as their owner seals them, for which it reads
 //! each file once, and [`Store::close`] gives the disk back.
 //!
-//! A store of the first format is carried over to the second by its first update: this writes a
+//! A store of the first format is carried over to the second by its first update that isn't refused: this writes a
 //! step record before its own, and all records behind that are in the second format. Programs that
 //! know the first alone open the store no more. [`is_to_be_carried_over`] says before a store is
 //! opened that this is to come, and [`Store::is_to_be_carried_over`] says it of an open one.

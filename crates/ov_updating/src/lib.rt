@@ -5,8 +5,8 @@
 //! disk keeps. This crate joins the two: what is turned is the coats of files ([`ov_recoat`]), the
 //! record is an update's spelling in the second form and the first blocks of the extents that it
 //! fills, and so an image that kept a history keeps it, or it with the update. In a store of the first
-//! format the journal puts a step record before the first such record, and no image is another for
-//! that. `ov_placed` calls it, and makes the update in the catalogue.
+//! format the journal puts a step record before the first such record, and what an image keeps is the
+//! same with it. `ov_placed` calls it, and makes the update in the catalogue.
 //!
 //! * [`update`] is the whole of an update but for the catalogue: it finds new extents, writes the new
 //!   bytes of each file there, appends the record, and gives up the old extents. Its caller has the
