@@ -22,8 +22,8 @@ abbrev pub access_entry_of : Option Grant → Option Entry
 access_entry_of None = None
 access_entry_of (Some grant) = Some (Access grant.user grant.node grant.token)
 
--- The entry of the file of a number. Of a number that no file ever had there is none; a file that is
--- gone has one, without its fields.
+-- The entry of the file of a number. Of a number that no file ever had there is none; a file that
+-- is gone has one, without its fields.
 abbrev pub file_entry_of : Option (Option Filed) → Option Entry
 file_entry_of None = None
 file_entry_of (Some None) = Some Gone
@@ -31,8 +31,8 @@ file_entry_of (Some (Some f)) =
     Some (File f.name f.node f.length f.generation f.tag f.surface)
 
 -- The entry of a part with this number. Part 1 has the users, 2 the base nodes, 3 the surface
--- nodes, 4 the access tokens as they were published, and 5 the files, gone ones among them; no other
--- part has any.
+-- nodes, 4 the access tokens as they were published, and 5 the files, gone ones among them; no
+-- other part has any.
 abbrev pub entry_of : Catalogue → ℕ → ℕ → Option Entry
 entry_of c (suc zero) number = user_entry_of c number (slice_get c.users number)
 entry_of c (suc (suc zero)) number =

@@ -20,8 +20,8 @@ pub data Entry : Type 0 where
       → Entry
   Gone : Entry
 
--- The entry's fields in order. For a file that is gone there is the byte 0, which can't be the length
--- of a name.
+-- The entry's fields in order. For a file that is gone there is the byte 0, which can't be the
+-- length of a name.
 abbrev pub entry_bytes : Entry → List ℕ
 entry_bytes (User name base_root surface_root) = user_entry name base_root surface_root
 entry_bytes (Node set edges) = node_entry SET_BYTES set edges
