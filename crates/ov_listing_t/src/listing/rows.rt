@@ -89,6 +89,9 @@ const FILE: &[u8] = b"\
     \x1a\x7d\x37\x58\xce\xe1\xeb\x73\x56\x7e\x8e\xce\x1d\xa1\x49\x02\x45\x70\x25\xcf\x2c\
     \x4f\x9f\x3f\xb2\xa8\x34\x9f\x01\x00\x00\x00\x03";
 
+/// The page of a file that is gone, which is no user's either.
+const GONE: &[u8] = b"\x87\x01\0";
+
 /// The list of a, b and c.
 const LIST: &[u8] = b"\x8f\0\x03\x01a\x01b\x01c";
 
@@ -177,7 +180,7 @@ pub struct Row {
     pub text: &'static str,
 }
 
-static ROWS: [Row; 10] = [
+static ROWS: [Row; 11] = [
     // A store that moves once, and one that moves in each of nine tries.
     Row {
         rounds: 1,
@@ -212,7 +215,7 @@ static ROWS: [Row; 10] = [
         last: &[],
         text: "BadReply { at: 1 }",
     },
-    // Answers to other requests, an entry of another part, and a reply that is none.
+    // Answers to other requests, entries of another part, and a reply that is none.
     Row {
         rounds: 1,
         replies: &[(1, NO_PAGE)],
@@ -230,6 +233,12 @@ static ROWS: [Row; 10] = [
         replies: &[(1, HELLO_6), (1, FILE)],
         last: &[],
         text: "BadReply { at: 13 }",
+    },
+    Row {
+        rounds: 1,
+        replies: &[(1, HELLO_6), (1, GONE)],
+        last: &[],
+        text: "BadReply { at: 2 }",
     },
     Row {
         rounds: 1,
