@@ -20,7 +20,7 @@ NAME = NAME_FIRST + b"._-"
 USER, NODE, FILE, BYTES = 1023, 4095, 16383, 16777216
 USERS, SET_BYTES = USER + 1, 128
 ENROL, CREATE = (1, 7, 10, 11), (1, 2, 8, 9, 10, 11)
-GRANT, REVOKE, READ = (2, 3, 5, 10, 11), (2, 3, 6, 10, 11), (2, 3, 4)
+GRANT, REVOKE, REMOVE, READ = (2, 3, 5, 10, 11), (2, 3, 6, 10, 11), (3, 10, 11), (2, 3, 4)
 
 
 class Wrong(Exception):
@@ -63,7 +63,7 @@ class Text:
             seen.append(name)
 
     def update(self):
-        kind = self.byte((1, 2, 3, 4))
+        kind = self.byte((1, 2, 3, 4, 6))
         if kind == 1:
             self.name()
         elif kind == 2:
@@ -72,6 +72,8 @@ class Text:
             self.take(32 * self.number(2, 0, USERS))
             self.take(32)
             self.take(self.number(4, 0, BYTES))
+        elif kind == 6:
+            self.take(4)
         else:
             self.take(8)
             if kind == 3 and self.byte((0, 1)):
@@ -94,6 +96,8 @@ class Text:
                 self.number(4, 0, NODE), self.take(32)
         elif part == 4:
             self.number(4, 0, USER), self.number(4, 0, NODE), self.take(32)
+        elif self.data[self.at:self.at + 1] == b"\0":
+            self.take(1)
         else:
             self.name(), self.number(4, 0, NODE), self.number(4, 0, BYTES), self.number(4), self.take(32)
             if self.byte((0, 1)):
@@ -107,7 +111,7 @@ class Text:
 def read_request(text):
     kind = text.byte(range(1, 9))
     if kind == 2:
-        verb = text.byte((1, 3, 4, 5))
+        verb = text.byte((1, 3, 4, 5, 6))
         text.name()
         if verb in (3, 4):
             text.name()
@@ -139,9 +143,10 @@ def read_answer(request, text):
         text.byte((0, 1)), text.take(36)
     elif answer == 0x82:
         verb = request[1]
-        named, wants = verb in (3, 4), verb == 3
-        text.number(4), text.number(4, 0, USER), text.number(4, 0, NODE), text.number(4, 0, NODE)
-        text.number(4, 0, FILE if named else 0), text.number(4, 0, NODE if named else 0), text.byte((0, 1) if wants else (0,))
+        user, file, wants = verb != 6, verb in (3, 4, 6), verb == 3
+        text.number(4), text.number(4, 0, USER if user else 0)
+        text.number(4, 0, NODE if user else 0), text.number(4, 0, NODE if user else 0)
+        text.number(4, 0, FILE if file else 0), text.number(4, 0, NODE if file else 0), text.byte((0, 1) if wants else (0,))
     elif answer == 0x83:
         text.number(4), text.number(4, 0, FILE), text.take(SET_BYTES), text.number(4, 0, NODE), text.byte((0, 1))
         for _ in range(text.number(2, 0, USERS)):
@@ -158,8 +163,8 @@ def read_answer(request, text):
         if text.byte((0, 1) if 1 <= request[1] <= 5 else (0,)):
             text.entry(request[1])
     elif answer == 0x88:
-        of_ask = {1: ENROL, 3: GRANT, 4: REVOKE, 5: (2,)}
-        of_update = {1: ENROL, 2: CREATE, 3: GRANT, 4: REVOKE}
+        of_ask = {1: ENROL, 3: GRANT, 4: REVOKE, 5: (2,), 6: REMOVE}
+        of_update = {1: ENROL, 2: CREATE, 3: GRANT, 4: REVOKE, 6: REMOVE}
         text.byte({2: lambda: of_ask[request[1]], 3: lambda: CREATE, 4: lambda: of_update[request[5]], 5: lambda: READ,
                    6: lambda: (3,), 8: lambda: (3,)}[kind]())
     elif answer == 0x89:
@@ -200,11 +205,12 @@ REQUESTS = [
     b"\1", b"\2\1" + ALICE, b"\2\3" + ALICE + F1, b"\2\5" + BOB, b"\3" + F1 + u32(700) + u16(2) + ALICE + BOB,
     b"\4" + u32(7) + ENROLMENT + TAG, b"\4" + u32(7) + CREATION + TAG, b"\4" + u32(7) + b"\3" + u32(1) + u32(2) + b"\1" + TOKEN + TAG,
     b"\4" + u32(7) + b"\4" + u32(1) + u32(2) + TAG, b"\5" + ALICE + F1, b"\6" + u32(3) + u32(9) + u32(0) + u32(65536),
-    b"\7\5" + u32(4), b"\x08" + F1,
+    b"\7\5" + u32(4), b"\x08" + F1, b"\2\6" + F1, b"\4" + u32(7) + b"\6" + u32(2) + TAG,
 ]
 
 HELLO, ASK, GRANTED, COVER = REQUESTS[0], REQUESTS[1], REQUESTS[2], REQUESTS[4]
 UPDATE, CHAIN, CHUNK, LIST = REQUESTS[5], REQUESTS[9], b"\6" + u32(3) + u32(9) + u32(0) + u32(6), REQUESTS[12]
+REMOVED, REMOVAL = REQUESTS[13], REQUESTS[14]
 STEP = u32(6) + TOKEN
 
 ANSWERS = [
@@ -218,6 +224,8 @@ ANSWERS = [
     (b"\7\1" + u32(0), b"\x87\1" + ALICE + u32(1) + u32(2)), (b"\7\2" + u32(0), b"\x87\1" + SET + u16(1) + u32(4) + TOKEN),
     (b"\7\4" + u32(0), b"\x87\1" + u32(1) + u32(4) + TOKEN),
     (b"\7\5" + u32(0), b"\x87\1" + F1 + u32(1) + u32(5) + u32(6) + TAG + b"\1" + u32(2)), (b"\7\6" + u32(0), b"\x87\0"),
+    (REMOVED, b"\x82" + u32(7) + u32(0) + u32(0) + u32(0) + u32(5) + u32(6) + b"\0"), (REMOVED, b"\x88\3"), (REMOVAL, b"\x88\x0b"),
+    (b"\7\5" + u32(0), b"\x87\1\0"),
 ]
 
 
@@ -239,7 +247,7 @@ def case(request, data):
 ASKED = [
     HELLO, ASK, GRANTED, b"\2\4" + ALICE + F1, b"\2\5" + BOB, COVER, UPDATE, b"\4" + u32(7) + CREATION + TAG,
     REQUESTS[7], REQUESTS[8], CHAIN, CHUNK, b"\6" + u32(3) + u32(9) + u32(0) + u32(65536),
-] + [b"\7" + bytes([part]) + u32(0) for part in range(7)] + [LIST]
+] + [b"\7" + bytes([part]) + u32(0) for part in range(7)] + [LIST, REMOVED, REMOVAL]
 
 
 def known(user=0, base=0, surface=0, file=0, node=0, wants=0, epoch=7):
@@ -294,7 +302,7 @@ SAMPLES = [
     node_entry(u16(USERS + 1)), page(u32(USER) + u32(NODE) + TOKEN), page(u32(USER + 1) + u32(0) + TOKEN),
     page(u32(0) + u32(NODE + 1) + TOKEN), file_entry(), file_entry(node=NODE), file_entry(node=NODE + 1),
     file_entry(size=BYTES), file_entry(size=BYTES + 1), file_entry(surface=b"\1" + u32(NODE)),
-    file_entry(surface=b"\1" + u32(NODE + 1)), file_entry(surface=b"\2"),
+    file_entry(surface=b"\1" + u32(NODE + 1)), file_entry(surface=b"\2"), page(b"\0"), page(b"\0\0"), page(b"\x41"),
     b"\x89" + u32(7), b"\x89" + u32(8), b"\x89" + u32(LAST), b"\x8a", b"\x8b" + u32(0), b"\x8c" + u32(9),
     b"\x8c" + u32(10), b"\x8c" + u32(LAST), b"\x8d", b"\x8e", b"\x8f" + u16(0), b"\x8f" + u16(1) + ALICE,
     b"\x8f" + u16(2) + ALICE + ALICE, b"\x8f" + u16(USERS), b"\x8f" + u16(USERS + 1), b"\x90",

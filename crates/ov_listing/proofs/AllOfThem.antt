@@ -1,18 +1,19 @@
 -- Names and lists, one after another.
 use Rattle.std.proofs.Common.{◌≡◌, ◌∙◌, ℕ, zero, suc, ◌+◌, ◌<◌, List, [], ◌∷◌, ◌++◌, length, take}
-use Rattle.std.proofs.Common.{map, Bool, Some, None, Result, Ok, Err, refl, sym, ap}
+use Rattle.std.proofs.Common.{map, Bool, Option, Some, None, Result, Ok, Err, refl, sym, ap}
 use Rattle.std.proofs.Common.{add-one, get_or}
-use Rattle.std.specs.Prelude.{Vec, slice_get}
+use Rattle.std.specs.Prelude.{Vec, option_map, slice_get}
 use Rattle.std.specs.declared.alloc.Global.{Global}
-use Rattle.std.proofs.lemmas.List.{map-append}
-use Rattle.std.proofs.lemmas.Option.{slice_get-get_or}
+use Rattle.std.proofs.lemmas.List.{append-nil, append_assoc, map-append}
+use Rattle.std.proofs.lemmas.Option.{same_Some, slice_get-get_or}
 use Rattle.std.proofs.Math.Seq.{take-length}
 use Rattle.ov_base.proofs.NamePlaces.{take_push}
-use Rattle.ov_history.specs.History.{Matrix}
+use Rattle.ov_history.specs.History.{File, Matrix}
 use Rattle.ov_protocol.specs.Serving.{Service}
-use Rattle.ov_listing.specs.Listings.{files_wanted, listed}
-use Rattle.ov_listing.specs.Questions.{AreFilesAt, AreListsAt, IsListAt, IsNameAt}
-use Rattle.ov_listing.specs.Questions.{matrix_at, names_in_part}
+use Rattle.ov_listing.specs.Listings.{files_wanted, listed, living_names}
+use Rattle.ov_listing.specs.Questions.{AreFilesAt, AreListsAt, IsListAt, IsShownAt}
+use Rattle.ov_listing.specs.Questions.{matrix_at, name_of_file, name_shown, named}
+use Rattle.ov_listing.specs.Questions.{names_by_number, names_in_part}
 use Rattle.ov_listing.specs.Telling.{Told, ToldOfOne}
 use Rattle.ov_listing.specs.declared.fault.ListingFault.{ListingFault}
 use Rattle.ov_listing.specs.declared.listing.Listed.{Listed}
@@ -20,47 +21,84 @@ use Rattle.ov_listing.specs.declared.listing.Wanted.{Wanted}
 use Rattle.ov_listing.specs.declared.listing.Wanted.TheVariants as wants
 use Rattle.ov_listing.specs.declared.part.Part.{Part}
 use Rattle.ov_listing.specs.declared.part.Part.TheVariants as parts
+use Rattle.ov_listing.specs.declared.shown.Shown.{Shown}
 use Rattle.ov_listing.proofs.Meanwhile.{Meanwhile, also, behind, of_one}
 
 -- ---- names
 
--- the first so many names of a part
-abbrev pub AreFirst : Part → ℕ → List (List ℕ) → Service → Type 0
-AreFirst part n names w = names ≡ take n (names_in_part part (matrix_at w))
+-- the names that there are
+abbrev pub all_named : List (Option (List ℕ)) → List (List ℕ)
+all_named [] = []
+all_named (name ∷ names) = named name ++ all_named names
 
-taken_all : (names : List (List ℕ)) (n : ℕ) → slice_get names n ≡ None → take n names ≡ names
+-- the names among the first so many of a part
+abbrev pub AreFirst : Part → ℕ → List (List ℕ) → Service → Type 0
+AreFirst part n names w = names ≡ all_named (take n (names_by_number part (matrix_at w)))
+
+taken_all : (names : List (Option (List ℕ))) (n : ℕ) → slice_get names n ≡ None
+    → take n names ≡ names
 taken_all [] zero none = refl
 taken_all [] (suc n) none = refl
 taken_all (name ∷ names) zero none = absurd (cc none)
-taken_all (name ∷ names) (suc n) none = ap (λ (xs : List (List ℕ)). name ∷ xs) (taken_all names n none)
+taken_all (name ∷ names) (suc n) none =
+    ap (λ (xs : List (Option (List ℕ))). name ∷ xs) (taken_all names n none)
+
+-- the names with that of the next number
+named_next : (names : List (Option (List ℕ))) (n : ℕ) (name : Option (List ℕ))
+    → slice_get names n ≡ Some name
+    → all_named (take n names) ++ named name ≡ all_named (take (suc n) names)
+named_next [] n name is = absurd (cc is)
+named_next (first ∷ names) zero name is =
+    ap named (sym (same_Some first name is)) ∙ sym (append-nil (named first))
+named_next (first ∷ names) (suc n) name is =
+    append_assoc (named first) (all_named (take n names)) (named name)
+    ∙ ap (λ (xs : List (List ℕ)). named first ++ xs) (named_next names n name is)
+
+users_named : (users : List (List ℕ)) → all_named (map Some users) ≡ users
+users_named [] = refl
+users_named (user ∷ users) = ap (λ (xs : List (List ℕ)). user ∷ xs) (users_named users)
+
+files_named : (files : List (Option File))
+    → all_named (map (option_map name_of_file) files) ≡ living_names files
+files_named [] = refl
+files_named (None ∷ files) = files_named files
+files_named (Some file ∷ files) =
+    ap (λ (xs : List (List ℕ)). file.name ∷ xs) (files_named files)
+
+-- all names of a part
+part_named : (part : Part) (m : Matrix) → all_named (names_by_number part m) ≡ names_in_part part m
+part_named parts.Users m = users_named m.users
+part_named parts.Files m = files_named m.files
 
 module _ (alone : Bool) (v : Service) (Mid Then : Service → Type 0) (part : Part) (n : ℕ)
     (names : List (List ℕ)) (so_far : Meanwhile alone v Mid (AreFirst part n names v)) where
-  pub one_more : (name : List ℕ)
-      → ((w : Service) → Mid w → Told alone w Then (IsNameAt part n) (Ok (Some name)))
-      → Meanwhile alone v Then (AreFirst part (n + 1) (names ++ name ∷ []) v)
-  one_more name told =
-      let all = names_in_part part (matrix_at v) in
+  pub one_more : (shown : Shown)
+      → ((w : Service) → Mid w → Told alone w Then (IsShownAt part n) (Ok (Some shown)))
+      → Meanwhile alone v Then (AreFirst part (n + 1) (names ++ named (name_shown shown)) v)
+  one_more shown told =
+      let all = names_by_number part (matrix_at v) in
+      let name = name_shown shown in
       also alone v Then
-      (AreFirst part n names v × IsNameAt part n (Some name) v)
-      (AreFirst part (n + 1) (names ++ name ∷ []) v)
-      (behind alone v Mid Then (AreFirst part n names v) (IsNameAt part n (Some name)) so_far
-      (λ w mid. of_one alone w Then (IsNameAt part n) (Some name) (told w mid)))
+      (AreFirst part n names v × IsShownAt part n (Some shown) v)
+      (AreFirst part (n + 1) (names ++ named name) v)
+      (behind alone v Mid Then (AreFirst part n names v) (IsShownAt part n (Some shown)) so_far
+      (λ w mid. of_one alone w Then (IsShownAt part n) (Some shown) (told w mid)))
       (λ (first, there).
-      ap (λ (xs : List (List ℕ)). xs ++ name ∷ []) first
-      ∙ sym (take_push all n name there).0
-      ∙ ap (λ (k : ℕ). take k all) (sym (add-one n)))
+      ap (λ (xs : List (List ℕ)). xs ++ named name) first
+      ∙ named_next all n name there
+      ∙ ap (λ (k : ℕ). all_named (take k all)) (sym (add-one n)))
 
-  pub no_more : ((w : Service) → Mid w → Told alone w Then (IsNameAt part n) (Ok None))
+  pub no_more : ((w : Service) → Mid w → Told alone w Then (IsShownAt part n) (Ok None))
       → Meanwhile alone v Then (names ≡ names_in_part part (matrix_at v))
   no_more told =
-      let all = names_in_part part (matrix_at v) in
+      let all = names_by_number part (matrix_at v) in
       also alone v Then
-      (AreFirst part n names v × IsNameAt part n None v)
-      (names ≡ all)
-      (behind alone v Mid Then (AreFirst part n names v) (IsNameAt part n None) so_far
-      (λ w mid. of_one alone w Then (IsNameAt part n) None (told w mid)))
-      (λ (first, there). first ∙ taken_all all n there)
+      (AreFirst part n names v × IsShownAt part n None v)
+      (names ≡ names_in_part part (matrix_at v))
+      (behind alone v Mid Then (AreFirst part n names v) (IsShownAt part n None) so_far
+      (λ w mid. of_one alone w Then (IsShownAt part n) None (told w mid)))
+      (λ (first, there).
+      first ∙ ap all_named (taken_all all n there) ∙ part_named part (matrix_at v))
 
 -- ---- lists
 

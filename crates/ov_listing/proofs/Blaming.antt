@@ -13,13 +13,14 @@ use Rattle.ov_wire.specs.declared.answer.Welcome.{Welcome}
 use Rattle.ov_wire.specs.declared.request.Request.{Request}
 use Rattle.ov_wire.specs.declared.request.Request.TheVariants as requests
 use Rattle.ov_listing.specs.Causes.{IsSettled, listing_fault}
-use Rattle.ov_listing.specs.Questions.{NamedIn, listed_in, most_in, part_number, welcome_in}
+use Rattle.ov_listing.specs.Questions.{ShownIn, listed_in, most_in, part_number, welcome_in}
 use Rattle.ov_listing.specs.Reasons.{BlamesChanges, BlamesReply, Greets, HasEntry, HasLastPage}
 use Rattle.ov_listing.specs.Reasons.{HasPage, IsOnPage, IsTooHigh, SeesChange, SeesChanges}
 use Rattle.ov_listing.specs.declared.fault.ListingFault.{ListingFault}
 use Rattle.ov_listing.specs.declared.fault.ListingFault.TheVariants as faults
 use Rattle.ov_listing.specs.declared.part.Part.{Part}
 use Rattle.ov_listing.specs.declared.part.Part.TheVariants.{Files, Users}
+use Rattle.ov_listing.specs.declared.shown.Shown.{Shown}
 
 -- an answer is a Welcome where it is taken as one
 pub is_welcome : (a : Answer) (w : Welcome) → welcome_in a ≡ Ok w → a ≡ answers.Welcome w
@@ -92,27 +93,27 @@ module _ {P : Type 0} (peer : PeerTells P) (p q : P) where
   -- a page
   pub page_blames : (part number : ℕ) (a : Answer)
       → Answered peer p q (requests.Page part number) (Ok a)
-      → (result : Result (Option (List ℕ)) ListingFault) → NamedIn a result
+      → (result : Result (Option Shown) ListingFault) → ShownIn a result
       → IfErr result (BlamesReply peer q)
-  page_blames part number a answered (Ok name) named = tt
-  page_blames part number a answered (Err faults.Link) named = tt
-  page_blames part number a answered (Err faults.Unsettled) named = tt
-  page_blames part number a answered (Err faults.Memory) named = tt
-  page_blames part number a answered (Err (faults.BadReply place)) named = record {
+  page_blames part number a answered (Ok found) shown = tt
+  page_blames part number a answered (Err faults.Link) shown = tt
+  page_blames part number a answered (Err faults.Unsettled) shown = tt
+  page_blames part number a answered (Err faults.Memory) shown = tt
+  page_blames part number a answered (Err (faults.BadReply place)) shown = record {
     before = p;
     request = requests.Page part number;
     read = Ok a;
     answered = answered;
-    wrong = inl named;
+    wrong = inl shown;
   }
 
   pub page_there : (part number : ℕ) (a : Answer)
       → Answered peer p q (requests.Page part number) (Ok a)
-      → (result : Result (Option (List ℕ)) ListingFault) → NamedIn a result
+      → (result : Result (Option Shown) ListingFault) → ShownIn a result
       → IfOk result (IsOnPage peer part number q)
-  page_there part number a answered (Err fault) named = tt
-  page_there part number a answered (Ok None) named = tt
-  page_there part number a answered (Ok (Some name)) (entry, rest, is_page, begins) =
+  page_there part number a answered (Err fault) shown = tt
+  page_there part number a answered (Ok None) shown = tt
+  page_there part number a answered (Ok (Some found)) (entry, is_page, by) =
       record { before = p; answer = a; answered = answered; named = (entry, is_page) }
 
 -- one page more was asked for

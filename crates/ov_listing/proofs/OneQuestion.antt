@@ -2,7 +2,6 @@
 use Rattle.std.proofs.Common.{◌≡◌, ◌∙◌, ℕ, List, [], Bool, true, false, Option, Some, None}
 use Rattle.std.proofs.Common.{Result, Ok, Err, refl, sym, subst, inl, inr}
 use Rattle.ov_record.specs.Updates.{SealedUpdate}
-use Rattle.ov_history.proofs.Living.{there-of}
 use Rattle.ov_wire.specs.Requests.{HasRequestForm, request_bytes}
 use Rattle.ov_wire.specs.declared.answer.Answer.{Answer}
 use Rattle.ov_wire.specs.declared.answer.Answer.TheVariants as answers
@@ -16,13 +15,14 @@ use Rattle.ov_peer.specs.Exchanges.{Answered, IsAnswerAt}
 use Rattle.ov_peer.specs.Tells.{PeerTells}
 use Rattle.ov_peer.proofs.Needing.{needs_disk}
 use Rattle.ov_peer.proofs.Telling.{answer_at, exchanges_told}
-use Rattle.ov_listing.specs.Questions.{IsListAt, IsNameAt, IsWelcomeAt, NamedIn, listed_in}
+use Rattle.ov_listing.specs.Questions.{IsListAt, IsShownAt, IsWelcomeAt, ShownIn, listed_in}
 use Rattle.ov_listing.specs.Questions.{part_number, welcome_in}
 use Rattle.ov_listing.specs.Telling.{IsAloneIf, MayBeMade, Told}
 use Rattle.ov_listing.specs.declared.fault.ListingFault.{ListingFault}
 use Rattle.ov_listing.specs.declared.part.Part.{Part}
+use Rattle.ov_listing.specs.declared.shown.Shown.{Shown}
 use Rattle.ov_listing.proofs.Meanwhile.{same_left}
-use Rattle.ov_listing.proofs.Pages.{no_page, page_named}
+use Rattle.ov_listing.proofs.Pages.{no_page, page_shown}
 
 -- a question that changes nothing and needs no disk
 abbrev pub IsQuiet : Request → Type 0
@@ -79,30 +79,30 @@ module _ {P : Type 0} (peer : PeerTells P) (p q : P) (alone : Bool) (v : Service
   welcome_told form answers.NoMemory answered = tt
   welcome_told form a answered = tt
 
-  pub name_told : (part : Part) (number : ℕ) → HasRequestForm (requests.Page (part_number part) number)
-      → (a : Answer) (result : Result (Option (List ℕ)) ListingFault)
-      → Answered peer p q (requests.Page (part_number part) number) (Ok a) → NamedIn a result
-      → Told alone v (peer.serves q) (IsNameAt part number) result
-  name_told part number form a (Ok (Some name)) answered (entry, rest, is_page, begins) =
+  pub shown_told : (part : Part) (number : ℕ)
+      → HasRequestForm (requests.Page (part_number part) number)
+      → (a : Answer) (result : Result (Option Shown) ListingFault)
+      → Answered peer p q (requests.Page (part_number part) number) (Ok a) → ShownIn a result
+      → Told alone v (peer.serves q) (IsShownAt part number) result
+  shown_told part number form a (Ok (Some shown)) answered (entry, is_page, by) =
       let (others, may, then, is) = answered_at peer p q (requests.Page (part_number part) number)
       (quiet_page (part_number part) number) form alone v a answered is_alone serves in (
         others,
         may,
         then,
-        page_named part (served (later v others)).catalogue number name entry rest
-            (cc (is, is_page)) begins,
+        page_shown part (served (later v others)).catalogue number shown entry
+            (cc (is, is_page)) by,
       )
-  name_told part number form a (Ok None) answered is_page =
+  shown_told part number form a (Ok None) answered is_page =
       let (others, may, then, is) = answered_at peer p q (requests.Page (part_number part) number)
       (quiet_page (part_number part) number) form alone v a answered is_alone serves in
       let now : Service = later v others in (
         others,
         may,
         then,
-        no_page part (served now).catalogue number (there-of now.surface now.history)
-            (cc (is, is_page)),
+        no_page part (served now).catalogue number (cc (is, is_page)),
       )
-  name_told part number form a (Err fault) answered named = tt
+  shown_told part number form a (Err fault) answered shown = tt
 
   pub list_told : (file : List ℕ) → HasRequestForm (requests.List file) → (a : Answer)
       → Answered peer p q (requests.List file) (Ok a)

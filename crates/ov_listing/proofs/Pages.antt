@@ -1,23 +1,23 @@
 -- The names on the pages of a catalogue.
 use Rattle.std.proofs.Common.{◌≡◌, ◌∙◌, ℕ, zero, suc, List, [], ◌∷◌, ◌++◌, length, take}
 use Rattle.std.proofs.Common.{Option, Some, None, refl, sym, ap, subst, arith, drop, get_or}
-use Rattle.std.proofs.Common.{◌≤◌, ◌-◌}
-use Rattle.std.specs.Prelude.{◌↔◌, IfNone, IfSome, IsSome, slice_get}
+use Rattle.std.proofs.Common.{◌≤◌, ◌+◌, ◌-◌}
+use Rattle.std.specs.Prelude.{◌↔◌, IfNone, IfSome, IsSome, map, option_map, slice_get}
 use Rattle.ov_base.specs.Names.{IsName}
 use Rattle.std.proofs.Math.Seq.{take-append_seam, take-length}
 use Rattle.std.proofs.lemmas.List.{append_assoc, append-nil, take-append-drop}
-use Rattle.std.proofs.lemmas.Option.{same_Some}
+use Rattle.std.proofs.lemmas.Option.{same_Some, slice_get-map}
 use Rattle.ov_fields.specs.Spelling.{name_field, optional, u32}
 use Rattle.ov_history.specs.Catalogue.{Catalogue, Filed, files_shown, matrix_shown, outline}
 use Rattle.ov_history.specs.Layers.{Layers, root_of}
-use Rattle.ov_history.specs.Lists.{file_names}
-use Rattle.ov_history.specs.Places.{living_at}
-use Rattle.ov_history.proofs.Living.{AllThere}
 use Rattle.ov_wire.specs.Entries.{File, User, entry_bytes}
 use Rattle.ov_protocol.specs.Pages.{entry_of, file_entry_of, page_of, user_entry_of}
-use Rattle.ov_listing.specs.Questions.{HasNoName, names_in_part, part_number}
+use Rattle.ov_listing.specs.Questions.{HasNoName, ShownBy, name_of_file, name_shown}
+use Rattle.ov_listing.specs.Questions.{names_by_number, part_number}
 use Rattle.ov_listing.specs.declared.part.Part.{Part}
 use Rattle.ov_listing.specs.declared.part.Part.TheVariants.{Files, Users}
+use Rattle.ov_listing.specs.declared.shown.Shown.{Shown}
+use Rattle.ov_listing.specs.declared.shown.Shown.TheVariants.{Gone, Named}
 
 -- bytes that begin with the field of a name
 abbrev pub Begins : List ℕ → List ℕ → Type 0
@@ -70,14 +70,7 @@ no_name entry word (Some name) form begins = tt
 no_name entry word None form begins = λ name rest named is.
     absurd (cc (form.1 (subst IsName (one_name name word entry (rest, is) begins) named)))
 
--- a file that is there is shown with its name
-shown_name : (y : Layers) (files : List (Option Filed)) (n : ℕ) (f : Filed)
-    → living_at files n ≡ Some f → slice_get (file_names (files_shown y files)) n ≡ Some f.name
-shown_name y [] n f is = absurd (cc is)
-shown_name y (None ∷ files) zero f is = absurd (cc is)
-shown_name y (Some g ∷ files) zero f is =
-    ap (λ (h : Filed). Some h.name) (same_Some g f is)
-shown_name y (g ∷ files) (suc n) f is = shown_name y files n f is
+-- ---- users
 
 user_page : (c : Catalogue) (number : ℕ) (name entry rest : List ℕ) (found : Option (List ℕ))
     → page_of (user_entry_of c number found) ≡ Some entry → entry ≡ name_field name ++ rest
@@ -91,11 +84,54 @@ user_page c number name entry rest (Some x) page begins =
     (further x (name_field x) (u32 (root_of c.base.sets number)) (field_begins x)) in
     ap Some (one_name x name bytes front (rest, is ∙ begins))
 
-file_page : (name entry rest : List ℕ) (found : Option Filed)
-    → page_of (file_entry_of found) ≡ Some entry → entry ≡ name_field name ++ rest
-    → (f : Filed) × (found ≡ Some f) × (f.name ≡ name)
-file_page name entry rest None page begins = absurd (cc page)
-file_page name entry rest (Some f) page begins =
+-- the entry of a user is longer than one byte
+user_long : (name : List ℕ) (base surface : ℕ) → entry_bytes (User name base surface) ≡ 0 ∷ [] → ⊥
+user_long [] base surface is = let long : 9 ≡ 1 = ap length is in omega (arith, long)
+user_long (b ∷ name) base surface is =
+    let first : suc (length name) ≡ 0 = ap (λ (bytes : List ℕ). get_or bytes 0 0) is in
+    omega (arith, first)
+
+no_gone_user : (c : Catalogue) (number : ℕ) (entry : List ℕ) (found : Option (List ℕ))
+    → page_of (user_entry_of c number found) ≡ Some entry → entry ≡ 0 ∷ [] → ⊥
+no_gone_user c number entry None page is = absurd (cc page)
+no_gone_user c number entry (Some x) page is =
+    let base = root_of c.base.sets number in
+    let surface = root_of c.surface.sets number in
+    user_long x base surface (same_Some (entry_bytes (User x base surface)) entry page ∙ is)
+
+no_user : (c : Catalogue) (number : ℕ) (found : Option (List ℕ))
+    → page_of (user_entry_of c number found) ≡ None → found ≡ None
+no_user c number None page = refl
+no_user c number (Some x) page = absurd (cc page)
+
+-- ---- files
+
+-- a file is shown with its name, and one that is gone with none
+names_left : (y : Layers) (files : List (Option Filed)) (n : ℕ)
+    → slice_get (map (option_map name_of_file) (files_shown y files)) n
+    ≡ option_map (option_map (λ (f : Filed). f.name)) (slice_get files n)
+names_left y [] n = refl
+names_left y (None ∷ files) zero = refl
+names_left y (Some f ∷ files) zero = refl
+names_left y (f ∷ files) (suc n) = names_left y files n
+
+-- the entry of a file that isn't gone is longer than one byte
+file_long : (name : List ℕ) (node len generation : ℕ) (tag : List ℕ) (surface : Option ℕ)
+    → entry_bytes (File name node len generation tag surface) ≡ 0 ∷ [] → ⊥
+file_long [] node len generation tag surface is =
+    let long : 13 + length (tag ++ optional u32 surface) ≡ 1 = ap length is in omega (arith, long)
+file_long (b ∷ name) node len generation tag surface is =
+    let first : suc (length name) ≡ 0 = ap (λ (bytes : List ℕ). get_or bytes 0 0) is in
+    omega (arith, first)
+
+file_page : (name entry rest : List ℕ) (found : Option (Option Filed))
+    → page_of (file_entry_of found) ≡ Some entry → (entry ≡ 0 ∷ [] → ⊥)
+    → entry ≡ name_field name ++ rest
+    → (f : Filed) × (found ≡ Some (Some f)) × (f.name ≡ name)
+file_page name entry rest None page other begins = absurd (cc page)
+file_page name entry rest (Some None) page other begins =
+    absurd (other (sym (same_Some (0 ∷ []) entry page)))
+file_page name entry rest (Some (Some f)) page other begins =
     let bytes = entry_bytes (File f.name f.node f.length f.generation f.tag f.surface) in
     let is : bytes ≡ entry = same_Some bytes entry page in
     let head = name_field f.name in
@@ -108,32 +144,53 @@ file_page name entry rest (Some f) page begins =
     (optional u32 f.surface) four in
     (f, refl, one_name f.name name bytes front (rest, is ∙ begins))
 
-pub page_named : (part : Part) (c : Catalogue) (number : ℕ) (name entry rest : List ℕ)
-    → page_of (entry_of c (part_number part) number) ≡ Some entry
-    → entry ≡ name_field name ++ rest
-    → slice_get (names_in_part part (matrix_shown c)) number ≡ Some name
-page_named Users c number name entry rest page begins =
-    user_page c number name entry rest (slice_get c.users number) page begins
-page_named Files c number name entry rest page begins =
-    let (f, is, same) = file_page name entry rest (living_at c.files number) page begins in
-    shown_name (outline c) c.files number f is ∙ ap Some same
+gone_page : (entry : List ℕ) (found : Option (Option Filed))
+    → page_of (file_entry_of found) ≡ Some entry → entry ≡ 0 ∷ [] → found ≡ Some None
+gone_page entry None page is = absurd (cc page)
+gone_page entry (Some None) page is = refl
+gone_page entry (Some (Some f)) page is =
+    let bytes = entry_bytes (File f.name f.node f.length f.generation f.tag f.surface) in
+    absurd (file_long f.name f.node f.length f.generation f.tag f.surface
+    (same_Some bytes entry page ∙ is))
 
-no_user : (c : Catalogue) (number : ℕ) (found : Option (List ℕ))
-    → page_of (user_entry_of c number found) ≡ None → found ≡ None
-no_user c number None page = refl
-no_user c number (Some x) page = absurd (cc page)
+no_file : (found : Option (Option Filed)) → page_of (file_entry_of found) ≡ None → found ≡ None
+no_file None page = refl
+no_file (Some None) page = absurd (cc page)
+no_file (Some (Some f)) page = absurd (cc page)
 
--- where no file is gone, there is no page past the last alone
-no_file : (y : Layers) (files : List (Option Filed)) (n : ℕ) → AllThere files
-    → page_of (file_entry_of (living_at files n)) ≡ None
-    → slice_get (file_names (files_shown y files)) n ≡ None
-no_file y [] n all page = refl
-no_file y (None ∷ files) n all page = absurd all
-no_file y (Some f ∷ files) zero all page = absurd (cc page)
-no_file y (Some f ∷ files) (suc n) all page = no_file y files n all page
+-- ---- both
 
-pub no_page : (part : Part) (c : Catalogue) (number : ℕ) → AllThere c.files
+-- by what is found, what is shown
+abbrev left_at : Catalogue → ℕ → Option (Option Filed) → Type 0
+left_at c number found =
+    slice_get (names_by_number Files (matrix_shown c)) number
+    ≡ option_map (option_map (λ (f : Filed). f.name)) found
+
+left : (c : Catalogue) (number : ℕ) (found : Option (Option Filed))
+    → slice_get c.files number ≡ found → left_at c number found
+left c number found is = subst (left_at c number) is (names_left (outline c) c.files number)
+
+pub page_shown : (part : Part) (c : Catalogue) (number : ℕ) (shown : Shown) (entry : List ℕ)
+    → page_of (entry_of c (part_number part) number) ≡ Some entry → ShownBy entry (Some shown)
+    → slice_get (names_by_number part (matrix_shown c)) number ≡ Some (name_shown shown)
+page_shown Users c number Gone entry page is =
+    absurd (no_gone_user c number entry (slice_get c.users number) page is)
+page_shown Users c number (Named name) entry page (other, rest, begins) =
+    slice_get-map Some c.users number
+    ∙ ap (λ (o : Option (List ℕ)). option_map Some o)
+    (user_page c number name entry rest (slice_get c.users number) page begins)
+page_shown Files c number Gone entry page is =
+    left c number (Some None) (gone_page entry (slice_get c.files number) page is)
+page_shown Files c number (Named name) entry page (other, rest, begins) =
+    let (f, is, same) = file_page name entry rest (slice_get c.files number) page other begins in
+    left c number (Some (Some f)) is ∙ ap (λ (n : List ℕ). Some (Some n)) same
+
+-- there is no page just where nothing has the number
+pub no_page : (part : Part) (c : Catalogue) (number : ℕ)
     → page_of (entry_of c (part_number part) number) ≡ None
-    → slice_get (names_in_part part (matrix_shown c)) number ≡ None
-no_page Users c number all page = no_user c number (slice_get c.users number) page
-no_page Files c number all page = no_file (outline c) c.files number all page
+    → slice_get (names_by_number part (matrix_shown c)) number ≡ None
+no_page Users c number page =
+    slice_get-map Some c.users number
+    ∙ ap (λ (o : Option (List ℕ)). option_map Some o)
+    (no_user c number (slice_get c.users number) page)
+no_page Files c number page = left c number None (no_file (slice_get c.files number) page)

@@ -1,5 +1,5 @@
 -- No part of a try is unsettled, and where nobody else updates one try is enough.
-use Rattle.std.proofs.Common.{◌≡◌, ◌∙◌, ℕ, List, true, Option, Result, Ok, Err}
+use Rattle.std.proofs.Common.{◌≡◌, ◌∙◌, true, Option, Result, Ok, Err}
 use Rattle.std.proofs.Common.{sym, ap}
 use Rattle.ov_peer.specs.declared.fault.ExchangeFault.{ExchangeFault}
 use Rattle.ov_peer.specs.declared.fault.ExchangeFault.TheVariants as exchange
@@ -8,10 +8,11 @@ use Rattle.ov_wire.specs.declared.answer.Answer.{Answer}
 use Rattle.ov_wire.specs.declared.answer.Answer.TheVariants as answers
 use Rattle.ov_wire.specs.declared.answer.Welcome.{Welcome}
 use Rattle.ov_listing.specs.Causes.{IsOneTry, IsSettled, listing_fault}
-use Rattle.ov_listing.specs.Questions.{IsWelcomeAt, NamedIn, listed_in, welcome_in}
+use Rattle.ov_listing.specs.Questions.{IsWelcomeAt, ShownIn, listed_in, welcome_in}
 use Rattle.ov_listing.specs.Telling.{Told}
 use Rattle.ov_listing.specs.declared.fault.ListingFault.{ListingFault}
 use Rattle.ov_listing.specs.declared.fault.ListingFault.TheVariants as faults
+use Rattle.ov_listing.specs.declared.shown.Shown.{Shown}
 use Rattle.ov_listing.proofs.Meanwhile.{Meanwhile, same_left}
 
 pub welcome_settled : (a : Answer) → IsSettled (welcome_in a)
@@ -24,13 +25,13 @@ list_settled (answers.Listed names) = tt
 list_settled answers.NoMemory = tt
 list_settled a = tt
 
-pub name_settled : (a : Answer) (result : Result (Option (List ℕ)) ListingFault) → NamedIn a result
+pub page_settled : (a : Answer) (result : Result (Option Shown) ListingFault) → ShownIn a result
     → IsSettled result
-name_settled a (Ok name) named = tt
-name_settled a (Err (faults.BadReply place)) named = tt
-name_settled a (Err faults.Memory) named = tt
-name_settled a (Err faults.Link) named = absurd named
-name_settled a (Err faults.Unsettled) named = absurd named
+page_settled a (Ok found) shown = tt
+page_settled a (Err (faults.BadReply place)) shown = tt
+page_settled a (Err faults.Memory) shown = tt
+page_settled a (Err faults.Link) shown = absurd shown
+page_settled a (Err faults.Unsettled) shown = absurd shown
 
 pub fault_settled : (T : Type 0) (fault : ExchangeFault)
     → IsSettled {T = T} (Err (listing_fault fault))

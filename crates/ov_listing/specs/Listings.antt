@@ -1,7 +1,7 @@
 -- What is to be listed of a history.
-use Rattle.std.specs.Prelude.{◌≡◌, ℕ, List, [], map}
-use Rattle.ov_history.specs.History.{History, Matrix, epoch_of, matrix_of}
-use Rattle.ov_history.specs.Lists.{file_at, file_names, file_number, names_in}
+use Rattle.std.specs.Prelude.{◌≡◌, ℕ, List, [], ◌∷◌, map, Option, Some, None}
+use Rattle.ov_history.specs.History.{File, History, Matrix, epoch_of, matrix_of}
+use Rattle.ov_history.specs.Lists.{file_at, file_number, names_in}
 use Rattle.ov_history.specs.Sealed.{IsSealed, outer_of}
 use Rattle.ov_protocol.specs.Serving.{Service}
 use Rattle.ov_listing.specs.declared.listing.Listed.{Listed}
@@ -16,10 +16,16 @@ listed m file = record {
   names = names_in (file_at m (file_number m file)).list m.users;
 }
 
+-- the names of the files that aren't gone, in the order of their numbers
+abbrev pub living_names : List (Option File) → List (List ℕ)
+living_names [] = []
+living_names (None ∷ files) = living_names files
+living_names (Some file ∷ files) = file.name ∷ living_names files
+
 -- the files that are wanted, in the order of their numbers
 abbrev pub files_wanted : Wanted → Matrix → List Listed
 files_wanted Users m = []
-files_wanted Files m = map (listed m) (file_names m.files)
+files_wanted Files m = map (listed m) (living_names m.files)
 
 -- mode and epoch of the history, the users of its matrix in the order of their numbers, and the
 -- files that are wanted

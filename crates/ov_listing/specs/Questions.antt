@@ -1,19 +1,18 @@
 -- Inner, but for `IsWelcomeAt` and for what `Reasons` names. What is taken of one answer, and of
 -- several.
-use Rattle.std.specs.Prelude.{◌≡◌, ℕ, List, ◌++◌, map, slice_get}
-use Rattle.std.specs.Prelude.{Option, Some, None, Result, Ok, Err}
+use Rattle.std.specs.Prelude.{◌≡◌, ◌≢◌, ℕ, List, [], ◌∷◌, ◌++◌, map, slice_get}
+use Rattle.std.specs.Prelude.{Option, Some, None, option_map, Result, Ok, Err}
 use Rattle.ov_base.specs.Names.{IsName}
 use Rattle.ov_base.specs.declared.limits.TheConstants.{MAX_FILES, MAX_USERS}
 use Rattle.ov_fields.specs.Spelling.{name_field}
 use Rattle.ov_history.specs.Catalogue.{matrix_shown}
-use Rattle.ov_history.specs.History.{Matrix}
-use Rattle.ov_history.specs.Lists.{file_names}
+use Rattle.ov_history.specs.History.{File, Matrix}
 use Rattle.ov_protocol.specs.Answers.{welcome_of}
 use Rattle.ov_protocol.specs.Serving.{Service, served}
 use Rattle.ov_wire.specs.declared.answer.Welcome.{Welcome}
 use Rattle.ov_wire.specs.declared.answer.Answer.{Answer}
 use Rattle.ov_wire.specs.declared.answer.Answer.TheVariants as answers
-use Rattle.ov_listing.specs.Listings.{IsListingAt, files_wanted, listed}
+use Rattle.ov_listing.specs.Listings.{IsListingAt, files_wanted, listed, living_names}
 use Rattle.ov_listing.specs.declared.fault.ListingFault.{ListingFault}
 use Rattle.ov_listing.specs.declared.fault.ListingFault.TheVariants.{BadReply, Memory}
 use Rattle.ov_listing.specs.declared.listing.Listed.{Listed}
@@ -21,6 +20,8 @@ use Rattle.ov_listing.specs.declared.listing.Listing.{Listing}
 use Rattle.ov_listing.specs.declared.listing.Wanted.{Wanted}
 use Rattle.ov_listing.specs.declared.part.Part.{Part}
 use Rattle.ov_listing.specs.declared.part.Part.TheVariants.{Files, Users}
+use Rattle.ov_listing.specs.declared.shown.Shown.{Shown}
+use Rattle.ov_listing.specs.declared.shown.Shown.TheVariants.{Gone, Named}
 
 -- ---- one answer
 
@@ -40,23 +41,39 @@ listed_in answer = Err (BadReply 0)
 abbrev pub HasNoName : List ℕ → Type 0
 HasNoName entry = (name rest : List ℕ) → IsName name → entry ≡ name_field name ++ rest → ⊥
 
--- No name is told of the answer to a question for a page: it is of another kind, which is wrong at
--- 0, or the entry begins with no name, which is wrong at 2.
+-- the entry is that of a file that is gone, or another one that begins with this name; or neither
+abbrev pub ShownBy : List ℕ → Option Shown → Type 0
+ShownBy entry (Some Gone) = entry ≡ 0 ∷ []
+ShownBy entry (Some (Named name)) =
+    (entry ≢ 0 ∷ []) × (rest : List ℕ) × (entry ≡ name_field name ++ rest)
+ShownBy entry None = (entry ≢ 0 ∷ []) × HasNoName entry
+
+-- Nothing is told of the answer to a question for a page: it is of another kind, which is wrong at
+-- 0, or the entry shows neither a name nor that a file is gone, which is wrong at 2.
 abbrev pub IsNoPage : Answer → ℕ → Type 0
-IsNoPage (answers.PageOf (Some entry)) place = (place ≡ 2) × HasNoName entry
+IsNoPage (answers.PageOf (Some entry)) place = (place ≡ 2) × ShownBy entry None
 IsNoPage (answers.PageOf None) place = ⊥
 IsNoPage answers.NoMemory place = ⊥
 IsNoPage answer place = place ≡ 0
 
--- the page's entry begins with this name, or there is no page; or why neither is told
-abbrev pub NamedIn : Answer → Result (Option (List ℕ)) ListingFault → Type 0
-NamedIn answer (Ok (Some name)) =
-    (entry rest : List ℕ) × (answer ≡ answers.PageOf (Some entry))
-    × (entry ≡ name_field name ++ rest)
-NamedIn answer (Ok None) = answer ≡ answers.PageOf None
-NamedIn answer (Err (BadReply place)) = IsNoPage answer place
-NamedIn answer (Err Memory) = answer ≡ answers.NoMemory
-NamedIn answer (Err fault) = ⊥
+-- the page's entry shows this, or there is no page; or why neither is told
+abbrev pub ShownIn : Answer → Result (Option Shown) ListingFault → Type 0
+ShownIn answer (Ok (Some shown)) =
+    (entry : List ℕ) × (answer ≡ answers.PageOf (Some entry)) × ShownBy entry (Some shown)
+ShownIn answer (Ok None) = answer ≡ answers.PageOf None
+ShownIn answer (Err (BadReply place)) = IsNoPage answer place
+ShownIn answer (Err Memory) = answer ≡ answers.NoMemory
+ShownIn answer (Err fault) = ⊥
+
+-- the name that is shown, where there is one
+abbrev pub name_shown : Shown → Option (List ℕ)
+name_shown (Named name) = Some name
+name_shown Gone = None
+
+-- the name, where there is one
+abbrev pub named : Option (List ℕ) → List (List ℕ)
+named None = []
+named (Some name) = name ∷ []
 
 -- the number of a part in a request
 abbrev pub part_number : Part → ℕ
@@ -78,14 +95,24 @@ IsWelcomeAt welcome w = welcome ≡ welcome_of (served w)
 abbrev pub matrix_at : Service → Matrix
 matrix_at w = matrix_shown (served w).catalogue
 
--- the names of the users, or of the files, by number
+-- the names of the users, or of the files that aren't gone, in the order of their numbers
 abbrev pub names_in_part : Part → Matrix → List (List ℕ)
 names_in_part Users m = m.users
-names_in_part Files m = file_names m.files
+names_in_part Files m = living_names m.files
 
--- the name of this number, if there is one
-abbrev pub IsNameAt : Part → ℕ → Option (List ℕ) → Service → Type 0
-IsNameAt part number name w = slice_get (names_in_part part (matrix_at w)) number ≡ name
+-- the name of a file
+abbrev pub name_of_file : File → List ℕ
+name_of_file file = file.name
+
+-- the names of the users, or of the files, by number; a file that is gone has none
+abbrev pub names_by_number : Part → Matrix → List (Option (List ℕ))
+names_by_number Users m = map Some m.users
+names_by_number Files m = map (option_map name_of_file) m.files
+
+-- this has the number, or nothing has it
+abbrev pub IsShownAt : Part → ℕ → Option Shown → Service → Type 0
+IsShownAt part number shown w =
+    slice_get (names_by_number part (matrix_at w)) number ≡ option_map name_shown shown
 
 -- all names of the part
 abbrev pub AreNamesAt : Part → List (List ℕ) → Service → Type 0

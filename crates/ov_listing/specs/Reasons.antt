@@ -14,6 +14,7 @@ use Rattle.ov_wire.specs.declared.request.Request.TheVariants as requests
 use Rattle.ov_listing.specs.Questions.{IsNoPage, listed_in, welcome_in}
 use Rattle.ov_listing.specs.declared.fault.ListingFault.{ListingFault}
 use Rattle.ov_listing.specs.declared.fault.ListingFault.TheVariants.{BadReply, Unsettled}
+use Rattle.ov_listing.specs.declared.shown.Shown.{Shown}
 
 -- ---- wrong replies
 
@@ -27,7 +28,8 @@ abbrev pub HasEntry : Answer → Type 0
 HasEntry answer = (entry : List ℕ) × (answer ≡ answers.PageOf (Some entry))
 
 -- The answer to this question is wrong at this place: at 0 where it is of another kind, at 1 where
--- a page has one entry more than a store can have, and at 2 where an entry begins with no name.
+-- a page has one entry more than a store can have, and at 2 where an entry shows neither a name nor
+-- that a file is gone.
 abbrev pub IsWrongAnswer : Request → Answer → ℕ → Type 0
 IsWrongAnswer requests.Hello answer place = welcome_in answer ≡ Err (BadReply place)
 IsWrongAnswer (requests.List file) answer place = listed_in answer ≡ Err (BadReply place)
@@ -92,9 +94,9 @@ pub record HasPage {P : Type 0} (peer : PeerTells P) (part number : ℕ) (q : P)
   pub answered : Answered peer before q (requests.Page part number) (Ok answer)
   pub named : HasEntry answer
 
--- inner: where a name was given, its page has an entry
-abbrev pub IsOnPage : {P : Type 0} → PeerTells P → ℕ → ℕ → P → Option (List ℕ) → Type 0
-IsOnPage peer part number q (Some name) = HasPage peer part number q
+-- inner: where something was shown, its page has an entry
+abbrev pub IsOnPage : {P : Type 0} → PeerTells P → ℕ → ℕ → P → Option Shown → Type 0
+IsOnPage peer part number q (Some shown) = HasPage peer part number q
 IsOnPage peer part number q None = Unit {0}
 
 -- inner: of the pages that were asked for the last has an entry

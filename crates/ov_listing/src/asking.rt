@@ -3,15 +3,16 @@ ghost use Rattle.std.specs.Prelude.{◌≡◌, Bool, IfErr, IfNone, IfOk, IfSome
 ghost use Rattle.ov_fields.specs.Spelling.{name_field};
 ghost use Rattle.ov_protocol.specs.Serving.{Service};
 ghost use Rattle.ov_listing.specs.Causes.{HasListingCause, IsSettled};
-ghost use Rattle.ov_listing.specs.Questions.{HasNoName, NamedIn, listed_in, part_number};
+ghost use Rattle.ov_listing.specs.Questions.{HasNoName, ShownBy, ShownIn, listed_in, part_number};
 ghost use Rattle.ov_listing.specs.Questions.{welcome_in};
-ghost use Rattle.ov_listing.specs.Questions.{IsListAt, IsNameAt, IsWelcomeAt};
+ghost use Rattle.ov_listing.specs.Questions.{IsListAt, IsShownAt, IsWelcomeAt};
 ghost use Rattle.ov_listing.specs.Reasons.{BlamesReply, Greets, IsOnPage};
 ghost use Rattle.ov_listing.specs.Telling.{IsAloneIf, Told};
 
 use crate::ListingFault;
 use crate::fault::fault_of;
 use crate::part::Part;
+use crate::shown::Shown;
 use ov_base::{Name, Names};
 use ov_peer::{Peer, exchange};
 use ov_wire::{Answer, Request, Welcome};
@@ -59,13 +60,27 @@ fn name_in(entry: &[u8]) -> Option<Name>
     }
 }
 
-/// The name on a page, or none where there is no such page.
-fn named_in(answer: Answer) -> Result<Option<Name>, ListingFault>
-    ensures { NamedIn answer result }
+/// What an entry shows, or none where it shows nothing. The entry of a file that is gone is the
+/// byte 0, which is no name's length.
+fn shown_by(entry: &[u8]) -> Option<Shown>
+    ensures { ShownBy entry.now result }
+{
+    if entry == b"\0".as_slice() {
+        return Some(Shown::Gone);
+    }
+    match name_in(entry) {
+        Some(name) => Some(Shown::Named { name }),
+        None => None,
+    }
+}
+
+/// What a page shows, or none where there is no such page.
+fn shown_in(answer: Answer) -> Result<Option<Shown>, ListingFault>
+    ensures { ShownIn answer result }
 {
     match answer {
-        Answer::PageOf { entry: Some(entry) } => match name_in(entry.as_slice()) {
-            Some(name) => Ok(Some(name)),
+        Answer::PageOf { entry: Some(entry) } => match shown_by(entry.as_slice()) {
+            Some(shown) => Ok(Some(shown)),
             None => Err(ListingFault::BadReply { at: 2 }),
         },
         Answer::PageOf { entry: None } => Ok(None),
@@ -74,16 +89,16 @@ fn named_in(answer: Answer) -> Result<Option<Name>, ListingFault>
     }
 }
 
-/// Asks for the name of this number in a part of the catalogue.
-pub fn name_at<P: Peer>(
+/// Asks what has this number in a part of the catalogue.
+pub fn shown_at<P: Peer>(
     alloc: Global,
     peer: &mut P,
     part: Part,
     number: u32,
-) -> Result<Option<Name>, ListingFault>
+) -> Result<Option<Shown>, ListingFault>
     ensures told { (alone : Bool) (v : Service) → IsAloneIf alone P.tells
         → P.tells.serves peer.old v
-        → Told alone v (P.tells.serves peer.new) (IsNameAt part number) result }
+        → Told alone v (P.tells.serves peer.new) (IsShownAt part number) result }
     ensures settled { IsSettled result }
     ensures blames { IfErr result (BlamesReply P.tells peer.new) }
     ensures page { IfOk result (IsOnPage P.tells (part_number part) number peer.new) }
@@ -95,7 +110,7 @@ pub fn name_at<P: Peer>(
         number,
     };
     match exchange(alloc, peer, &request) {
-        Ok(answer) => named_in(answer),
+        Ok(answer) => shown_in(answer),
         Err(fault) => Err(fault_of(fault)),
     }
 }

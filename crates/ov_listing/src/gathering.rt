@@ -1,20 +1,32 @@
 //! All names of a part of the catalogue, and the lists of all files.
-ghost use Rattle.std.specs.Prelude.{◌≡◌, Bool, IfErr};
+ghost use Rattle.std.specs.Prelude.{◌≡◌, ◌++◌, Bool, IfErr, OnOk};
 ghost use Rattle.ov_protocol.specs.Serving.{Service};
 ghost use Rattle.ov_listing.specs.Causes.{HasListingCause, IsSettled};
-ghost use Rattle.ov_listing.specs.Questions.{AreListsAt, AreNamesAt};
+ghost use Rattle.ov_listing.specs.Questions.{AreListsAt, AreNamesAt, name_shown, named};
 ghost use Rattle.ov_listing.specs.Reasons.{BlamesReply};
 ghost use Rattle.ov_listing.specs.Telling.{IsAloneIf, ToldOfOne};
 
-use crate::asking::{list_of, name_at};
+use crate::asking::{list_of, shown_at};
 use crate::part::Part;
+use crate::shown::Shown;
 use crate::{Listed, ListingFault};
-use ov_base::Name;
+use ov_base::{Memory, Name};
 use ov_peer::Peer;
 use std::alloc::Global;
 
-/// Asks for all names of a part of the catalogue. A peer with more names than a store can have is
-/// asked for one too many, and no further.
+/// Appends the name that is shown. A file that is gone has none.
+fn put_shown(shown: Shown, names: &mut Vec<Name>) -> Result<(), Memory>
+    ensures { OnOk result (names.new.items ≡ names.old.items ++ named (name_shown shown)) }
+{
+    match shown {
+        Shown::Named { name } => names.push(name)?,
+        Shown::Gone => {}
+    }
+    Ok(())
+}
+
+/// Asks for all names of a part of the catalogue, and goes on behind a file that is gone. A peer
+/// with more entries than a store can have is asked for one too many, and no further.
 pub fn names_of<P: Peer>(alloc: Global, peer: &mut P, part: Part) -> Result<Vec<Name>, ListingFault>
     ensures told { (alone : Bool) (v : Service) → IsAloneIf alone P.tells
         → P.tells.serves peer.old v
@@ -27,8 +39,8 @@ pub fn names_of<P: Peer>(alloc: Global, peer: &mut P, part: Part) -> Result<Vec<
 {
     let mut names = Vec::new(alloc);
     for number in 0..part.pages() {
-        match name_at(alloc, peer, part, number) {
-            Ok(Some(name)) => match names.push(name) {
+        match shown_at(alloc, peer, part, number) {
+            Ok(Some(shown)) => match put_shown(shown, &mut names) {
                 Ok(()) => {}
                 Err(_) => return Err(ListingFault::Memory),
             },

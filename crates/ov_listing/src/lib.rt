@@ -3,13 +3,14 @@
 //!
 //! [`answer`] gives the text that answers a [`Question`]. [`ask_welcome`] asks for mode and epoch.
 //! [`ask_listing`] asks besides, page by page, for the names of the users and of the files, and for
-//! the list of each file. What it gives is of one epoch: the server is asked for its epoch before
-//! and after, and where that moved meanwhile all is asked again, nine times in all. No key is
-//! needed, since the catalogue is public.
+//! the list of each file. A file that was removed keeps its page, which shows that it is gone, and
+//! isn't listed. What it gives is of one epoch: the server is asked for its epoch before and after,
+//! and where that moved meanwhile all is asked again, nine times in all. No key is needed, since
+//! the catalogue is public.
 //!
 //! ```text
 //! answer ──► ask_listing ──► try_once ──► ask_welcome           Hello: mode and epoch
-//!                 ▲             ├───────► names_of ──► name_at  Page: a name, or none
+//!                 ▲             ├───────► names_of ──► shown_at Page: a name, a gone file, or none
 //!                 │             ├───────► lists_of ──► list_of  List: the names in a file's list
 //!                 │             └───────► ask_welcome           Hello: the epoch again
 //!                 └── again, up to nine tries, where the epoch is another
@@ -38,6 +39,7 @@ mod fault;
 mod gathering;
 mod listing;
 mod part;
+mod shown;
 mod texts;
 mod trying;
 

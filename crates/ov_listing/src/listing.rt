@@ -9,7 +9,8 @@ pub struct Listed {
     pub names: Names,
 }
 
-/// What a store has at one epoch. Users and files are in the order of their numbers.
+/// What a store has at one epoch. Users and files are in the order of their numbers; files that are
+/// gone are left out.
 #[derive(Drop)]
 pub struct Listing {
     pub mode: Mode,

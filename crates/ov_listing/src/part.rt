@@ -4,7 +4,7 @@ ghost use Rattle.ov_listing.specs.Questions.{most_in, part_number};
 
 use ov_base::limits::{MAX_FILES, MAX_USERS};
 
-/// A part of the catalogue whose entries begin with names.
+/// A part of the catalogue whose entries begin with names, but for those of files that are gone.
 #[derive(Clone, Copy, Debug, PartialEq, Eq)]
 pub enum Part {
     /// The users.

@@ -54,11 +54,12 @@ Along v (a ∷ asks) (at_one ∷ more) last =
     × IsReplyAt (later v others) a.request a.reply made
     × Along (later (later v others) made) asks more last
 
--- a history is right under these masters: it is the sealed form of a legal one
+-- a history is right under these masters: it is the sealed form of a legal one, but for the tags and
+-- the bytes of files that are gone
 abbrev pub IsRight : Masters → SealedHistory → Type 0
 IsRight k g = (p : PlainHistory) × IsLegal (history_of p) × IsSealedAs k p g
 
--- each of these histories is right under these masters: it is the sealed form of a legal one
+-- each of these histories is right under these masters
 abbrev pub AreRight : Masters → List SealedHistory → Type 0
 AreRight k [] = Unit {0}
 AreRight k (g ∷ more) = IsRight k g × AreRight k more

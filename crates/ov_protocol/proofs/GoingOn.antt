@@ -5,7 +5,7 @@ use Rattle.std.specs.Prelude.{Option, Some, None, IfSome, option_map}
 use Rattle.std.proofs.lemmas.List.{append-nil}
 use Rattle.ov_record.specs.Reading.{update_of}
 use Rattle.ov_record.specs.Updates.{SealedUpdate, SealedEnrol, SealedCreate, SealedGrant}
-use Rattle.ov_record.specs.Updates.{SealedRevoke}
+use Rattle.ov_record.specs.Updates.{SealedRevoke, SealedRemove}
 use Rattle.ov_record.specs.Forms.{second_form}
 use Rattle.ov_history.specs.Briefs.{brief}
 use Rattle.ov_history.specs.Catalogue.{Catalogue, catalogue_after, outline}
@@ -121,6 +121,7 @@ epoch_after master c (SealedEnrol name) = refl
 epoch_after master c (SealedCreate name list tokens tag bytes) = refl
 epoch_after master c (SealedGrant user file token) = refl
 epoch_after master c (SealedRevoke user file) = refl
+epoch_after master c (SealedRemove file) = refl
 
 pub epochs_all : (master : List ℕ) (c : Catalogue) (updates : List SealedUpdate)
     → (catalogue_all master c updates).epoch ≡ c.epoch + length updates

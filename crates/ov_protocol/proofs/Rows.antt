@@ -1,12 +1,13 @@
 -- Worked frames, whose bytes another program made.
-use Rattle.std.proofs.Common.{◌≡◌, ℕ, List, [], ◌∷◌, ◌++◌, Some, refl, arith}
+use Rattle.std.proofs.Common.{◌≡◌, ℕ, List, [], ◌∷◌, ◌++◌, Some, None, refl, arith}
 use Rattle.std.specs.Prelude.{length, replicate}
 use Rattle.ov_base.specs.Sets.{bytes_of}
 use Rattle.ov_base.specs.declared.mode.Mode.TheVariants.{Delta}
-use Rattle.ov_base.specs.declared.refusal.Refusal.TheVariants.{NoPath}
+use Rattle.ov_base.specs.declared.refusal.Refusal.TheVariants.{NoFile, NoPath}
 use Rattle.ov_tokens.specs.declared.token.Token.{Token}
 use Rattle.ov_tokens.specs.declared.edge.Edge.{Edge}
 use Rattle.ov_record.specs.Updates.{SealedUpdate, SealedEnrol, SealedCreate, SealedGrant}
+use Rattle.ov_record.specs.Updates.{SealedRemove}
 use Rattle.ov_wire.specs.declared.request.Question.TheVariants as questions
 use Rattle.ov_wire.specs.declared.answer.Answer.TheVariants as answers
 use Rattle.ov_wire.specs.AnswerBytes.{answer_bytes}
@@ -81,6 +82,35 @@ fourth_length = refl
 
 no_node : answer_bytes (answers.PageOf (page_of (entry_of after.catalogue 2 4))) ≡ 0x87 ∷ 0 ∷ []
 no_node = refl
+
+-- ---- the first file is removed
+
+-- the second file is to be removed, which needs its number and its node
+removed_numbers : answer_bytes
+    (answers.Known (known_at before.catalogue (numbers_for before.catalogue (questions.Remove second))))
+    ≡ 0x82 ∷ 0 ∷ 0 ∷ 0 ∷ 5 ∷ 0 ∷ 0 ∷ 0 ∷ 0 ∷ 0 ∷ 0 ∷ 0 ∷ 0 ∷ 0 ∷ 0 ∷ 0 ∷ 0 ∷ 0 ∷ 0 ∷ 0 ∷ 1 ∷ 0 ∷ 0 ∷ 0
+    ∷ 3 ∷ 0 ∷ []
+removed_numbers = refl
+
+abbrev gone : Serving
+gone = served (service (users ++ files ++ SealedRemove 0 ∷ []))
+
+-- its bytes are refused, and so is its name
+no_chunk : Answers gone (requests.Chunk 0 4 0 2) (answers.Refused NoFile)
+no_chunk = refl
+
+no_chain : Answers gone (requests.Chain (97 ∷ []) first) (answers.Refused NoFile)
+no_chain = refl
+
+no_removal : Answers gone (requests.Ask (questions.Remove first)) (answers.Refused NoFile)
+no_removal = refl
+
+-- its entry is one byte, where behind the last file there is none
+gone_page : answer_bytes (answers.PageOf (page_of (entry_of gone.catalogue 5 0))) ≡ 0x87 ∷ 1 ∷ 0 ∷ []
+gone_page = refl
+
+no_page : entry_of gone.catalogue 5 2 ≡ None
+no_page = refl
 
 -- ---- a frame that is no request
 

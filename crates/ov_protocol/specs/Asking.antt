@@ -1,11 +1,12 @@
 -- What an owner is told before an update: the numbers that it needs, or why it would be refused.
-use Rattle.std.specs.Prelude.{◌≡◌, ℕ, List, length, Option, Some, None}
+use Rattle.std.specs.Prelude.{◌≡◌, ℕ, false, List, length, Option, Some, None}
 use Rattle.ov_base.specs.declared.refusal.Refusal.{Refusal}
 use Rattle.ov_graph.specs.Contents.{plan_of}
 use Rattle.ov_history.specs.Asking.{Numbers, file_named, key_refusal, newcomer, of_both, of_grant}
 use Rattle.ov_history.specs.Asking.{of_user, refusal_at, user_named}
-use Rattle.ov_history.specs.Catalogue.{Catalogue}
-use Rattle.ov_history.specs.History.{Enrolled, Created, Granted, Revoked}
+use Rattle.ov_history.specs.Catalogue.{Catalogue, outline}
+use Rattle.ov_history.specs.History.{Enrolled, Created, Granted, Removed, Revoked}
+use Rattle.ov_history.specs.Layers.{node_of}
 use Rattle.ov_wire.specs.declared.request.Question.{Question}
 use Rattle.ov_wire.specs.declared.request.Question.TheVariants as questions
 use Rattle.ov_wire.specs.declared.answer.Known.{Known}
@@ -27,12 +28,24 @@ known_at c n = record {
   wants = n.wants;
 }
 
+-- the numbers of a file alone
+abbrev pub of_file : Catalogue → ℕ → Numbers
+of_file c file = record {
+  user = 0;
+  base_root = 0;
+  surface_root = 0;
+  file = file;
+  node = node_of (outline c) file;
+  wants = false;
+}
+
 -- the numbers that are told of a command
 abbrev pub numbers_for : Catalogue → Question → Numbers
 numbers_for c (questions.Enrol user) = newcomer c
 numbers_for c (questions.Grant user file) = of_grant c (user_named c user) (file_named c file)
 numbers_for c (questions.Revoke user file) = of_both c (user_named c user) (file_named c file)
 numbers_for c (questions.Key user) = of_user c (user_named c user)
+numbers_for c (questions.Remove file) = of_file c (file_named c file)
 
 -- why a command would be refused
 abbrev pub refusal_to : Catalogue → Question → Option Refusal
@@ -42,6 +55,7 @@ refusal_to c (questions.Grant user file) =
 refusal_to c (questions.Revoke user file) =
     refusal_at c (Revoked (user_named c user) (file_named c file))
 refusal_to c (questions.Key user) = key_refusal c (user_named c user)
+refusal_to c (questions.Remove file) = refusal_at c (Removed (file_named c file))
 
 -- a Known with just these numbers, or a Refused with the refusal
 abbrev pub AnswersAsk : Catalogue → Question → Answer → Type 0

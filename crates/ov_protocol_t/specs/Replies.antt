@@ -1,14 +1,17 @@
 -- Rows of replies: single answers, and what a reply says of its server.
-use Rattle.std.specs.Prelude.{◌≡◌, ℕ, List, [], length, take, drop, Option, Some}
+use Rattle.std.specs.Prelude.{◌≡◌, ℕ, List, [], ◌∷◌, length, take, drop, Option, Some, None}
 use Rattle.ov_record.specs.Updates.{SealedUpdate}
 use Rattle.ov_history.specs.Catalogue.{Catalogue, Filed, no_filed}
 use Rattle.ov_base.specs.declared.refusal.Refusal.{Refusal}
+use Rattle.ov_wire.specs.declared.request.Question.TheVariants as questions
 use Rattle.ov_wire.specs.declared.answer.Answer.{Answer}
 use Rattle.ov_wire.specs.declared.answer.Answer.TheVariants as answers
 use Rattle.ov_wire.specs.declared.request.Request.TheVariants as requests
 use Rattle.ov_wire.specs.AnswerBytes.{answer_bytes}
 use Rattle.ov_wire.specs.AnswerForm.{HasAnswerForm}
 use Rattle.ov_protocol.specs.Answers.{made_by}
+use Rattle.ov_protocol.specs.Asking.{numbers_for}
+use Rattle.ov_protocol.specs.Pages.{file_entry_of, page_of}
 use Rattle.ov_protocol.specs.Reading.{AnswersChunk}
 use Rattle.ov_protocol.specs.Replies.{AnswersFrame, Replies}
 use Rattle.ov_protocol.specs.Serving.{Serving, serving_after}
@@ -40,6 +43,21 @@ ToldChunksAreExact =
     (all bytes : List ℕ) (start count : ℕ)
     → AnswersChunk (Some third) (Some all) 3 start count (answers.Bytes bytes)
     → bytes ≡ take count (drop start all)
+
+-- A gone file has an entry of one byte, and a number that no file had has none. If both had none, a
+-- listing would end at the first gone file.
+pub record GoneFilesHaveEntries : Type 0 where
+  pub gone : page_of (file_entry_of (Some None)) ≡ Some (0 ∷ [])
+  pub never : page_of (file_entry_of None) ≡ None
+
+-- Of a removal no user's numbers are told. With those of some user the answer would not be in the
+-- grammar.
+pub record RemovalsNameNoUser : Type 0 where
+  pub user : (c : Catalogue) (file : List ℕ) → (numbers_for c (questions.Remove file)).user ≡ 0
+  pub base : (c : Catalogue) (file : List ℕ)
+      → (numbers_for c (questions.Remove file)).base_root ≡ 0
+  pub surface : (c : Catalogue) (file : List ℕ)
+      → (numbers_for c (questions.Remove file)).surface_root ≡ 0
 
 -- A refused update is none that was made; an accepted one is. If each were made, so would be the
 -- refused one.

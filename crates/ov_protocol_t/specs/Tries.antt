@@ -9,8 +9,8 @@ use Rattle.ov_owner.specs.declared.fault.OwnerFault.TheVariants as faults
 abbrev pub eight : List ℕ
 eight = 1 ∷ 2 ∷ 3 ∷ 4 ∷ 5 ∷ 6 ∷ 7 ∷ 8 ∷ []
 
--- After eight tries that were answered Moved a reader asks for the chains again, and after nine it
--- doesn't. With another number of tries one of the two would be otherwise.
+-- After eight tries, in each of which the file moved or was gone, a reader asks for the chains
+-- again, and after nine it doesn't. With another number of tries one of the two would be otherwise.
 pub record ReadsHaveNineTries : Type 0 where
   pub eighth : again eight 9 ≡ AsksChain eight 9
   pub ninth : again (0 ∷ eight) 9 ≡ Ends (Err (Unsettled (0 ∷ eight)))

@@ -18,8 +18,9 @@ pub use images::{
     one_of_two_histories_is_left,
 };
 pub use replies::{
-    a_chunk_has_its_size, a_chunk_is_of_the_generation_asked, a_refused_update_is_not_made,
-    a_reply_has_a_form, a_told_chunk_is_exact, an_accepted_update_is_shown,
-    the_tag_is_looked_at_before_the_epoch, updates_are_made_at_their_epoch_alone,
+    a_chunk_has_its_size, a_chunk_is_of_the_generation_asked, a_gone_file_has_an_entry,
+    a_refused_update_is_not_made, a_removal_names_no_user, a_reply_has_a_form,
+    a_told_chunk_is_exact, an_accepted_update_is_shown, the_tag_is_looked_at_before_the_epoch,
+    updates_are_made_at_their_epoch_alone,
 };
 pub use tries::{a_read_has_nine_tries, an_update_has_nine_tries};

@@ -1,5 +1,6 @@
 //! Rows of what a server answers, and of what it shows then.
 ghost use Rattle.ov_protocol_t.specs.Replies.{ChunksHaveGenerations, ChunksHaveSizes};
+ghost use Rattle.ov_protocol_t.specs.Replies.{GoneFilesHaveEntries, RemovalsNameNoUser};
 ghost use Rattle.ov_protocol_t.specs.Replies.{RefusedMakesNothing, ToldChunksAreExact};
 ghost use Rattle.ov_protocol_t.specs.Replies.{RepliesHaveForm, ShowsAccepted, StaleHasTag};
 ghost use Rattle.ov_protocol_t.specs.Replies.{UpdatesHaveEpochs};
@@ -17,6 +18,16 @@ pub fn a_chunk_has_its_size()
 /// A chunk of a server that tells its bytes has just these.
 pub fn a_told_chunk_is_exact()
     ensures { ToldChunksAreExact }
+{}
+
+/// A file that is gone has an entry of one byte, and what was never a file has none.
+pub fn a_gone_file_has_an_entry()
+    ensures { GoneFilesHaveEntries }
+{}
+
+/// Of a removal the numbers of no user are told.
+pub fn a_removal_names_no_user()
+    ensures { RemovalsNameNoUser }
 {}
 
 /// An update that is refused isn't made, and one that is accepted is.

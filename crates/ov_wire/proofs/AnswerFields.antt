@@ -17,7 +17,7 @@ use Rattle.ov_fields.proofs.TagLaws.{flag_reads}
 use Rattle.ov_fields.proofs.TestLaws.{IsCount}
 use Rattle.ov_wire.specs.declared.request.Question.{Question}
 use Rattle.ov_wire.specs.AnswerReading.{welcome_at, known_at, plan_at, chained_at}
-use Rattle.ov_wire.specs.AnswersTo.{files_of, nodes_of, names_file, wants_of}
+use Rattle.ov_wire.specs.AnswersTo.{users_of, roots_of, files_of, nodes_of, names_user, names_file, wants_of}
 use Rattle.ov_wire.specs.Chains.{chain_field, IsChain, base_kinds, surface_kinds}
 use Rattle.ov_wire.specs.Entries.{IsNode}
 use Rattle.ov_wire.specs.Updates.{Has32}
@@ -43,12 +43,16 @@ known_fields f = u32 f.0.0.0.0.0.0 ++ u32 f.0.0.0.0.0.1 ++ u32 f.0.0.0.0.1 ++ u3
 
 abbrev pub KnownFits : Question → KnownFields → Type 0
 KnownFits question f =
-    ((((((f.0.0.0.0.0.0 < 2 ^ 32) × (f.0.0.0.0.0.1 < MAX_USERS)) × IsNode f.0.0.0.0.1) × IsNode f.0.0.0.1) × (f.0.0.1 < files_of question)) × (f.0.1 < nodes_of question)) × IsOneOf f.1 (wants_of question)
+    ((((((f.0.0.0.0.0.0 < 2 ^ 32) × (f.0.0.0.0.0.1 < users_of question)) × (f.0.0.0.0.1 < roots_of question)) × (f.0.0.0.1 < roots_of question)) × (f.0.0.1 < files_of question)) × (f.0.1 < nodes_of question))
+    × IsOneOf f.1 (wants_of question)
 
 pub known_reads : (question : Question) → Reads (known_at question) known_fields (KnownFits question) (4 + 4 + 4 + 4 + 4 + 4 + 1)
 known_reads question =
-    then_reads (then_reads (then_reads (then_reads (then_reads (then_reads (number_reads wide32) (below_reads MAX_USERS (omega arith))) node_reads) node_reads)
-    (below_reads (files_of question) (either_small (names_file question) MAX_FILES (omega arith)))) (below_reads (nodes_of question) (either_small (names_file question) MAX_LAYER_NODES (omega arith)))) (flag_reads (wants_of question))
+    let user = below_reads (users_of question) (either_small (names_user question) MAX_USERS (omega arith)) in
+    let root = below_reads (roots_of question) (either_small (names_user question) MAX_LAYER_NODES (omega arith)) in
+    let file = below_reads (files_of question) (either_small (names_file question) MAX_FILES (omega arith)) in
+    let node = below_reads (nodes_of question) (either_small (names_file question) MAX_LAYER_NODES (omega arith)) in
+    then_reads (then_reads (then_reads (then_reads (then_reads (then_reads (number_reads wide32) user) root) root) file) node) (flag_reads (wants_of question))
 
 abbrev pub PlanFields : Type 0
 PlanFields = ((((ℕ × ℕ) × ℕ) × ℕ) × Bool) × List ℕ

@@ -24,7 +24,7 @@ use Rattle.ov_wire.specs.declared.answer.Answer.TheVariants as answers
 use Rattle.ov_wire.specs.AnswerBytes.{answer_bytes, chained_bytes}
 use Rattle.ov_wire.specs.AnswerForm.{HasKnownForm, HasChainedForm, HasAnswerForm}
 use Rattle.ov_wire.specs.AnswerReading.{answer_of, answer_rows, welcome, welcome_at, known, plan, plan_at, chained, chained_at}
-use Rattle.ov_wire.specs.AnswersTo.{IsAnswer, IsWelcome, IsPlan, IsChained, names_file}
+use Rattle.ov_wire.specs.AnswersTo.{IsAnswer, IsWelcome, IsPlan, IsChained, names_user, names_file}
 use Rattle.ov_wire.specs.Chains.{chain_field, IsChain, base_kinds, surface_kinds}
 use Rattle.ov_wire.specs.Entries.{IsNode, node_at}
 use Rattle.ov_wire.specs.Frames.{IsFrame}
@@ -217,8 +217,14 @@ below_either false n limit some lt = omega (arith, some, lt)
 
 answer_is_any : (request : Request) (a : Answer) → IsAnswer request a → IsAny a
 answer_is_any requests.Hello (answers.Welcome w) is = is
-answer_is_any (requests.Ask question) (answers.Known k) is =
-    (is.0, is.1, is.2, is.3, below_either (names_file question) k.file MAX_FILES (omega arith) is.4, below_either (names_file question) k.node MAX_LAYER_NODES (omega arith) is.5)
+answer_is_any (requests.Ask question) (answers.Known k) is = (
+  is.0,
+  below_either (names_user question) k.user MAX_USERS (omega arith) is.1,
+  below_either (names_user question) k.base_root MAX_LAYER_NODES (omega arith) is.2,
+  below_either (names_user question) k.surface_root MAX_LAYER_NODES (omega arith) is.3,
+  below_either (names_file question) k.file MAX_FILES (omega arith) is.4,
+  below_either (names_file question) k.node MAX_LAYER_NODES (omega arith) is.5,
+)
 answer_is_any (requests.Cover f l ns) (answers.Plan p) is = is
 answer_is_any (requests.Update made_at spelling tag) (answers.Accepted epoch) is = is.1
 answer_is_any (requests.Update made_at spelling tag) (answers.Stale epoch) is = is.1

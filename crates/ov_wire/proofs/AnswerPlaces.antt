@@ -29,7 +29,7 @@ use Rattle.ov_wire.specs.declared.answer.Answer.{Answer}
 use Rattle.ov_wire.specs.declared.answer.Answer.TheVariants as answers
 use Rattle.ov_wire.specs.AnswerBytes.{answer_bytes}
 use Rattle.ov_wire.specs.AnswerReading.{Row, bare, refused, welcome_at, welcome, known_at, known, plan_at, plan, chained_at, chained, up_to, answer_rows, answer_of}
-use Rattle.ov_wire.specs.AnswersTo.{IsAnswer, create_refusals, read_refusals, ask_refusals, update_refusals, files_of, nodes_of, names_file, wants_of, most_chunk}
+use Rattle.ov_wire.specs.AnswersTo.{IsAnswer, create_refusals, read_refusals, ask_refusals, update_refusals, users_of, roots_of, files_of, nodes_of, names_user, names_file, wants_of, most_chunk}
 use Rattle.ov_wire.specs.Chains.{base_kinds, surface_kinds}
 use Rattle.ov_wire.specs.Laws.{HasKind, HasEachAnswer}
 use Rattle.ov_wire.specs.Updates.{Has32}
@@ -37,11 +37,12 @@ use Rattle.ov_wire.proofs.AnswerFields.{welcome_reads, known_fields, KnownFits, 
 use Rattle.ov_wire.proofs.AnswerLaws.{names_few, answer_again}
 use Rattle.ov_wire.proofs.ChainLaws.{chain_reads}
 use Rattle.ov_wire.proofs.EntryLaws.{entry_or_none_reads}
+use Rattle.ov_wire.proofs.EntryPlaces.{entry_or_none_places}
 use Rattle.ov_wire.proofs.LongFrames.{not_long}
 use Rattle.ov_wire.proofs.NamePlaces.{names_places}
 use Rattle.ov_wire.proofs.NamesLaws.{names_reads}
 use Rattle.ov_wire.proofs.NumberLaws.{at_most_reads, below_reads, node_reads, mode_reads, refusal_reads, greater_reads, next_reads}
-use Rattle.ov_wire.proofs.NumberPlaces.{at_most_places, below_places, node_places, greater_places, next_places, refusal_places, base_has, surface_has, chain_places, entry_or_none_places}
+use Rattle.ov_wire.proofs.NumberPlaces.{at_most_places, below_places, node_places, greater_places, next_places, refusal_places, base_has, surface_has, chain_places}
 use Rattle.ov_wire.proofs.RequestPlaces.{placed_err}
 
 -- the names of a Listed mustn't come twice
@@ -72,20 +73,27 @@ not_wanted (questions.Enrol user) = inl refl
 not_wanted (questions.Grant user file) = inl refl
 not_wanted (questions.Revoke user file) = inl refl
 not_wanted (questions.Key user) = inl refl
+not_wanted (questions.Remove file) = inl refl
 
 known_places : {Once : Type 0} (question : Question) → HasPlaces Once Limits (known_at question) known_fields (KnownFits question)
 known_places question =
+    let users = either_small (names_user question) MAX_USERS (omega arith) in
+    let roots = either_small (names_user question) MAX_LAYER_NODES (omega arith) in
     let files = either_small (names_file question) MAX_FILES (omega arith) in
     let nodes = either_small (names_file question) MAX_LAYER_NODES (omega arith) in
-    let two = then_reads (number_reads wide32) (below_reads MAX_USERS (omega arith)) in
-    let three = then_reads two node_reads in
-    let four = then_reads three node_reads in
+    let root = below_reads (roots_of question) roots in
+    let two = then_reads (number_reads wide32) (below_reads (users_of question) users) in
+    let three = then_reads two root in
+    let four = then_reads three root in
     let five = then_reads four (below_reads (files_of question) files) in
+    let some_root = either_some (names_user question) MAX_LAYER_NODES (omega arith) in
     then_places (then_reads five (below_reads (nodes_of question) nodes))
     (then_places five
     (then_places four
     (then_places three
-    (then_places two (then_places (number_reads wide32) (number_places wide32) (below_places MAX_USERS (omega arith) (omega arith) tt)) (node_places tt)) (node_places tt))
+    (then_places two
+    (then_places (number_reads wide32) (number_places wide32) (below_places (users_of question) (either_some (names_user question) MAX_USERS (omega arith)) users tt))
+    (below_places (roots_of question) some_root roots tt)) (below_places (roots_of question) some_root roots tt))
     (below_places (files_of question) (either_some (names_file question) MAX_FILES (omega arith)) files tt))
     (below_places (nodes_of question) (either_some (names_file question) MAX_LAYER_NODES (omega arith)) nodes tt))
     (one_of_places flag (wants_of question) false (not_wanted question) (omega arith))
@@ -178,6 +186,7 @@ an_ask (questions.Enrol user) = (Taken, inl refl)
 an_ask (questions.Grant user file) = (NoUser, inl refl)
 an_ask (questions.Revoke user file) = (NoUser, inl refl)
 an_ask (questions.Key user) = (NoUser, inl refl)
+an_ask (questions.Remove file) = (NoFile, inl refl)
 
 first_refusal : (refusals : List Refusal) → 1 ≤ length refusals → (r : Refusal) × IsOneOf r refusals
 first_refusal [] some = absurd (omega (arith, some))

@@ -2,7 +2,7 @@
 use Rattle.std.proofs.Common.{◌≡◌, ℕ, zero, suc, ◌+◌, ◌*◌, ◌-◌, ◌^◌, ◌<◌, ◌≤◌, Bool, true, false, cond, IsTrue, List, [], ◌∷◌, ◌++◌, length, Option, Some, None, Result, Ok, Err, refl, sym, ap, ◌∙◌, arith}
 use Rattle.std.specs.Prelude.{IfSome}
 use Rattle.std.specs.List.{AllByRecursion}
-use Rattle.ov_base.specs.declared.limits.TheConstants.{MAX_USERS, MAX_FILE_BYTES, SET_BYTES}
+use Rattle.ov_base.specs.declared.limits.TheConstants.{MAX_USERS, SET_BYTES}
 use Rattle.ov_base.specs.Names.{IsName}
 use Rattle.ov_base.specs.Sets.{IsBelow, bytes_of, set_of_bytes}
 use Rattle.ov_tokens.specs.declared.token.Token.{Token}
@@ -11,23 +11,20 @@ use Rattle.ov_fields.specs.Spelling.{optional, counted, IsToken}
 use Rattle.ov_fields.specs.Entries.{edge_field}
 use Rattle.ov_fields.specs.Reading.{Read, ◌>>=◌, made, making, spanned, rest_of, at_most, between, byte_at, bytes_at, many_at, counted_at, optional_at}
 use Rattle.ov_fields.proofs.ReadingLaws.{bind_ok, done, ok_is, Reads, then_reads, made_reads, made_into, refit}
-use Rattle.ov_fields.proofs.FieldLaws.{bytes_reads, byte_reads, number_reads, wide32}
+use Rattle.ov_fields.proofs.FieldLaws.{byte_reads}
 use Rattle.ov_fields.proofs.ListLaws.{counted_reads, optional_reads, Reads-more}
 use Rattle.ov_fields.proofs.NameLaws.{name_reads, token_reads}
 use Rattle.ov_fields.proofs.SetFields.{set_reads}
 use Rattle.ov_fields.proofs.TagLaws.{spanned_reads}
 use Rattle.ov_fields.proofs.TestLaws.{le_of, of_le, between_of, IsCount, count_is, is_count}
 use Rattle.ov_wire.specs.Updates.{plain}
-use Rattle.ov_wire.specs.Entries.{Entry, User, Node, Access, File, entry_bytes, IsNode, IsEdge, IsNodeEntry, IsOfPart, IsEntry, user_entry_at, user, edge_at, edge, node_entry_at, node, access_entry_at, access, file_entry_at, file, entry_at}
+use Rattle.ov_wire.specs.Entries.{Entry, User, Node, Access, File, Gone, entry_bytes, IsNode, IsEdge, IsNodeEntry, IsOfPart, IsEntry, user_entry_at, user, edge_at, edge, node_entry_at, node, access_entry_at, access, entry_at}
 use Rattle.ov_wire.specs.AnswerReading.{entry_or_none_at}
-use Rattle.ov_wire.proofs.NumberLaws.{node_reads, at_most_reads, below_reads}
+use Rattle.ov_wire.proofs.FileEntries.{file_or_gone_reads, longest_entry}
+use Rattle.ov_wire.proofs.NumberLaws.{node_reads, below_reads}
 
 pub edge_reads : Reads edge_at edge_field IsEdge (4 + 32)
 edge_reads = made_reads edge (λ e. (e.from, e.token)) (λ f. refl) (λ e. refl) (then_reads node_reads token_reads)
-
--- no entry has more bytes than that of a node with the most edges
-abbrev pub longest_entry : ℕ
-longest_entry = SET_BYTES + (2 + MAX_USERS * (4 + 32))
 
 abbrev UserFields : Type 0
 UserFields = (List ℕ × ℕ) × ℕ
@@ -40,6 +37,7 @@ back_user (User name base_root surface_root) is = (((name, base_root), surface_r
 back_user (Node set edges) is = absurd is
 back_user (Access u n token) is = absurd is
 back_user (File name n len generation tag surface) is = absurd is
+back_user Gone is = absurd is
 
 user_reads : Reads (making user user_entry_at) entry_bytes (IsOfPart 1) longest_entry
 user_reads =
@@ -65,12 +63,14 @@ back_node_2 (User name base_root surface_root) is = absurd is
 back_node_2 (Node set edges) is = ((set, edges), back_node set edges is, refl)
 back_node_2 (Access u n token) is = absurd is
 back_node_2 (File name n len generation tag surface) is = absurd is
+back_node_2 Gone is = absurd is
 
 back_node_3 : (e : Entry) → IsOfPart 3 e → (f : NodeFields) × NodeFits f × (node f ≡ e)
 back_node_3 (User name base_root surface_root) is = absurd is
 back_node_3 (Node set edges) is = ((set, edges), back_node set edges is, refl)
 back_node_3 (Access u n token) is = absurd is
 back_node_3 (File name n len generation tag surface) is = absurd is
+back_node_3 Gone is = absurd is
 
 abbrev pub node_fields : NodeFields → List ℕ
 node_fields f = bytes_of SET_BYTES f.0 ++ counted edge_field f.1
@@ -101,34 +101,13 @@ back_access (User name base_root surface_root) is = absurd is
 back_access (Node set edges) is = absurd is
 back_access (Access u n token) is = (((u, n), token), ((is.0, is.1), is.2), refl)
 back_access (File name n len generation tag surface) is = absurd is
+back_access Gone is = absurd is
 
 access_reads : Reads (making access access_entry_at) entry_bytes (IsOfPart 4) longest_entry
 access_reads =
     Reads-more
     (made_into access entry_bytes (IsOfPart 4) (then_reads (then_reads (below_reads MAX_USERS (omega arith)) node_reads) token_reads)
     (λ f fits. (fits.0.0, fits.0.1, fits.1)) (λ f fits. refl) back_access)
-    longest_entry (omega arith)
-
-abbrev FileFields : Type 0
-FileFields = ((((List ℕ × ℕ) × ℕ) × ℕ) × List ℕ) × Option ℕ
-
-abbrev FileFits : FileFields → Type 0
-FileFits f =
-    ((((IsName f.0.0.0.0.0 × IsNode f.0.0.0.0.1) × (f.0.0.0.1 ≤ MAX_FILE_BYTES)) × (f.0.0.1 < 2 ^ 32)) × (length f.0.1 ≡ 32)) × IfSome f.1 IsNode
-
-back_file : (e : Entry) → IsOfPart 5 e → (f : FileFields) × FileFits f × (file f ≡ e)
-back_file (User name base_root surface_root) is = absurd is
-back_file (Node set edges) is = absurd is
-back_file (Access u n token) is = absurd is
-back_file (File name n len generation tag surface) is =
-    ((((((name, n), len), generation), tag), surface), (((((is.0, is.1), is.2), is.3), is.4), is.5), refl)
-
-file_reads : Reads (making file file_entry_at) entry_bytes (IsOfPart 5) longest_entry
-file_reads =
-    Reads-more
-    (made_into file entry_bytes (IsOfPart 5)
-    (then_reads (then_reads (then_reads (then_reads (then_reads name_reads node_reads) (at_most_reads MAX_FILE_BYTES (omega arith))) (number_reads wide32)) (bytes_reads 32)) (optional_reads node_reads))
-    (λ f fits. (fits.0.0.0.0.0, fits.0.0.0.0.1, fits.0.0.0.1, fits.0.0.1, fits.0.1, fits.1)) (λ f fits. refl) back_file)
     longest_entry (omega arith)
 
 pub too_great : (part : ℕ) → IsTrue (between 1 5 (suc (suc (suc (suc (suc (suc part))))))) → ⊥
@@ -142,7 +121,7 @@ entry_reads (suc zero) is = user_reads
 entry_reads (suc (suc zero)) is = node_2_reads
 entry_reads (suc (suc (suc zero))) is = node_3_reads
 entry_reads (suc (suc (suc (suc zero)))) is = access_reads
-entry_reads (suc (suc (suc (suc (suc zero))))) is = file_reads
+entry_reads (suc (suc (suc (suc (suc zero))))) is = file_or_gone_reads
 entry_reads (suc (suc (suc (suc (suc (suc part)))))) is = absurd (too_great part is)
 
 pub span_reads : (part : ℕ) → IsTrue (between 1 5 part) → Reads (spanned (entry_at part)) plain (IsEntry part) longest_entry
@@ -156,12 +135,14 @@ none_zero (User name base_root surface_root) is = is
 none_zero (Node set edges) is = is
 none_zero (Access u n token) is = is
 none_zero (File name n len generation tag surface) is = is
+none_zero Gone is = is
 
 none_great : (part : ℕ) (e : Entry) → IsOfPart (suc (suc (suc (suc (suc (suc part)))))) e → ⊥
 none_great part (User name base_root surface_root) is = is
 none_great part (Node set edges) is = is
 none_great part (Access u n token) is = is
 none_great part (File name n len generation tag surface) is = is
+none_great part Gone is = is
 
 pub no_part : (part : ℕ) → between 1 5 part ≡ false → (e : Entry) → IsOfPart part e → ⊥
 no_part zero out e is = none_zero e is

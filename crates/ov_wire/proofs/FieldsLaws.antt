@@ -12,7 +12,7 @@ use Rattle.ov_fields.proofs.NameLaws.{longest_name, name_reads}
 use Rattle.ov_fields.proofs.TestLaws.{IsCount, count_is, is_count}
 use Rattle.ov_fields.proofs.TagLaws.{spanned_reads}
 use Rattle.ov_fields.proofs.KindLaws.{IsKind, kind_takes, kind_again, kind_near, kind_none}
-use Rattle.ov_wire.specs.Updates.{Fields, Enrolment, Creation, Grant, Revocation, plain, Has32, HasSet, token_fields, AreTokens, tokens_at, fields_bytes, HasFields, IsSpelling, creation, creation_at, grant, grant_at, revocation, revocation_at, fields_at}
+use Rattle.ov_wire.specs.Updates.{Fields, Enrolment, Creation, Grant, Revocation, Removal, plain, Has32, HasSet, token_fields, AreTokens, tokens_at, fields_bytes, HasFields, IsSpelling, creation, creation_at, grant, grant_at, revocation, revocation_at, fields_at}
 use Rattle.ov_wire.specs.RequestReading.{spelling_at}
 
 abbrev pub creation_fields : (((List ℕ × List ℕ) × List ℕ) × List ℕ) × List ℕ → List ℕ
@@ -79,6 +79,9 @@ revocation_reads = then_reads (number_reads wide32) (number_reads wide32)
 pub revocation_kind : IsKind revocation_fields RevocationFits fields_bytes HasFields 4 revocation
 revocation_kind = record { form = λ f fits. fits; spelled = λ f. refl }
 
+pub removal_kind : IsKind u32 (λ n. n < 2 ^ 32) fields_bytes HasFields 6 Removal
+removal_kind = record { form = λ n fits. fits; spelled = λ n. refl }
+
 pub enrolment_kind : IsKind name_field IsName fields_bytes HasFields 1 Enrolment
 enrolment_kind = record { form = λ name is. is; spelled = λ name. refl }
 
@@ -94,7 +97,9 @@ fields_takes (suc zero ∷ bytes) x fits e = kind_takes 1 Enrolment name_reads e
 fields_takes (suc (suc zero) ∷ bytes) x fits e = kind_takes 2 creation creation_reads creation_kind bytes x fits e
 fields_takes (suc (suc (suc zero)) ∷ bytes) x fits e = kind_takes 3 grant grant_reads grant_kind bytes x fits e
 fields_takes (suc (suc (suc (suc zero))) ∷ bytes) x fits e = kind_takes 4 revocation revocation_reads revocation_kind bytes x fits e
-fields_takes (suc (suc (suc (suc (suc kind)))) ∷ bytes) x fits e = absurd cc
+fields_takes (suc (suc (suc (suc (suc zero)))) ∷ bytes) x fits e = absurd cc
+fields_takes (suc (suc (suc (suc (suc (suc zero))))) ∷ bytes) x fits e = kind_takes 6 Removal (number_reads wide32) removal_kind bytes x fits e
+fields_takes (suc (suc (suc (suc (suc (suc (suc kind)))))) ∷ bytes) x fits e = absurd cc
 
 abbrev creation_values : (name list tokens tag bytes : List ℕ) → (((List ℕ × List ℕ) × List ℕ) × List ℕ) × List ℕ
 creation_values name list tokens tag bytes = ((((name, list), tokens), tag), bytes)
@@ -110,6 +115,7 @@ fields_again (Creation name list tokens tag bytes) rest fits =
     kind_again creation creation_reads (creation_values name list tokens tag bytes) rest (creation_fits name list tokens tag bytes fits)
 fields_again (Grant user file token) rest fits = kind_again grant grant_reads ((user, file), token) rest ((fits.0, fits.1), fits.2)
 fields_again (Revocation user file) rest fits = kind_again revocation revocation_reads (user, file) rest fits
+fields_again (Removal file) rest fits = kind_again Removal (number_reads wide32) file rest fits
 
 fields_near : (bytes : List ℕ) (left : ℕ) → AreBytes bytes → fields_at bytes ≡ Err left → (left ≤ length bytes) × (length bytes ≤ left + longest)
 unfolding fields_at
@@ -119,7 +125,10 @@ fields_near (suc zero ∷ bytes) left fits e = kind_near 1 Enrolment longest nam
 fields_near (suc (suc zero) ∷ bytes) left fits e = kind_near 2 creation longest creation_reads (omega arith) bytes left fits e
 fields_near (suc (suc (suc zero)) ∷ bytes) left fits e = kind_near 3 grant longest grant_reads (omega arith) bytes left fits e
 fields_near (suc (suc (suc (suc zero))) ∷ bytes) left fits e = kind_near 4 revocation longest revocation_reads (omega arith) bytes left fits e
-fields_near (suc (suc (suc (suc (suc kind)))) ∷ bytes) left fits e = kind_none (suc (suc (suc (suc (suc kind))))) bytes left longest (omega arith) cc
+fields_near (suc (suc (suc (suc (suc zero)))) ∷ bytes) left fits e = kind_none 5 bytes left longest (omega arith) cc
+fields_near (suc (suc (suc (suc (suc (suc zero))))) ∷ bytes) left fits e = kind_near 6 Removal longest (number_reads wide32) (omega arith) bytes left fits e
+fields_near (suc (suc (suc (suc (suc (suc (suc kind)))))) ∷ bytes) left fits e =
+    kind_none (suc (suc (suc (suc (suc (suc (suc kind))))))) bytes left longest (omega arith) cc
 
 fields_short : (f : Fields) → HasFields f → length (fields_bytes f) ≤ longest
 fields_short (Enrolment name) fits = omega (arith, name_reads.short name fits)
@@ -127,6 +136,7 @@ fields_short (Creation name list tokens tag bytes) fits =
     let k = creation_reads.short (creation_values name list tokens tag bytes) (creation_fits name list tokens tag bytes fits) in omega (arith, k)
 fields_short (Grant user file token) fits = let k = grant_reads.short ((user, file), token) ((fits.0, fits.1), fits.2) in omega (arith, k)
 fields_short (Revocation user file) fits = omega arith
+fields_short (Removal file) fits = omega arith
 
 pub fields_reads : Reads fields_at fields_bytes HasFields longest
 fields_reads = record {

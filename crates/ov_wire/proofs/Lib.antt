@@ -4,7 +4,10 @@ pub mod AnswerLaws
 pub mod AnswerPlaces
 pub mod ChainLaws
 pub mod EntryLaws
+pub mod EntryPlaces
 pub mod FieldsLaws
+pub mod FileEntries
+pub mod FilePlaces
 pub mod FrameLaws
 pub mod FreshNames
 pub mod LongFrames

@@ -1,35 +1,29 @@
--- Wrong places of the numbers, chains and entries in answers.
-use Rattle.std.proofs.Common.{◌≡◌, ℕ, zero, suc, ◌+◌, ◌-◌, ◌^◌, ◌<◌, ◌≤◌, Bool, true, false, cond, eqb, IsTrue, List, [], ◌∷◌, length, inl, refl, sym, ap, subst, arith}
-use Rattle.std.specs.Prelude.{IfSome}
+-- Wrong places of the numbers and chains in answers.
+use Rattle.std.proofs.Common.{◌≡◌, ℕ, ◌+◌, ◌-◌, ◌^◌, ◌<◌, ◌≤◌, Bool, true, false, cond, eqb, List, [], ◌∷◌, length, inl, refl, sym, subst, arith}
 use Rattle.std.specs.Int.{w32}
 use Rattle.std.specs.List.{flat_map, AllByRecursion}
-use Rattle.ov_base.specs.declared.limits.TheConstants.{MAX_USERS, MAX_FILE_BYTES, MAX_LAYER_NODES, SET_BYTES}
+use Rattle.ov_base.specs.declared.limits.TheConstants.{MAX_LAYER_NODES}
 use Rattle.ov_base.specs.declared.refusal.Refusal.{Refusal}
 use Rattle.ov_base.specs.declared.refusal.Refusal.TheVariants.{Taken, NoUser, NoFile, NoPath, Listed, NotListed, UsersFull, FilesFull, BytesFull, NodesFull, Spent}
 use Rattle.ov_base.specs.Refusals.{refusal_number}
 use Rattle.ov_tokens.specs.declared.label.Kind.{Kind}
 use Rattle.ov_tokens.specs.declared.label.Kind.TheVariants.{Derive, Access, Surface}
 use Rattle.ov_tokens.specs.Labels.{tag_of}
-use Rattle.ov_fields.specs.Spelling.{u32, optional, counted, IsOneOf}
-use Rattle.ov_fields.specs.Entries.{edge_field}
-use Rattle.ov_fields.specs.Reading.{at_most, below, between, number_that, one_of_at, many_at, making}
+use Rattle.ov_fields.specs.Spelling.{u32, counted, IsOneOf}
+use Rattle.ov_fields.specs.Reading.{at_most, below, between, number_that, one_of_at, many_at}
 use Rattle.ov_fields.proofs.ReadingLaws.{then_reads, sized_by}
-use Rattle.ov_fields.proofs.FieldLaws.{bytes_reads, number_reads, wide16, wide32}
-use Rattle.ov_fields.proofs.NameLaws.{name_reads}
-use Rattle.ov_fields.proofs.SetFields.{set_reads}
+use Rattle.ov_fields.proofs.FieldLaws.{number_reads, wide16}
 use Rattle.ov_fields.proofs.TestLaws.{le_of, lt_of, between_of}
 use Rattle.ov_fields.proofs.PlaceLaws.{HasPlaces}
 use Rattle.ov_fields.proofs.JoinPlaces.{then_places, given_places, made_places, refit_places}
-use Rattle.ov_fields.proofs.FieldPlaces.{byte_places, bytes_places, number_places, one_of_places, set_places, spanned_places}
+use Rattle.ov_fields.proofs.FieldPlaces.{number_places, one_of_places}
 use Rattle.ov_fields.proofs.LimitPlaces.{u32_places, at_most_limits, below_limits, between_limits}
-use Rattle.ov_fields.proofs.ListPlaces.{many_places, counted_places, optional_places, name_places, token_places}
-use Rattle.ov_wire.specs.AnswerReading.{greater_at, next_at, entry_or_none_at}
+use Rattle.ov_fields.proofs.ListPlaces.{many_places, token_places}
+use Rattle.ov_wire.specs.AnswerReading.{greater_at, next_at}
 use Rattle.ov_wire.specs.Chains.{step_field, chain_field, IsStep, AreSteps, IsChain, step, step_at, steps_at, chain, chain_at, base_kinds, surface_kinds}
-use Rattle.ov_wire.specs.Entries.{entry_bytes, IsNode, IsEdge, IsOfPart, IsEntry, user_entry_at, user, edge_at, edge, node_entry_at, node, access_entry_at, access, file_entry_at, file, entry_at, node_at}
-use Rattle.ov_wire.specs.Updates.{plain}
+use Rattle.ov_wire.specs.Entries.{IsNode, node_at}
 use Rattle.ov_wire.proofs.ChainLaws.{step_reads}
-use Rattle.ov_wire.proofs.EntryLaws.{edge_reads, too_great, nothing_of, entry_or_none, node_is, node_fields, NodeFits}
-use Rattle.ov_wire.proofs.NumberLaws.{at_most_reads, below_reads, node_reads, kind_reads}
+use Rattle.ov_wire.proofs.NumberLaws.{node_reads, kind_reads}
 
 -- ---- numbers
 
@@ -109,53 +103,3 @@ steps_places limited kinds has =
 
 pub chain_places : {Once Limited : Type 0} → Limited → (kinds : ℕ → List Kind) → HasKinds kinds → HasPlaces Once Limited (chain_at kinds) chain_field (IsChain kinds)
 chain_places limited kinds has = made_places chain chain_field (IsChain kinds) (then_places node_reads (node_places limited) (steps_places limited kinds has)) (λ f fits. fits) (λ f fits. refl)
-
--- ---- entries
-
-edge_places : {Once Limited : Type 0} → Limited → HasPlaces Once Limited edge_at edge_field IsEdge
-edge_places limited = made_places edge edge_field IsEdge (then_places node_reads (node_places limited) token_places) (λ f fits. fits) (λ f fits. refl)
-
-user_places : {Once Limited : Type 0} → Limited → HasPlaces Once Limited (making user user_entry_at) entry_bytes (IsOfPart 1)
-user_places limited =
-    made_places user entry_bytes (IsOfPart 1) (then_places (then_reads name_reads node_reads) (then_places name_reads name_places (node_places limited)) (node_places limited))
-    (λ f fits. (fits.0.0, fits.0.1, fits.1)) (λ f fits. refl)
-
-node_entry_places : {Once Limited : Type 0} → Limited → HasPlaces Once Limited node_entry_at node_fields NodeFits
-node_entry_places limited = then_places (set_reads SET_BYTES) (set_places SET_BYTES) (counted_places MAX_USERS (omega arith) limited edge_reads (edge_places limited))
-
-access_places : {Once Limited : Type 0} → Limited → HasPlaces Once Limited (making access access_entry_at) entry_bytes (IsOfPart 4)
-access_places limited =
-    made_places access entry_bytes (IsOfPart 4)
-    (then_places (then_reads (below_reads MAX_USERS (omega arith)) node_reads)
-    (then_places (below_reads MAX_USERS (omega arith)) (below_places MAX_USERS (omega arith) (omega arith) limited) (node_places limited)) token_places)
-    (λ f fits. (fits.0.0, fits.0.1, fits.1)) (λ f fits. refl)
-
-file_places : {Once Limited : Type 0} → Limited → HasPlaces Once Limited (making file file_entry_at) entry_bytes (IsOfPart 5)
-file_places limited =
-    let two = then_reads name_reads node_reads in
-    let three = then_reads two (at_most_reads MAX_FILE_BYTES (omega arith)) in
-    let four = then_reads three (number_reads wide32) in
-    made_places file entry_bytes (IsOfPart 5)
-    (then_places (then_reads four (bytes_reads 32))
-    (then_places four (then_places three (then_places two (then_places name_reads name_places (node_places limited)) (at_most_places MAX_FILE_BYTES (omega arith) limited)) (number_places wide32)) (bytes_places 32))
-    (optional_places (node_places limited)))
-    (λ f fits. (fits.0.0.0.0.0, fits.0.0.0.0.1, fits.0.0.0.1, fits.0.0.1, fits.0.1, fits.1)) (λ f fits. refl)
-
-entry_places : {Once Limited : Type 0} → Limited → (part : ℕ) → IsTrue (between 1 5 part) → HasPlaces Once Limited (entry_at part) entry_bytes (IsOfPart part)
-unfolding entry_at
-entry_places limited zero is = absurd cc
-entry_places limited (suc zero) is = user_places limited
-entry_places limited (suc (suc zero)) is = made_places node entry_bytes (IsOfPart 2) (node_entry_places limited) node_is (λ f fits. refl)
-entry_places limited (suc (suc (suc zero))) is = made_places node entry_bytes (IsOfPart 3) (node_entry_places limited) node_is (λ f fits. refl)
-entry_places limited (suc (suc (suc (suc zero)))) is = access_places limited
-entry_places limited (suc (suc (suc (suc (suc zero))))) is = file_places limited
-entry_places limited (suc (suc (suc (suc (suc (suc part)))))) is = absurd (too_great part is)
-
-entry_by : {Once Limited : Type 0} → Limited → (b : Bool) (part : ℕ) → between 1 5 part ≡ b → HasPlaces Once Limited (entry_or_none b part) (optional plain) (λ o. IfSome o (IsEntry part))
-entry_by limited true part is = optional_places (spanned_places (IsEntry part) (λ e fits. record { entry = e; form = fits; spelled = refl }) (entry_places limited part is))
-entry_by limited false part is =
-    made_places nothing_of (optional plain) (λ o. IfSome o (IsEntry part)) (byte_places (at_most 0) 0 (omega arith) refl) (λ b fits. tt)
-    (λ b fits. let le = le_of 0 b fits in let e : b ≡ 0 = omega (arith, le) in ap (λ (n : ℕ). n ∷ []) e)
-
-pub entry_or_none_places : {Once Limited : Type 0} → Limited → (part : ℕ) → HasPlaces Once Limited (entry_or_none_at part) (optional plain) (λ o. IfSome o (IsEntry part))
-entry_or_none_places limited part = entry_by limited (between 1 5 part) part refl

@@ -17,7 +17,7 @@ use Rattle.ov_fields.proofs.ListPlaces.{name_places, optional_places, sized_plac
 use Rattle.ov_fields.proofs.RowPlaces.{kind_fault, no_kind_fault}
 use Rattle.ov_wire.specs.declared.request.Question.TheVariants as questions
 use Rattle.ov_wire.specs.Requests.{question_bytes, HasQuestionForm}
-use Rattle.ov_wire.specs.Updates.{Enrolment, plain, token_fields, AreTokens, tokens_at, fields_bytes, HasFields, IsSpelling, creation, creation_at, grant, grant_at, revocation, revocation_at, fields_at}
+use Rattle.ov_wire.specs.Updates.{Enrolment, Removal, plain, token_fields, AreTokens, tokens_at, fields_bytes, HasFields, IsSpelling, creation, creation_at, grant, grant_at, revocation, revocation_at, fields_at}
 use Rattle.ov_wire.specs.RequestReading as requests
 use Rattle.ov_wire.specs.RequestReading.{question_at, spelling_at}
 use Rattle.ov_wire.proofs.FieldsLaws as fields
@@ -44,8 +44,9 @@ question_fault (suc (suc zero) ∷ bytes) left fits e = no_kind_fault 2 no_quest
 question_fault (suc (suc (suc zero)) ∷ bytes) left fits e = kind_fault 3 requests.grant two_names_places questions_read.grant_kind (λ t. refl) bytes left fits e
 question_fault (suc (suc (suc (suc zero))) ∷ bytes) left fits e = kind_fault 4 requests.revoke two_names_places questions_read.revoke_kind (λ t. refl) bytes left fits e
 question_fault (suc (suc (suc (suc (suc zero)))) ∷ bytes) left fits e = kind_fault 5 questions.Key name_places questions_read.key_kind (λ t. refl) bytes left fits e
-question_fault (suc (suc (suc (suc (suc (suc verb))))) ∷ bytes) left fits e =
-    no_kind_fault (suc (suc (suc (suc (suc (suc verb)))))) no_question (λ t x bad. absurd cc) bytes left cc
+question_fault (suc (suc (suc (suc (suc (suc zero))))) ∷ bytes) left fits e = kind_fault 6 questions.Remove name_places questions_read.remove_kind (λ t. refl) bytes left fits e
+question_fault (suc (suc (suc (suc (suc (suc (suc verb)))))) ∷ bytes) left fits e =
+    no_kind_fault (suc (suc (suc (suc (suc (suc (suc verb))))))) no_question (λ t x bad. absurd cc) bytes left cc
 
 pub question_places : {Once Limited : Type 0} → HasPlaces Once Limited question_at question_bytes HasQuestionForm
 question_places =
@@ -93,8 +94,10 @@ fields_fault limited (suc zero ∷ bytes) left fits e = kind_fault 1 Enrolment n
 fields_fault limited (suc (suc zero) ∷ bytes) left fits e = kind_fault 2 creation (creation_places limited) fields.creation_kind (λ t. refl) bytes left fits e
 fields_fault limited (suc (suc (suc zero)) ∷ bytes) left fits e = kind_fault 3 grant grant_places fields.grant_kind (λ t. refl) bytes left fits e
 fields_fault limited (suc (suc (suc (suc zero))) ∷ bytes) left fits e = kind_fault 4 revocation revocation_places fields.revocation_kind (λ t. refl) bytes left fits e
-fields_fault limited (suc (suc (suc (suc (suc kind)))) ∷ bytes) left fits e =
-    no_kind_fault (suc (suc (suc (suc (suc kind))))) no_fields (λ t x bad. absurd cc) bytes left cc
+fields_fault limited (suc (suc (suc (suc (suc zero)))) ∷ bytes) left fits e = no_kind_fault 5 no_fields (λ t x bad. absurd cc) bytes left cc
+fields_fault limited (suc (suc (suc (suc (suc (suc zero))))) ∷ bytes) left fits e = kind_fault 6 Removal (number_places wide32) fields.removal_kind (λ t. refl) bytes left fits e
+fields_fault limited (suc (suc (suc (suc (suc (suc (suc kind)))))) ∷ bytes) left fits e =
+    no_kind_fault (suc (suc (suc (suc (suc (suc (suc kind))))))) no_fields (λ t x bad. absurd cc) bytes left cc
 
 fields_places : {Once Limited : Type 0} → Limited → HasPlaces Once Limited fields_at fields_bytes HasFields
 fields_places limited =

@@ -19,7 +19,7 @@ use Rattle.ov_wire.specs.declared.answer.Answer.TheVariants as answers
 use Rattle.ov_wire.specs.Chains.{chain_at, base_kinds, surface_kinds}
 use Rattle.ov_wire.specs.Entries.{node_at, entry_at}
 use Rattle.ov_wire.specs.RequestReading.{names_at}
-use Rattle.ov_wire.specs.AnswersTo.{create_refusals, read_refusals, ask_refusals, update_refusals, files_of, nodes_of, most_chunk, wants_of}
+use Rattle.ov_wire.specs.AnswersTo.{create_refusals, read_refusals, ask_refusals, update_refusals, users_of, roots_of, files_of, nodes_of, most_chunk, wants_of}
 use Rattle.ov_wire.specs.Places.{in_frame}
 
 -- a row of a table: a kind byte, and how what follows it is read
@@ -54,7 +54,8 @@ welcome ((mode, epoch), check) =
 -- the fields of a Known, in the order of their bytes
 abbrev pub known_at : Question → List ℕ → Read ((((((ℕ × ℕ) × ℕ) × ℕ) × ℕ) × ℕ) × Bool)
 known_at question =
-    number_at w32 >> number_that w32 (below MAX_USERS) >> node_at >> node_at
+    number_at w32 >> number_that w32 (below (users_of question))
+    >> number_that w32 (below (roots_of question)) >> number_that w32 (below (roots_of question))
     >> number_that w32 (below (files_of question))
     >> number_that w32 (below (nodes_of question)) >> one_of_at flag (wants_of question)
 

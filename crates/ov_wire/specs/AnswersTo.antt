@@ -39,6 +39,10 @@ grant_refusals = NoUser ∷ NoFile ∷ Listed ∷ NodesFull ∷ Spent ∷ []
 abbrev pub revoke_refusals : List Refusal
 revoke_refusals = NoUser ∷ NoFile ∷ NotListed ∷ NodesFull ∷ Spent ∷ []
 
+-- the refusals of a removal
+abbrev pub remove_refusals : List Refusal
+remove_refusals = NoFile ∷ NodesFull ∷ Spent ∷ []
+
 -- the refusals of a reading
 abbrev pub read_refusals : List Refusal
 read_refusals = NoUser ∷ NoFile ∷ NoPath ∷ []
@@ -49,6 +53,7 @@ ask_refusals (questions.Enrol user) = enrol_refusals
 ask_refusals (questions.Grant user file) = grant_refusals
 ask_refusals (questions.Revoke user file) = revoke_refusals
 ask_refusals (questions.Key user) = NoUser ∷ []
+ask_refusals (questions.Remove file) = remove_refusals
 
 -- the refusals of an update with this spelling: none where no update is of its kind
 abbrev pub update_refusals : List ℕ → List Refusal
@@ -58,9 +63,26 @@ update_refusals (kind ∷ bytes) =
     else if kind == 2 then create_refusals
     else if kind == 3 then grant_refusals
     else if kind == 4 then revoke_refusals
+    else if kind == 6 then remove_refusals
     else []
 
--- ---- the fields of Known that are 0 where the command is about no file
+-- ---- the fields of Known that are 0 where the command is about no user, or about no file
+
+-- whether the command is about a user
+abbrev pub names_user : Question → Bool
+names_user (questions.Enrol user) = true
+names_user (questions.Grant user file) = true
+names_user (questions.Revoke user file) = true
+names_user (questions.Key user) = true
+names_user (questions.Remove file) = false
+
+-- the number that a user's is below
+abbrev pub users_of : Question → ℕ
+users_of question = if names_user question then MAX_USERS else 1
+
+-- the number that a user's roots are below
+abbrev pub roots_of : Question → ℕ
+roots_of question = if names_user question then MAX_LAYER_NODES else 1
 
 -- whether the command is about a file
 abbrev pub names_file : Question → Bool
@@ -68,6 +90,7 @@ names_file (questions.Enrol user) = false
 names_file (questions.Grant user file) = true
 names_file (questions.Revoke user file) = true
 names_file (questions.Key user) = false
+names_file (questions.Remove file) = true
 
 -- the number that a file's is below
 abbrev pub files_of : Question → ℕ
@@ -95,9 +118,10 @@ IsWelcome welcome = (welcome.epoch < 2 ^ 32) × Has32 welcome.base_check
 -- the fields of an answer to Ask
 abbrev pub IsKnown : Question → Known → Type 0
 IsKnown question known =
-    (known.epoch < 2 ^ 32) × (known.user < MAX_USERS) × IsNode known.base_root
-    × IsNode known.surface_root × (known.file < files_of question)
-    × (known.node < nodes_of question) × IsOneOf known.wants (wants_of question)
+    (known.epoch < 2 ^ 32) × (known.user < users_of question)
+    × (known.base_root < roots_of question) × (known.surface_root < roots_of question)
+    × (known.file < files_of question) × (known.node < nodes_of question)
+    × IsOneOf known.wants (wants_of question)
 
 -- the fields of an answer to Cover
 abbrev pub IsPlan : Plan → Type 0

@@ -1,5 +1,5 @@
 -- Entries of the public catalogue, as they stand in an answer.
-use Rattle.std.specs.Prelude.{ℕ, zero, suc, ◌≡◌, ◌≤◌, ◌<◌, ◌^◌, List, length, Option, IfSome, Err}
+use Rattle.std.specs.Prelude.{ℕ, zero, suc, ◌≡◌, ◌≤◌, ◌<◌, ◌^◌, List, [], ◌∷◌, length, Option, IfSome, Ok, Err}
 use Rattle.std.specs.List.{AllByRecursion}
 use Rattle.std.specs.Int.{w32}
 use Rattle.ov_base.specs.declared.limits.TheConstants.{MAX_USERS, MAX_LAYER_NODES, MAX_FILE_BYTES, SET_BYTES}
@@ -9,23 +9,26 @@ use Rattle.ov_tokens.specs.declared.token.Token.{Token}
 use Rattle.ov_tokens.specs.declared.edge.Edge.{Edge}
 use Rattle.ov_fields.specs.Spelling.{IsToken}
 use Rattle.ov_fields.specs.Entries.{user_entry, node_entry, access_entry, file_entry}
-use Rattle.ov_fields.specs.Reading.{Read, ◌>>◌, making, at_most, below, bytes_at, number_at, number_that, set_at, counted_at, optional_at, name_at, token_at}
+use Rattle.ov_fields.specs.Reading.{Read, ◌>>◌, made, making, at_most, below, bytes_at, number_at, number_that, set_at, counted_at, optional_at, name_at, token_at}
 
--- an entry, by its fields
+-- an entry, by its fields; a file that is gone has none
 pub data Entry : Type 0 where
   User : (name : List ℕ) → (base_root surface_root : ℕ) → Entry
   Node : (set : ℕ) → (edges : List Edge) → Entry
   Access : (user node : ℕ) → (token : Token) → Entry
   File : (name : List ℕ) → (node len generation : ℕ) → (tag : List ℕ) → (surface : Option ℕ)
       → Entry
+  Gone : Entry
 
--- the entry's fields in order
+-- The entry's fields in order. For a file that is gone there is the byte 0, which can't be the
+-- length of a name.
 abbrev pub entry_bytes : Entry → List ℕ
 entry_bytes (User name base_root surface_root) = user_entry name base_root surface_root
 entry_bytes (Node set edges) = node_entry SET_BYTES set edges
 entry_bytes (Access user node token) = access_entry user node token
 entry_bytes (File name node len generation tag surface) =
     file_entry name node len generation tag surface
+entry_bytes Gone = 0 ∷ []
 
 -- the number of a node of a layer
 abbrev pub IsNode : ℕ → Type 0
@@ -51,6 +54,7 @@ IsOfPart (suc (suc (suc (suc zero)))) (Access user node token) =
 IsOfPart (suc (suc (suc (suc (suc zero))))) (File name node len generation tag surface) =
     IsName name × IsNode node × (len ≤ MAX_FILE_BYTES) × (generation < 2 ^ 32)
     × (length tag ≡ 32) × IfSome surface IsNode
+IsOfPart (suc (suc (suc (suc (suc zero))))) Gone = Unit {0}
 IsOfPart part entry = ⊥
 
 -- the bytes are an entry of this part
@@ -101,16 +105,25 @@ access_entry_at = number_that w32 (below MAX_USERS) >> node_at >> token_at
 abbrev pub access : (ℕ × ℕ) × Token → Entry
 access ((user, node), token) = Access user node token
 
+-- the fields of a file that follow its name
+abbrev pub filed_at : List ℕ → Read ((((ℕ × ℕ) × ℕ) × List ℕ) × Option ℕ)
+filed_at =
+    node_at >> number_that w32 (at_most MAX_FILE_BYTES) >> number_at w32 >> bytes_at 32
+    >> optional_at node_at
+
 -- the fields of a file, in the order of their bytes
-abbrev pub file_entry_at : List ℕ → Read (((((List ℕ × ℕ) × ℕ) × ℕ) × List ℕ) × Option ℕ)
-file_entry_at =
-    name_at >> node_at >> number_that w32 (at_most MAX_FILE_BYTES) >> number_at w32
-    >> bytes_at 32 >> optional_at node_at
+abbrev pub file_entry_at : List ℕ → Read (List ℕ × ((((ℕ × ℕ) × ℕ) × List ℕ) × Option ℕ))
+file_entry_at = name_at >> filed_at
 
 -- the file with these fields
-abbrev pub file : ((((List ℕ × ℕ) × ℕ) × ℕ) × List ℕ) × Option ℕ → Entry
-file (((((name, node), len), generation), tag), surface) =
+abbrev pub file : List ℕ × ((((ℕ × ℕ) × ℕ) × List ℕ) × Option ℕ) → Entry
+file (name, ((((node, len), generation), tag), surface)) =
     File name node len generation tag surface
+
+-- a file, or the byte 0 where it is gone
+unfoldable pub file_or_gone_at : List ℕ → Read Entry
+file_or_gone_at (zero ∷ bytes) = Ok (Gone, bytes)
+file_or_gone_at bytes = made file (file_entry_at bytes)
 
 -- the fields of an entry of this part
 unfoldable pub entry_at : ℕ → List ℕ → Read Entry
@@ -118,5 +131,5 @@ entry_at (suc zero) = making user user_entry_at
 entry_at (suc (suc zero)) = making node node_entry_at
 entry_at (suc (suc (suc zero))) = making node node_entry_at
 entry_at (suc (suc (suc (suc zero)))) = making access access_entry_at
-entry_at (suc (suc (suc (suc (suc zero))))) = making file file_entry_at
+entry_at (suc (suc (suc (suc (suc zero))))) = file_or_gone_at
 entry_at part = λ bytes. Err (length bytes)

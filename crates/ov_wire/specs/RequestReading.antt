@@ -19,13 +19,15 @@ grant (user, file) = questions.Grant user file
 abbrev pub revoke : List ℕ × List ℕ → Question
 revoke (user, file) = questions.Revoke user file
 
--- a verb (enrol is 1, grant 3, revoke 4, key 5) with the names that its command takes
+-- a verb (enrol is 1, grant 3, revoke 4, key 5, remove 6) with the names that its command takes
 unfoldable pub question_at : List ℕ → Read Question
 question_at [] = Err 0
 question_at (suc zero ∷ bytes) = made questions.Enrol (name_at bytes)
 question_at (suc (suc (suc zero)) ∷ bytes) = made grant ((name_at >> name_at) bytes)
 question_at (suc (suc (suc (suc zero))) ∷ bytes) = made revoke ((name_at >> name_at) bytes)
 question_at (suc (suc (suc (suc (suc zero)))) ∷ bytes) = made questions.Key (name_at bytes)
+question_at (suc (suc (suc (suc (suc (suc zero))))) ∷ bytes) =
+    made questions.Remove (name_at bytes)
 question_at (verb ∷ bytes) = Err (length (verb ∷ bytes))
 
 -- `count` names of which none is among the ones that were seen or comes twice. One that does is

@@ -17,6 +17,7 @@ question_bytes (questions.Enrol user) = 1 ∷ name_field user
 question_bytes (questions.Grant user file) = 3 ∷ name_field user ++ name_field file
 question_bytes (questions.Revoke user file) = 4 ∷ name_field user ++ name_field file
 question_bytes (questions.Key user) = 5 ∷ name_field user
+question_bytes (questions.Remove file) = 6 ∷ name_field file
 
 -- a kind byte, and the request's fields in order
 abbrev pub request_bytes : Request → List ℕ
@@ -41,6 +42,7 @@ HasQuestionForm (questions.Enrol user) = IsName user
 HasQuestionForm (questions.Grant user file) = IsName user × IsName file
 HasQuestionForm (questions.Revoke user file) = IsName user × IsName file
 HasQuestionForm (questions.Key user) = IsName user
+HasQuestionForm (questions.Remove file) = IsName file
 
 -- which requests are in the grammar, however long
 abbrev pub IsRequest : Request → Type 0

@@ -12,6 +12,7 @@ pub data Fields : Type 0 where
   Creation : (name list tokens tag bytes : List ℕ) → Fields
   Grant : (user file : ℕ) → (token : Option (List ℕ)) → Fields
   Revocation : (user file : ℕ) → Fields
+  Removal : (file : ℕ) → Fields
 
 -- bytes as they are
 abbrev pub plain : List ℕ → List ℕ
@@ -41,6 +42,7 @@ fields_bytes (Creation name list tokens tag bytes) =
     2 ∷ name_field name ++ list ++ token_fields tokens ++ tag ++ sized bytes
 fields_bytes (Grant user file token) = 3 ∷ u32 user ++ u32 file ++ optional plain token
 fields_bytes (Revocation user file) = 4 ∷ u32 user ++ u32 file
+fields_bytes (Removal file) = 6 ∷ u32 file
 
 -- which fields make an update
 abbrev pub HasFields : Fields → Type 0
@@ -50,6 +52,7 @@ HasFields (Creation name list tokens tag bytes) =
     × (length bytes ≤ MAX_FILE_BYTES)
 HasFields (Grant user file token) = (user < 2 ^ 32) × (file < 2 ^ 32) × IfSome token Has32
 HasFields (Revocation user file) = (user < 2 ^ 32) × (file < 2 ^ 32)
+HasFields (Removal file) = file < 2 ^ 32
 
 -- the bytes spell an update
 pub record IsSpelling (bytes : List ℕ) : Type 0 where
@@ -90,11 +93,12 @@ revocation_at = number_at w32 >> number_at w32
 abbrev pub revocation : ℕ × ℕ → Fields
 revocation (user, file) = Revocation user file
 
--- the kind byte, from 1 to 4, and the fields of this kind
+-- the kind byte, from 1 to 4 or 6, and the fields of this kind
 unfoldable pub fields_at : List ℕ → Read Fields
 fields_at [] = Err 0
 fields_at (suc zero ∷ bytes) = made Enrolment (name_at bytes)
 fields_at (suc (suc zero) ∷ bytes) = made creation (creation_at bytes)
 fields_at (suc (suc (suc zero)) ∷ bytes) = made grant (grant_at bytes)
 fields_at (suc (suc (suc (suc zero))) ∷ bytes) = made revocation (revocation_at bytes)
+fields_at (suc (suc (suc (suc (suc (suc zero))))) ∷ bytes) = made Removal (number_at w32 bytes)
 fields_at (kind ∷ bytes) = Err (length (kind ∷ bytes))

@@ -10,7 +10,7 @@ ghost use Rattle.ov_fields.specs.Reading.{counted_at, making, many_at, one_of_at
 ghost use Rattle.ov_fields.specs.Spelling.{flag};
 ghost use Rattle.ov_wire.specs.declared.answer.Answer.TheVariants as answers;
 ghost use Rattle.ov_wire.specs.AnswerReading.{chained, chained_at, entry_or_none_at, greater_at, known, known_at, next_at, plan, plan_at, up_to, welcome, welcome_at};
-ghost use Rattle.ov_wire.specs.AnswersTo.{files_of, most_chunk, names_file, nodes_of, wants_of};
+ghost use Rattle.ov_wire.specs.AnswersTo.{files_of, most_chunk, names_file, names_user, nodes_of, roots_of, users_of, wants_of};
 ghost use Rattle.ov_wire.specs.Entries.{node_at};
 ghost use Rattle.ov_wire.specs.RequestReading.{names_at};
 
@@ -52,6 +52,37 @@ fn take_wants<'a>(question: &Question, bytes: &'a [u8]) -> Result<(bool, &'a [u8
     }
 }
 
+/// Whether the command is about a user.
+fn names_user(question: &Question) -> bool
+    ensures { result ≡ names_user question.now }
+{
+    match question {
+        Question::Enrol { .. } => true,
+        Question::Grant { .. } => true,
+        Question::Revoke { .. } => true,
+        Question::Key { .. } => true,
+        Question::Remove { .. } => false,
+    }
+}
+
+/// The number that a user's is below: where the command is about none, it is 0.
+fn users_of(question: &Question) -> u32
+    ensures { result ≡ users_of question.now }
+{
+    if names_user(question) { MAX_USERS } else { 1 }
+}
+
+/// The number that a root's is below: where the command is about no user, it is 0.
+fn roots_of(question: &Question) -> u32
+    ensures { result ≡ roots_of question.now }
+{
+    if names_user(question) {
+        MAX_LAYER_NODES
+    } else {
+        1
+    }
+}
+
 /// Whether the command is about a file.
 fn names_file(question: &Question) -> bool
     ensures { result ≡ names_file question.now }
@@ -61,6 +92,7 @@ fn names_file(question: &Question) -> bool
         Question::Grant { .. } => true,
         Question::Revoke { .. } => true,
         Question::Key { .. } => false,
+        Question::Remove { .. } => true,
     }
 }
 
@@ -105,9 +137,9 @@ pub fn take_known<'a>(
     ensures { GivesField (λ a. a) result (making known (known_at question.now) bytes.now) }
 {
     let (epoch, rest) = take_u32(bytes)?;
-    let (user, rest) = take_u32_below(MAX_USERS, rest)?;
-    let (base_root, rest) = take_u32_below(MAX_LAYER_NODES, rest)?;
-    let (surface_root, rest) = take_u32_below(MAX_LAYER_NODES, rest)?;
+    let (user, rest) = take_u32_below(users_of(question), rest)?;
+    let (base_root, rest) = take_u32_below(roots_of(question), rest)?;
+    let (surface_root, rest) = take_u32_below(roots_of(question), rest)?;
     let (file, rest) = take_u32_below(files_of(question), rest)?;
     let (node, rest) = take_u32_below(nodes_of(question), rest)?;
     let (wants, rest) = take_wants(question, rest)?;

@@ -5,7 +5,7 @@ ghost use Rattle.ov_base.specs.declared.limits.TheConstants.{MAX_USERS};
 ghost use Rattle.ov_fields.specs.Answers.{Gives, GivesField, left_of};
 ghost use Rattle.ov_fields.specs.Reading.{at_most, byte_at, counted_at, making, many_at, optional_at, rest_of, spanned};
 ghost use Rattle.ov_wire.specs.AnswerReading.{entry_or_none_at};
-ghost use Rattle.ov_wire.specs.Entries.{access, access_entry_at, edge_at, entry_at, file, file_entry_at, node, node_at, node_entry_at, user, user_entry_at};
+ghost use Rattle.ov_wire.specs.Entries.{access, access_entry_at, edge_at, entry_at, file, file_entry_at, file_or_gone_at, node, node_at, node_entry_at, user, user_entry_at};
 
 use ov_base::Octets;
 use ov_base::limits::{MAX_FILE_BYTES, MAX_LAYER_NODES, MAX_USERS, SET_BYTES};
@@ -88,7 +88,7 @@ fn take_node_or_none(bytes: &[u8]) -> Result<(Option<u32>, &[u8]), FieldFault>
     }
 }
 
-/// The bytes after a file's entry.
+/// The bytes after the fields of a file.
 fn skip_file(bytes: &[u8]) -> Result<&[u8], FieldFault>
     ensures { Gives left_of (λ r. r.now) result (rest_of (making file file_entry_at bytes.now)) }
 {
@@ -101,6 +101,18 @@ fn skip_file(bytes: &[u8]) -> Result<&[u8], FieldFault>
     Ok(rest)
 }
 
+/// The bytes after a file's entry, which is the byte 0 where the file is gone: no name has that
+/// length.
+#[tactic(auto, unfolding(crate::specs::Entries::file_or_gone_at))]
+fn skip_file_or_gone(bytes: &[u8]) -> Result<&[u8], FieldFault>
+    ensures { Gives left_of (λ r. r.now) result (rest_of (file_or_gone_at bytes.now)) }
+{
+    match bytes {
+        [0, rest @ ..] => Ok(rest),
+        _ => skip_file(bytes),
+    }
+}
+
 /// The bytes after an entry of this part.
 #[tactic(auto, unfolding(crate::specs::Entries::entry_at))]
 fn skip_entry(part: u8, bytes: &[u8]) -> Result<&[u8], FieldFault>
@@ -111,7 +123,7 @@ fn skip_entry(part: u8, bytes: &[u8]) -> Result<&[u8], FieldFault>
         1 => skip_user(bytes),
         2 | 3 => skip_node(bytes),
         4 => skip_access(bytes),
-        _ => skip_file(bytes),
+        _ => skip_file_or_gone(bytes),
     }
 }
 

@@ -20,6 +20,7 @@ fn known_question_form(question: &Question)
             known_name(file);
         }
         Question::Key { user } => known_name(user),
+        Question::Remove { file } => known_name(file),
     }
 }
 

@@ -4,7 +4,7 @@ ghost use Rattle.std.specs.Prelude.{◌≡◌};
 ghost use Rattle.ov_base.specs.Refusals.{refusal_number};
 ghost use Rattle.ov_fields.specs.Answers.{GivesField};
 ghost use Rattle.ov_fields.specs.Reading.{one_of_at, tagged_by};
-ghost use Rattle.ov_wire.specs.AnswersTo.{ask_refusals, create_refusals, enrol_refusals, grant_refusals, read_refusals, revoke_refusals, update_refusals};
+ghost use Rattle.ov_wire.specs.AnswersTo.{ask_refusals, create_refusals, enrol_refusals, grant_refusals, read_refusals, remove_refusals, revoke_refusals, update_refusals};
 
 use crate::Question;
 use ov_base::Refusal;
@@ -62,6 +62,13 @@ fn revoke_refusals() -> &'static [Refusal]
     ]
 }
 
+/// The refusals of a removal.
+fn remove_refusals() -> &'static [Refusal]
+    ensures { result.now ≡ remove_refusals }
+{
+    &[Refusal::NoFile, Refusal::NodesFull, Refusal::Spent]
+}
+
 /// The refusals of a reading.
 pub fn read_refusals() -> &'static [Refusal]
     ensures { result.now ≡ read_refusals }
@@ -78,6 +85,7 @@ pub fn ask_refusals(question: &Question) -> &'static [Refusal]
         Question::Grant { .. } => grant_refusals(),
         Question::Revoke { .. } => revoke_refusals(),
         Question::Key { .. } => &[Refusal::NoUser],
+        Question::Remove { .. } => remove_refusals(),
     }
 }
 
@@ -92,6 +100,7 @@ pub fn update_refusals(spelling: &[u8]) -> &'static [Refusal]
             2 => create_refusals(),
             3 => grant_refusals(),
             4 => revoke_refusals(),
+            6 => remove_refusals(),
             _ => &[],
         },
     }

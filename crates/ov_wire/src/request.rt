@@ -13,6 +13,8 @@ pub enum Question {
     Revoke { user: Name, file: Name },
     /// To make the user's keys.
     Key { user: Name },
+    /// To remove the file.
+    Remove { file: Name },
 }
 
 /// What an owner or a reader asks of a server.

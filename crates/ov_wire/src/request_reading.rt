@@ -28,7 +28,7 @@ fn take_two_names(bytes: &[u8]) -> Result<((Name, Name), &[u8]), FieldFault>
     Ok(((user, file), rest))
 }
 
-/// A verb (enrol is 1, grant 3, revoke 4, key 5) with the names that its command takes.
+/// A verb (enrol is 1, grant 3, revoke 4, key 5, remove 6) with the names that its command takes.
 #[tactic(auto, unfolding(crate::specs::RequestReading::question_at))]
 fn take_question(bytes: &[u8]) -> Result<(Question, &[u8]), FieldFault>
     ensures { GivesField (λ q. q) result (question_at bytes.now) }
@@ -49,6 +49,10 @@ fn take_question(bytes: &[u8]) -> Result<(Question, &[u8]), FieldFault>
         [5, rest @ ..] => {
             let (user, rest) = take_name(rest)?;
             Ok((Question::Key { user }, rest))
+        }
+        [6, rest @ ..] => {
+            let (file, rest) = take_name(rest)?;
+            Ok((Question::Remove { file }, rest))
         }
         _ => Err(FieldFault::Bad { left: bytes.len() }),
     }

@@ -37,6 +37,7 @@ fn put_question(question: &Question, out: &mut Vec<u8>) -> Result<(), Memory>
         Question::Grant { user, file } => put_two_names(3, user, file, out)?,
         Question::Revoke { user, file } => put_two_names(4, user, file, out)?,
         Question::Key { user } => put_byte_and_name(5, user, out)?,
+        Question::Remove { file } => put_byte_and_name(6, file, out)?,
     }
     Ok(())
 }

@@ -66,6 +66,10 @@ fn skip_update(bytes: &[u8]) -> Result<&[u8], FieldFault>
         [2, rest @ ..] => skip_creation(rest),
         [3, rest @ ..] => skip_grant(rest),
         [4, rest @ ..] => skip_revocation(rest),
+        [6, rest @ ..] => {
+            let (_, rest) = take_u32(rest)?;
+            Ok(rest)
+        }
         _ => Err(FieldFault::Bad { left: bytes.len() }),
     }
 }

@@ -49,6 +49,29 @@ pub fn updates() -> &'static [&'static [u8]] {
     &UPDATES
 }
 
+/// A removal of f1, and its creation anew, for a and b.
+static ANEW: [&[u8]; 2] = [
+    b"\
+        \x04\x00\x00\x00\x06\x06\x00\x00\x00\x00\x33\xa9\x81\x61\x26\x51\x67\x54\x87\x99\xed\
+        \xf9\x80\x8d\xf6\xc6\x33\x47\x9b\x78\x0e\x55\x27\xf6\xd5\x82\x86\xf3\x6e\x25\x11\xc4",
+    b"\
+        \x04\x00\x00\x00\x07\x02\x02\x66\x31\x03\x00\x00\x00\x00\x00\x00\x00\x00\x00\x00\x00\
+        \x00\x00\x00\x00\x00\x00\x00\x00\x00\x00\x00\x00\x00\x00\x00\x00\x00\x00\x00\x00\x00\
+        \x00\x00\x00\x00\x00\x00\x00\x00\x00\x00\x00\x00\x00\x00\x00\x00\x00\x00\x00\x00\x00\
+        \x00\x00\x00\x00\x00\x00\x00\x00\x00\x00\x00\x00\x00\x00\x00\x00\x00\x00\x00\x00\x00\
+        \x00\x00\x00\x00\x00\x00\x00\x00\x00\x00\x00\x00\x00\x00\x00\x00\x00\x00\x00\x00\x00\
+        \x00\x00\x00\x00\x00\x00\x00\x00\x00\x00\x00\x00\x00\x00\x00\x00\x00\x00\x00\x00\x00\
+        \x00\x00\x00\x00\x00\x00\x00\x00\x00\x00\x00\x00\x00\x00\x01\x02\x03\x04\x05\x06\x07\
+        \x08\x09\x0a\x0b\x0c\x0d\x0e\x0f\x10\x11\x12\x13\x14\x15\x16\x17\x18\x19\x1a\x1b\x1c\
+        \x1d\x1e\x1f\x00\x00\x00\x02\x68\x69\x30\x4e\x0a\x7a\xe8\xb0\xe6\x07\xb6\xb9\x54\x98\
+        \x57\xc6\x07\x2b\x78\x2b\x07\xc7\x2a\x2b\xfd\x88\xdb\xfe\xfc\x51\xda\xe0\x4a\x50",
+];
+
+/// The updates by which f1 becomes another file, in order.
+pub fn anew() -> &'static [&'static [u8]] {
+    &ANEW
+}
+
 /// A Welcome at epoch 6, and one at epoch 7.
 const HELLO_6: &[u8] = b"\x81\x01\0\0\0\x0633333333333333333333333333333333";
 
@@ -65,6 +88,9 @@ const FILE: &[u8] = b"\
     \x87\x01\x02\x66\x32\x00\x00\x00\x03\x00\x00\x00\x02\x00\x00\x00\x06\x81\x5e\xf9\xeb\
     \x1a\x7d\x37\x58\xce\xe1\xeb\x73\x56\x7e\x8e\xce\x1d\xa1\x49\x02\x45\x70\x25\xcf\x2c\
     \x4f\x9f\x3f\xb2\xa8\x34\x9f\x01\x00\x00\x00\x03";
+
+/// The page of a file that is gone, which is no user's either.
+const GONE: &[u8] = b"\x87\x01\0";
 
 /// The list of a, b and c.
 const LIST: &[u8] = b"\x8f\0\x03\x01a\x01b\x01c";
@@ -117,6 +143,34 @@ pub fn questions() -> &'static [Asked] {
     &ASKED
 }
 
+static ASKED_ANEW: [Asked; 4] = [
+    Asked {
+        command: "epoch",
+        user: "",
+        text: "mode delta\nepoch 8\n",
+    },
+    Asked {
+        command: "files",
+        user: "",
+        text: "list f2 a,b\nlist f1 a,b\n",
+    },
+    Asked {
+        command: "files",
+        user: "b",
+        text: "f2\nf1\n",
+    },
+    Asked {
+        command: "files",
+        user: "c",
+        text: "",
+    },
+];
+
+/// What is asked of the store after f1 became another file. It has the number behind that of f2.
+pub fn questions_anew() -> &'static [Asked] {
+    &ASKED_ANEW
+}
+
 /// Replies, each this often in turn and all of them in this many rounds, the replies behind them, and
 /// what comes of a question for the users.
 pub struct Row {
@@ -126,7 +180,7 @@ pub struct Row {
     pub text: &'static str,
 }
 
-static ROWS: [Row; 10] = [
+static ROWS: [Row; 11] = [
     // A store that moves once, and one that moves in each of nine tries.
     Row {
         rounds: 1,
@@ -161,7 +215,7 @@ static ROWS: [Row; 10] = [
         last: &[],
         text: "BadReply { at: 1 }",
     },
-    // Answers to other requests, an entry of another part, and a reply that is none.
+    // Answers to other requests, entries of another part, and a reply that is none.
     Row {
         rounds: 1,
         replies: &[(1, NO_PAGE)],
@@ -179,6 +233,12 @@ static ROWS: [Row; 10] = [
         replies: &[(1, HELLO_6), (1, FILE)],
         last: &[],
         text: "BadReply { at: 13 }",
+    },
+    Row {
+        rounds: 1,
+        replies: &[(1, HELLO_6), (1, GONE)],
+        last: &[],
+        text: "BadReply { at: 2 }",
     },
     Row {
         rounds: 1,
