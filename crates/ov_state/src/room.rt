@@ -43,7 +43,7 @@ fn reserve_growth<B: Graph<Base, W>, const W: usize>(
         Growth::User(_) => users.reserve(1)?,
         Growth::File(_) => files.reserve()?,
         Growth::Access(_) => layer.reserve_access()?,
-        Growth::Nothing => {}
+        Growth::Removal(_) | Growth::Nothing => {}
     }
     Ok(())
 }
