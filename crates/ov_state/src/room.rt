@@ -43,7 +43,9 @@ fn reserve_growth<B: Graph<Base, W>, const W: usize>(
         Growth::User(_) => users.reserve(1)?,
         Growth::File(_) => files.reserve()?,
         Growth::Access(_) => layer.reserve_access()?,
-        Growth::Removal(_) | Growth::Nothing => {}
+        // A file that goes leaves room.
+        Growth::Removal(_) => {}
+        Growth::Nothing => {}
     }
     Ok(())
 }

@@ -8,4 +8,4 @@ pub returns-in-None : goal.returns-in-None
 returns-in-None g c =
     let s = c.args.self.now.catalogue in
     c.count.ensures ∙ ap (λ (h : Held). length h.catalogue.files) c.self.view_is
-    ∙ sym (length-names (outline s) s.files) ∙ sym c.in-None.ensures
+    ∙ sym (length-names (outline s) s.files) ∙ sym c.in-None.ensures.number
