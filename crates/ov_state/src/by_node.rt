@@ -1,4 +1,4 @@
-//! The numbers of files, ordered by base node and then by number.
+//! The numbers of the files that are there, ordered by base node and then by number.
 ghost use Rattle.std.specs.Prelude.{◌≡◌, ◌==◌, option_map, position, Contains};
 ghost use Rattle.ov_history.specs.Places.{living_at};
 ghost use Rattle.ov_state.specs.Entries.{node_at, plain_file, plain_files};

@@ -28,8 +28,8 @@ pub struct FileEntry {
 }
 
 /// The files: a file's number is its place in the list, and the names lead to numbers. So do the
-/// base nodes: the numbers of the files of a node stand side by side. A file that is gone leaves its
-/// place empty, since numbers are given once; no name and no node leads to it.
+/// base nodes: the numbers of the files of a node stand side by side. A file that is gone leaves
+/// its place empty, since numbers are given once, and no name and no node leads there.
 #[derive(Drop)]
 pub(crate) struct Files {
     list: Vec<Option<FileEntry>>,

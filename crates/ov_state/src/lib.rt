@@ -27,8 +27,8 @@
 //! written down between the two.
 //!
 //! A file that is removed is gone: its name and its entry are forgotten, and its number isn't given
-//! to another. Its base node and the access tokens to it stay, since other files may be at that node.
-//! So the holders stay, and a removal rewrites no file.
+//! to another. Its base node and the access tokens to that node stay, since other files may be
+//! there. So the holders stay, and a removal rewrites no file.
 //!
 //! A state is given the surface master with each update and never the base master. It makes the
 //! surface layer's tokens; those of the base layer come with the update.
@@ -50,14 +50,14 @@
 //! * [`State::known`] does nothing; its contract is what holds of every state (`IsWell`): its
 //!   catalogue is sound, each file that is there has its wanted surface, and no limit is passed.
 //! * The queries give the epoch, the mode, sizes, numbers and names, files, and the list of a file,
-//!   which is read off the layers. They find no file that is gone; it counts among the numbers that
+//!   which is read off the layers. They find no file that is gone. It counts among the numbers that
 //!   were given out, and its bytes don't count.
-//! * `ask_enrol`, `ask_grant`, `ask_revoke`, `ask_remove` and `cover` tell an owner, before an update,
-//!   the numbers that it needs, or why the update would be refused. They touch no bytes, and plan no
-//!   surface nodes: of these they only count which sets would be new. A question and its update
-//!   take the same steps: one decision on the list, and one pass over the files that may move, with
-//!   two collectors. What `cover` told can be given back by [`State::remember`], so that the
-//!   creation needn't plan it again.
+//! * `ask_enrol`, `ask_grant`, `ask_revoke`, `ask_remove` and `cover` tell an owner, before an
+//!   update, the numbers that it needs, or why the update would be refused. They touch no bytes, and
+//!   plan no surface nodes: of these they only count which sets would be new. A question about a list
+//!   and its update take the same steps: one decision on the list, and one pass over the files that
+//!   may move, with two collectors. What `cover` told can be given back by [`State::remember`], so
+//!   that the creation needn't plan it again.
 //! * [`State::chain`] is refused exactly where a read is, unless memory is. It gives a reader of a
 //!   file the chains from the reader's two roots to the file's keys ([`Chained`]); over true tokens
 //!   they lead to these keys, and [`access_key_by`] walks the one of the base layer.

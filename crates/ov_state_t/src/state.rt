@@ -160,8 +160,8 @@ fn told(file: u32, node: u32) -> Asked {
     }
 }
 
-/// Makes sure that the second file of the rows is gone: its number isn't given again, and its name is
-/// another file's.
+/// Makes sure that the second file of the rows is gone: its number isn't given again, and its name
+/// is another file's.
 fn expect_gone(rt: &impl Abort, catalogue: &Catalogue) {
     let file = name(rt, b"f2");
     assert!(rt; catalogue.file_at(1).is_none());
