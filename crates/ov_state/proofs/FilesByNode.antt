@@ -140,7 +140,7 @@ node-alike (first ∷ files) change zero (suc file) same = refl
 node-alike (first ∷ files) change (suc place) zero same = refl
 node-alike (first ∷ files) change (suc place) (suc file) same = node-alike files change place file same
 
--- the node of a file is another file's matter where that one is gone
+-- each other file keeps its node where one is gone
 pub node-still : (files : List (Option Filed)) (place file : ℕ) → file ≢ place → node_of (change_at gone place files) file ≡ node_of files file
 node-still files place file other =
     ap (λ (o : Option Filed). option_map (λ (f : Filed). f.node) o) (change_at-other gone place file files None other)
