@@ -19,7 +19,7 @@ use Rattle.ov_surface.specs.Wanted.{none_where, wanted_surface}
 use Rattle.ov_history.specs.Layers.{Place, Layers, holders, list_at, surface_at, same_surface, appended, with_set, with_wants}
 use Rattle.ov_history.specs.Catalogue.{Filed, Nodes, Catalogue, outline, place_of_file, places}
 use Rattle.ov_history.proofs.Listing.{same_surface-is}
-use Rattle.ov_history.proofs.Outlining.{length-places}
+use Rattle.ov_history.proofs.Outlining.{length-places, places-at}
 use Rattle.ov_state.specs.declared.files.FileEntry.{FileEntry}
 use Rattle.ov_state.specs.declared.relisting.Relisting.{Relisting}
 use Rattle.ov_state.specs.Contents.{IsWell}
@@ -49,6 +49,13 @@ want-at y r (first ∷ placed) number zero p is =
 want-at y r (first ∷ placed) number (suc file) p is =
     let n : number + 1 + file ≡ number + suc file = omega arith in
     want-at y r placed (number + 1) file p is ∙ ap (λ n. Some (want_after y r n p)) n
+
+-- none is wanted of a file that is gone
+pub want-gone : {W : ℕ} (y : Layers) (r : Relisting W) (placed : List (Option Place)) (number file : ℕ) → file < length placed
+    → living_at placed file ≡ None → slice_get (wants_after y r number placed) file ≡ Some None
+want-gone y r [] number file low is = absurd (omega arith)
+want-gone y r (first ∷ placed) number zero low is = ap (λ (o : Option Place). Some (want_left y r number o)) is
+want-gone y r (first ∷ placed) number (suc file) low is = want-gone y r placed (number + 1) file (omega arith) is
 
 take-next : {A : Type 0} (xs : List A) (n : ℕ) (x : A) → slice_get xs n ≡ Some x → take (n + 1) xs ≡ take n xs ++ x ∷ []
 take-next xs n x is =
@@ -165,6 +172,20 @@ module _ {W : ℕ} (s : Catalogue) (r : Relisting W) (file : ℕ) (f : FileEntry
       → Holds (take file wants ++ wanted ∷ []) → Holds (take (file + 1) wants)
   file-moves Holds same wanted is holds =
       subst Holds (sym next) (subst (λ (o : Option ℕ). Holds (take file wants ++ o ∷ [])) (wanted_is same wanted is) holds)
+
+-- what holds of the files before goes on for one that is gone
+pub file-gone : {W : ℕ} (s : Catalogue) (r : Relisting W) (file : ℕ) → file < length s.files → living_at s.files file ≡ None
+    → (Holds : List (Option ℕ) → Type 0)
+    → ((wants : List (Option ℕ)) → Holds wants → living_at s.files (length wants) ≡ None → Holds (wants ++ None ∷ []))
+    → Holds (take file (wants_after (outline s) r 0 (places s.files))) → Holds (take (file + 1) (wants_after (outline s) r 0 (places s.files)))
+file-gone s r file low none Holds goes_on holds =
+    let wants : List (Option ℕ) = wants_after (outline s) r 0 (places s.files) in
+    let place : living_at (places s.files) file ≡ None = places-at s.files file ∙ ap (option_map place_of_file) none in
+    let next : take (file + 1) wants ≡ take file wants ++ None ∷ [] =
+    take-next wants file None (want-gone (outline s) r (places s.files) 0 file (omega (arith, low, length-places s.files)) place) in
+    let all : length wants ≡ length s.files = length-wants_after (outline s) r (places s.files) 0 ∙ length-places s.files in
+    let many : length (take file wants) ≡ file = length-take-le file wants (omega arith) in
+    subst Holds (sym next) (goes_on (take file wants) holds (ap (living_at s.files) many ∙ none))
 
 -- ---- all files
 

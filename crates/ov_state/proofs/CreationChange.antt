@@ -1,7 +1,5 @@
 -- The change of a creation makes the catalogue after it.
 use Rattle.std.specs.Prelude.{option_map, Some}
-use Rattle.std.specs.Prelude.{is_some}
-use Rattle.ov_history.specs.Places.{living_at}
 use Rattle.std.specs.Prelude.{Option}
 use Rattle.std.proofs.Common.{◌≡◌, ℕ, ◌+◌, ◌<◌, ◌≤◌, Bool, true, false, List, [], ◌∷◌, ◌++◌, length, refl, sym, ◌∙◌, ap, subst, arith, length-append, true≢false}
 use Rattle.std.specs.Prelude.{◌||◌, nat_lt, None}
@@ -15,11 +13,9 @@ use Rattle.ov_graph.specs.Reach.{IsRooted}
 use Rattle.ov_history.specs.Briefs.{Brief, BriefCreate}
 use Rattle.ov_history.specs.Layers.{appended, with_set}
 use Rattle.ov_history.specs.Lists.{byte_sum}
-use Rattle.ov_history.specs.Refusals.{Test, tests_of}
-use Rattle.ov_history.specs.Catalogue.{Nodes, Filed, Catalogue, outline, matrix_shown, added_if, catalogue_after}
-use Rattle.ov_history.specs.Briefs.{outer}
+use Rattle.ov_history.specs.Catalogue.{Nodes, Filed, Catalogue, matrix_shown, added_if, catalogue_after}
 use Rattle.ov_history.specs.Sealed.{refusal_shown}
-use Rattle.ov_history.proofs.SoundTests.{accepted, NoneApplies, none_applies}
+use Rattle.ov_history.proofs.SoundTests.{accepted}
 use Rattle.ov_state.specs.Contents.{IsWell}
 use Rattle.ov_state.specs.Changes.{applied, node_added_if, nodes_added, users_grown, files_grown, grants_grown, all_rewritten, Fits, IsNewNodeIf, AreNewNodes, AreOfFiles, rewritten}
 use Rattle.ov_state.specs.NewFiles.{is_past_then, new_node_if, IsSite}
@@ -33,7 +29,6 @@ use Rattle.ov_history.specs.Places.{change_at}
 use Rattle.ov_state.specs.declared.change.Growth.{Growth}
 use Rattle.ov_state.specs.declared.site.Site.{Site}
 use Rattle.ov_state.proofs.Creating.{created, created_is, filed_then, rewrites_created}
-use Rattle.ov_state.proofs.NewTests.{file_test}
 use Rattle.ov_state.proofs.WellAfter.{well_after}
 use Rattle.ov_state.proofs.WellFiles.{bytes_in, bytes_in-append, byte_sum-shown}
 use Rattle.ov_base.specs.declared.limits.TheConstants.{MAX_FILE_BYTES, MAX_LAYER_NODES}
@@ -148,14 +143,14 @@ module _ {W : ℕ} (limit : ℕ) (master : List ℕ) (s : Catalogue) (name : Lis
   }
 
   -- a creation that isn't refused is made by its change
-  pub creation : ((file : ℕ) → file < length s.files → is_some (living_at s.files file) ≡ true) → refusal_shown s update ≡ None → length tokens ≡ length (plan_of s.base.sets list).from
+  pub creation : is_among name (filed_names s.files) ≡ false → refusal_shown s update ≡ None → length tokens ≡ length (plan_of s.base.sets list).from
       → size ≤ MAX_FILE_BYTES → IsChange limit master s update c
-  creation all refused parts fits = record {
+  creation absent refused parts fits = record {
     taken = (refused, parts);
     made = made;
     rewrites = ap plain_rewrites is.rewrites ∙ sym (rewrites_created limit master s name list tokens tag size well site.to place.to);
     suits = record {
-      growth = subst (λ (g : Growth). Fits limit s.users s.files s.base.sets s.grants g) (sym is.growth) (absent refused);
+      growth = subst (λ (g : Growth). Fits limit s.users s.files s.base.sets s.grants g) (sym is.growth) absent;
       base = subst (λ o. IsNewNodeIf s.base.sets o) (sym is.base)
           (fresh_node site.cover.fresh refl (accepted s update refused).0 parts);
       surface = subst (λ fs. AreNewNodes s.surface.sets fs) (sym is.surface) place.planned;
@@ -172,12 +167,6 @@ module _ {W : ℕ} (limit : ℕ) (master : List ℕ) (s : Catalogue) (name : Lis
         let grown : length (files_grown s.files c.growth) ≡ length s.files + 1 =
         ap (λ (g : Growth). length (files_grown s.files g)) is.growth ∙ length-append s.files (Some (record (filed site.cover) { surface = None }) ∷ []) in
         omega (arith, grown)
-
-    absent : refusal_shown s update ≡ None → is_among name (filed_names s.files) ≡ false
-    absent none =
-        let tests : List Test = tests_of (matrix_shown s) (outline s) s.epoch (outer update) in
-        let passed : NoneApplies tests = none_applies tests none in
-        sym (file_test s name all) ∙ passed.0
 
     size_is : byte_sum (matrix_shown s).files + size ≡ byte_sum (matrix_shown (applied s c)).files
     size_is =

@@ -1,16 +1,19 @@
 -- Files by base node, as their numbers are kept and looked up.
 use Rattle.std.proofs.Common.{Bor, length, ◌≡◌, ℕ, zero, suc, ◌+◌, ◌-◌, ◌<◌, ◌≤◌, ◌⊎◌, inl, inr, ⊎_elim, true, true≢false, List, [], ◌∷◌, ◌++◌, refl, sym, ◌∙◌, ap, subst, arith, length-append}
-use Rattle.std.specs.Prelude.{is_some, insert, nat_lt, IfSome, option_map, slice_index, slice_index_or, slice_range, unwrap_or, Contains, Option, Some, None}
+use Rattle.std.proofs.Common.{◌≢◌}
+use Rattle.std.specs.Prelude.{is_some, insert, option_map, remove, slice_index, slice_index_or, slice_range, unwrap_or, Contains, Option, Some, None}
 use Rattle.std.specs.List.Sorted.{IsNonDecreasingBy}
 use Rattle.std.proofs.lemmas.Bool.{cases_eq, cases_lt}
 use Rattle.std.proofs.lemmas.List.{get_or_default}
-use Rattle.std.proofs.lemmas.List.Edits.{get_or-between, get_or-insert_above, get_or-insert_at, get_or-insert_below, length-between, length-insert}
+use Rattle.std.proofs.lemmas.List.Edits.{get_or-between, get_or-insert_above, get_or-insert_at, get_or-insert_below, get_or-remove_above, get_or-remove_below, length-between, length-insert, length-remove}
 use Rattle.std.proofs.lemmas.List.Sorted.{IsNonDecreasingBy-from_default}
 use Rattle.ov_history.specs.Catalogue.{Filed}
-use Rattle.ov_history.specs.Places.{change_at}
-use Rattle.ov_state.proofs.FilesByNumber.{length-plain, plain-got}
+use Rattle.ov_history.specs.Places.{change_at, gone, living_at}
+use Rattle.ov_history.proofs.ChangeLaws.{change_at-other, gone_not}
+use Rattle.ov_history.proofs.SoundTests.{is_some-map}
+use Rattle.ov_state.proofs.FilesByNumber.{length-plain}
 use Rattle.ov_state.specs.declared.files.FileEntry.{FileEntry}
-use Rattle.ov_state.specs.Entries.{node_at, node_of, plain_file, plain_files, AreByNode, AreOfNode, ComesBefore, IsCountBelow}
+use Rattle.ov_state.specs.Entries.{node_at, node_of, plain_file, plain_files, AreByNode, AreOfNode, ComesBefore, IsCountBelow, IsTakenOut}
 
 -- ---- an item that is put in
 
@@ -69,6 +72,46 @@ put-insert xs place x y low same =
     let longer : length (insert xs place x) ≡ length xs + 1 = length-insert xs place x low in
     (place, omega arith, get_or-insert_at xs place x y low ∙ sym same)
 
+-- ---- an item that is taken out
+
+-- where the item of this place comes from, after an item was taken out
+abbrev IsLeftOf : List ℕ → ℕ → ℕ → Type 0
+IsLeftOf xs place i =
+    ((i < place) × (slice_index (remove xs place) i ≡ slice_index xs i))
+    ⊎ ((place ≤ i) × (slice_index (remove xs place) i ≡ slice_index xs (i + 1)))
+
+left : (xs : List ℕ) (place i : ℕ) → place < length xs → IsLeftOf xs place i
+left xs place i low =
+    ⊎_elim
+    (λ before. inl (before, get_or-remove_below xs place 0 i before low))
+    (λ from. inr (from, get_or-remove_above xs place 0 i from low))
+    (cases_lt i place)
+
+-- what holds of each two goes on where an item is taken out
+pairs-remove : (R : ℕ → ℕ → Type 0) (xs : List ℕ) (place : ℕ) → place < length xs
+    → ((i j : ℕ) → i < j → j < length xs → R (slice_index xs i) (slice_index xs j))
+    → (i j : ℕ) → i < j → j < length (remove xs place) → R (slice_index (remove xs place) i) (slice_index (remove xs place) j)
+pairs-remove R xs place low each i j less within =
+    at (left xs place i low) (left xs place j low) (omega (arith, length-remove xs place low)) where
+      at : IsLeftOf xs place i → IsLeftOf xs place j → j + 1 < length xs → R (slice_index (remove xs place) i) (slice_index (remove xs place) j)
+      at (inl (a, is)) (inl (b, js)) inside = same_for R _ _ _ _ is js (each i j less (omega arith))
+      at (inl (a, is)) (inr (b, js)) inside = same_for R _ _ _ _ is js (each i (j + 1) (omega arith) inside)
+      at (inr (a, is)) (inl (b, js)) inside = absurd (omega arith)
+      at (inr (a, is)) (inr (b, js)) inside = same_for R _ _ _ _ is js (each (i + 1) (j + 1) (omega arith) inside)
+
+-- another item is there still
+kept-remove : (xs : List ℕ) (place y : ℕ) → place < length xs → slice_index xs place ≢ y → Contains xs y → Contains (remove xs place) y
+kept-remove xs place y low other (k, inside, is) =
+    let shorter : length (remove xs place) + 1 ≡ length xs = length-remove xs place low in
+    let at : slice_index xs k ≡ y = get_or_default xs k 0 y inside ∙ is in
+    ⊎_elim
+    (λ before. (k, omega arith, get_or-remove_below xs place y k before low ∙ is))
+    (λ from.
+    let apart : place ≢ k = λ same. other (ap (λ n. slice_index xs n) same ∙ at) in
+    let back : k - 1 + 1 ≡ k = omega arith in
+    (k - 1, omega arith, get_or-remove_above xs place y (k - 1) (omega arith) low ∙ ap (λ n. slice_index_or xs n y) back ∙ is))
+    (cases_lt k place)
+
 -- ---- nodes of files
 
 -- a file that is there is one of the files
@@ -97,12 +140,23 @@ node-alike (first ∷ files) change zero (suc file) same = refl
 node-alike (first ∷ files) change (suc place) zero same = refl
 node-alike (first ∷ files) change (suc place) (suc file) same = node-alike files change place file same
 
+-- each other file keeps its node where one is gone
+pub node-still : (files : List (Option Filed)) (place file : ℕ) → file ≢ place → node_of (change_at gone place files) file ≡ node_of files file
+node-still files place file other =
+    ap (λ (o : Option Filed). option_map (λ (f : Filed). f.node) o) (change_at-other gone place file files None other)
+
+-- a file that is there isn't the one that is gone
+pub node-other : (files : List (Option Filed)) (place file : ℕ) → is_some (node_of (change_at gone place files) file) ≡ true → file ≢ place
+node-other files place file there =
+    gone_not place files file
+    (sym (is_some-map (λ (f : Filed). f.node) (living_at (change_at gone place files) file)) ∙ there)
+
 -- the node of a file that is looked up by its number
-pub node-got : (list : List FileEntry) (file : ℕ) (r : Option (Bor FileEntry)) → is_some r ≡ nat_lt file (length list)
-    → IfSome r (λ f. f.now ≡ slice_index_or list file f.now)
-    → unwrap_or (option_map (λ (f : Bor FileEntry). f.now.node) r) 0 ≡ node_at (plain_files list) file
-node-got list file r found is =
-    sides r ∙ ap (λ (o : Option Filed). unwrap_or (option_map (λ (f : Filed). f.node) o) 0) (plain-got list list file r refl found is) where
+pub node-got : (files : List (Option Filed)) (file : ℕ) (r : Option (Bor FileEntry))
+    → option_map (λ f. plain_file f.now) r ≡ living_at files file
+    → unwrap_or (option_map (λ (f : Bor FileEntry). f.now.node) r) 0 ≡ node_at files file
+node-got files file r is =
+    sides r ∙ ap (λ (o : Option Filed). unwrap_or (option_map (λ (f : Filed). f.node) o) 0) is where
       sides : (r : Option (Bor FileEntry)) → unwrap_or (option_map (λ (f : Bor FileEntry). f.now.node) r) 0
           ≡ unwrap_or (option_map (λ (f : Filed). f.node) (option_map (λ (f : Bor FileEntry). plain_file f.now) r)) 0
       sides None = refl
@@ -193,14 +247,68 @@ module _ (files : List (Option Filed)) (f : Filed) (numbers : List ℕ) (place :
         new-before new-behind;
   }
 
+module _ (files : List (Option Filed)) (file : ℕ) (numbers : List ℕ) (place : ℕ) (inside : place < length numbers)
+    (here : slice_index numbers place ≡ file) (are : AreByNode files numbers) where
+  abbrev fewer : List (Option Filed)
+  fewer = change_at gone file files
+
+  -- each number is there once
+  once : (i j : ℕ) → i < j → j < length numbers → slice_index numbers i ≢ slice_index numbers j
+  once i j less low same = absurd (omega (arith, (are.ordered i j less low).1 (ap (node_at files) same), same))
+
+  -- none of those that are left is that of the file
+  left-other : (i : ℕ) → i < length (remove numbers place) → slice_index (remove numbers place) i ≢ file
+  left-other i within same = at (left numbers place i inside) (omega (arith, length-remove numbers place inside)) where
+    at : IsLeftOf numbers place i → i + 1 < length numbers → ⊥
+    at (inl (before, is)) low = once i place before inside (sym is ∙ same ∙ sym here)
+    at (inr (from, is)) low = once place (i + 1) (omega arith) low (here ∙ sym same ∙ is)
+
+  left-node : (i : ℕ) → i < length (remove numbers place)
+      → node_of fewer (slice_index (remove numbers place) i) ≡ node_of files (slice_index (remove numbers place) i)
+  left-node i within = node-still files file (slice_index (remove numbers place) i) (left-other i within)
+
+  left-there : (i : ℕ) → i < length (remove numbers place) → is_some (node_of files (slice_index (remove numbers place) i)) ≡ true
+  left-there i within = at (left numbers place i inside) (omega (arith, length-remove numbers place inside)) where
+    at : IsLeftOf numbers place i → i + 1 < length numbers → is_some (node_of files (slice_index (remove numbers place) i)) ≡ true
+    at (inl (before, is)) low = ap (λ n. is_some (node_of files n)) is ∙ are.there i (omega arith)
+    at (inr (from, is)) low = ap (λ n. is_some (node_of files n)) is ∙ are.there (i + 1) low
+
+  left-all : (other : ℕ) → is_some (node_of fewer other) ≡ true → Contains (remove numbers place) other
+  left-all other there =
+      let apart : other ≢ file = node-other files file other there in
+      kept-remove numbers place other inside (λ same. apart (sym same ∙ here))
+      (are.all other (sym (ap is_some (node-still files file other apart)) ∙ there))
+
+  -- the number of a file that is gone is left out
+  pub by_node-remove : AreByNode fewer (remove numbers place)
+  by_node-remove = record {
+    there = λ i within. ap is_some (left-node i within) ∙ left-there i within;
+    all = left-all;
+    ordered = λ i j less within.
+        before-alike files fewer (slice_index (remove numbers place) i) (slice_index (remove numbers place) j)
+        (left-node i (omega arith)) (left-node j within)
+        (pairs-remove (ComesBefore files) numbers place inside are.ordered i j less within);
+  }
+
+-- a file that is gone leaves its number out of those that are kept
+pub by_node-gone : (files : List (Option Filed)) (file : ℕ) (numbers next : List ℕ) → AreByNode files numbers → IsTakenOut file numbers next
+    → AreByNode (change_at gone file files) next
+by_node-gone files file numbers next are (place, inside, here, left) =
+    subst (λ ns. AreByNode (change_at gone file files) ns) (sym left) (by_node-remove files file numbers place inside here are)
+
+-- the number of a file that is there is among them
+pub by_node-among : (files : List (Option Filed)) (file : ℕ) (numbers : List ℕ) → AreByNode files numbers
+    → is_some (living_at files file) ≡ true → Contains numbers file
+by_node-among files file numbers are there = are.all file (is_some-map (λ (f : Filed). f.node) (living_at files file) ∙ there)
+
 -- the numbers by node of lists that are kept elsewhere
-pub by_node-held : (list held : List FileEntry) (numbers kept : List ℕ) → held ≡ list → kept ≡ numbers
+pub by_node-held : (list held : List (Option FileEntry)) (numbers kept : List ℕ) → held ≡ list → kept ≡ numbers
     → AreByNode (plain_files list) numbers → AreByNode (plain_files held) kept
 by_node-held list held numbers kept same alike are =
-    subst (λ (fs : List FileEntry). AreByNode (plain_files fs) kept) (sym same) (subst (λ ns. AreByNode (plain_files list) ns) (sym alike) are)
+    subst (λ (fs : List (Option FileEntry)). AreByNode (plain_files fs) kept) (sym same) (subst (λ ns. AreByNode (plain_files list) ns) (sym alike) are)
 
 -- a new file that is kept with the others has its number behind those of its node
-pub by_node_then : (list held : List FileEntry) (numbers kept next : List ℕ) (f : FileEntry) (place number end : ℕ)
+pub by_node_then : (list held : List (Option FileEntry)) (numbers kept next : List ℕ) (f : FileEntry) (place number end : ℕ)
     → held ≡ list → kept ≡ numbers → end ≡ f.node + 1 → number ≡ length list
     → IsCountBelow (plain_files held) end kept place → AreByNode (plain_files list) numbers
     → next ≡ insert numbers place number → AreByNode (plain_files list ++ Some (plain_file f) ∷ []) next
@@ -208,7 +316,7 @@ by_node_then list held numbers kept next f place number end same alike last coun
     let files = plain_files list in
     let own : IsCountBelow files (f.node + 1) numbers place =
     subst (λ n. IsCountBelow files n numbers place) last
-    (subst (λ ns. IsCountBelow files end ns place) alike (subst (λ (fs : List FileEntry). IsCountBelow (plain_files fs) end kept place) same here)) in
+    (subst (λ ns. IsCountBelow files end ns place) alike (subst (λ (fs : List (Option FileEntry)). IsCountBelow (plain_files fs) end kept place) same here)) in
     let many : number ≡ length files = counted ∙ sym (length-plain list) in
     subst (λ ns. AreByNode (files ++ Some (plain_file f) ∷ []) ns) (sym (inserted ∙ ap (λ n. insert numbers place n) many))
     (by_node-push files (plain_file f) numbers place own are)

@@ -13,6 +13,7 @@ pub mod NewPlaces
 pub mod Enrolling
 pub mod Creating
 pub mod CreationChange
+pub mod Removing
 pub mod Sites
 pub mod ChainLaws
 pub mod QueryLaws

@@ -70,6 +70,12 @@ still : (sets : List ℕ) (want : Option ℕ) → ((set : ℕ) → want ≡ Some
 still sets None there = refl
 still sets (Some set) there = ap (λ b. appended b sets set) (plan-there sets set (there set refl))
 
+-- a file that is gone wants none
+pub new-gone : (sets : List ℕ) (wants : List (Option ℕ)) (new : List ℕ) → AreNew sets wants new → AreNew sets (wants ++ None ∷ []) new
+new-gone sets wants new h =
+    let same : with_wants sets (wants ++ None ∷ []) ≡ with_wants sets wants = with_wants-both wants (None ∷ []) sets in
+    record { all = h.all ∙ sym same; few = subst (λ (sets : List ℕ). length sets ≤ MAX_LAYER_NODES) (sym same) h.few }
+
 module _ (sets : List ℕ) (wants : List (Option ℕ)) (want : Option ℕ) where
   -- a file has its wanted surface
   pub new-stays : (surface : Option ℕ) (new : List ℕ) → AreNew sets wants new → IfSome surface (λ node. node < length sets)

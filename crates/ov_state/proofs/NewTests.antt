@@ -1,24 +1,22 @@
 -- The tests of an enrolment and of a creation, as a state makes them.
-use Rattle.std.proofs.Common.{◌≡◌, ℕ, suc, ◌<◌, ◌≤◌, Bool, true, false, List, [], ◌∷◌, ◌++◌, length, refl, sym, ◌∙◌, ap, arith}
-use Rattle.std.specs.Prelude.{◌||◌, nat_le, nat_lt, is_some, Option, Some, None}
+use Rattle.std.proofs.Common.{◌≡◌, ℕ, suc, ◌<◌, ◌≤◌, Bool, true, false, List, [], ◌∷◌, ◌++◌, length, refl, sym, ◌∙◌, ap, subst, arith}
+use Rattle.std.specs.Prelude.{◌||◌, nat_le, nat_lt, is_some, IfSome, Option, Some, None}
 use Rattle.std.specs.Str.{bytes_eq}
 use Rattle.std.proofs.lemmas.Bool.Decides.{nat_tests}
 use Rattle.ov_base.specs.Sets.{within, Has}
 use Rattle.ov_base.specs.NameLists.{is_among}
 use Rattle.ov_base.proofs.SetLaws.{within-Within, Within-within}
 use Rattle.ov_base.specs.declared.refusal.Refusal.{Refusal}
-use Rattle.ov_history.specs.Layers.{Layers}
-use Rattle.ov_history.specs.History.{File}
 use Rattle.ov_history.specs.Lists.{everyone, file_names, is_file, file_number}
 use Rattle.ov_history.specs.Places.{here_or_after, living_at, place_of, IsNumber}
 use Rattle.ov_history.specs.Refusals.{Test, first_of_tests}
-use Rattle.ov_history.specs.Catalogue.{Filed, Catalogue, file_shown, outline, files_shown, matrix_shown}
+use Rattle.ov_history.specs.Catalogue.{Catalogue, outline, matrix_shown}
 use Rattle.ov_history.proofs.PlaceLaws.{everyone-Has, everyone-below}
-use Rattle.ov_history.proofs.SoundTests.{files_shown-length, is_some-map, shown_there}
+use Rattle.ov_history.proofs.SoundTests.{files_shown-length}
 use Rattle.ov_state.specs.Entries.{filed_names as names_of}
+use Rattle.ov_state.proofs.QueryLaws.{file_number_by, file_there, no_file_there}
 use Rattle.ov_base.specs.declared.limits.TheConstants.{MAX_FILES}
-use Rattle.ov_base.proofs.Tests.{ge_of_false, lt_is_true, lt_is_false, lt_of_true}
-use Rattle.std.proofs.lemmas.List.{get_or_past}
+use Rattle.ov_base.proofs.Tests.{lt_is_true, lt_is_false}
 
 -- ---- names
 
@@ -35,11 +33,6 @@ pub has_place : (name : List ℕ) (names : List (List ℕ)) → nat_lt (place_of
 has_place name [] = refl
 has_place name (first ∷ names) =
     has_step (bytes_eq name first) (is_among name names) (place_of name names) (length names) (has_place name names)
-
-pub names_shown : (y : Layers) (files : List (Option Filed)) → file_names (files_shown y files) ≡ names_of files
-names_shown y [] = refl
-names_shown y (None ∷ files) = ap (λ names. [] ∷ names) (names_shown y files)
-names_shown y (Some f ∷ files) = ap (λ names. f.name ∷ names) (names_shown y files)
 
 -- ---- lists
 
@@ -77,25 +70,14 @@ first_after ((first, false) ∷ tests) more e = first_after tests more e
 
 -- ---- files by name
 
-length-names : (files : List (Option Filed)) → length (names_of files) ≡ length files
-length-names [] = refl
-length-names (f ∷ files) = ap suc (length-names files)
-
 -- whether a file has this name
-pub file_test : (s : Catalogue) (name : List ℕ) → ((file : ℕ) → file < length s.files → is_some (living_at s.files file) ≡ true)
-    → is_file (matrix_shown s) (file_number (matrix_shown s) name) ≡ is_among name (names_of s.files)
-file_test s name all =
-    let number : ℕ = file_number (matrix_shown s) name in
-    ap (λ (o : Option File). is_some o) (shown_there (outline s) s.files number)
-    ∙ is_some-map (file_shown (outline s)) (living_at s.files number)
-    ∙ by_test number (nat_lt number (length s.files)) refl
-    ∙ ap (λ names. nat_lt (place_of name names) (length s.files)) (names_shown (outline s) s.files)
-    ∙ ap (λ n. nat_lt (place_of name (names_of s.files)) n) (sym (length-names s.files))
-    ∙ has_place name (names_of s.files) where
-      by_test : (n : ℕ) (b : Bool) → nat_lt n (length s.files) ≡ b → is_some (living_at s.files n) ≡ nat_lt n (length s.files)
-      by_test n true test = all n (lt_of_true n (length s.files) test) ∙ sym test
-      by_test n false test =
-          ap (λ (o : Option Filed). is_some o) (get_or_past s.files n None (ge_of_false n (length s.files) test)) ∙ sym test
+pub file_test : (s : Catalogue) (name : List ℕ) (r : Option ℕ) → IsNumber (names_of s.files) name r
+    → IfSome r (λ file. is_some (living_at s.files file) ≡ true) → is_some r ≡ is_file (matrix_shown s) (file_number (matrix_shown s) name)
+file_test s name r number there = by_number r (file_number_by s name r number) there where
+  by_number : (r : Option ℕ) → IsNumber (file_names (matrix_shown s).files) name r
+      → IfSome r (λ file. is_some (living_at s.files file) ≡ true) → is_some r ≡ is_file (matrix_shown s) (file_number (matrix_shown s) name)
+  by_number None none there = sym (no_file_there s name none)
+  by_number (Some file) (is, low) there = sym (subst (λ n. is_file (matrix_shown s) n ≡ true) is (file_there s file there))
 
 pub files_test : (s : Catalogue) → nat_le MAX_FILES (length (matrix_shown s).files) ≡ nat_le MAX_FILES (length s.files)
 files_test s = ap (λ n. nat_le MAX_FILES n) (files_shown-length (outline s) s.files)

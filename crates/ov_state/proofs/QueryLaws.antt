@@ -72,9 +72,6 @@ no_user s name none = lt_is_false (user_named s name) (length s.users) (omega (a
 pub file_there : (s : Catalogue) (file : ℕ) → is_some (living_at s.files file) ≡ true → is_file (matrix_shown s) file ≡ true
 file_there s file there = file_here s file ∙ there
 
-pub file_within : (s : Catalogue) (file : ℕ) → file < length (file_names (matrix_shown s).files) → file < length s.files
-file_within s file low = omega (arith, low, length-names (outline s) s.files)
-
 pub no_file_there : (s : Catalogue) (name : List ℕ)
     → place_among name (file_names (matrix_shown s).files) ≡ length (file_names (matrix_shown s).files)
     → is_file (matrix_shown s) (file_named s name) ≡ false

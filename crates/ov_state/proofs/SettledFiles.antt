@@ -25,7 +25,7 @@ use Rattle.ov_state.specs.Changes.{nodes_added, rewritten, all_rewritten, AreOfF
 use Rattle.ov_state.specs.Relistings.{sets_in, nodes_planned, with_want, with_rewrite, rewrite_if, IsSettled, AreSettled, IsFull}
 use Rattle.ov_state.proofs.PlannedNodes.{length-sets_in, nodes_added-sets, none-planned}
 use Rattle.ov_state.proofs.StayingNodes.{low_there, node_for-with_wants}
-use Rattle.ov_state.proofs.SettledMore.{change-same, change-alike, all_rewritten-append, AreOfFiles-append, with_surfaces-append, plain_rewrites-append, rewrites-none, rewrites-settled, settled-more, settled-next}
+use Rattle.ov_state.proofs.SettledMore.{change-same, change-alike, all_rewritten-append, AreOfFiles-append, with_surfaces-append, plain_rewrites-append, rewrites-none, rewrites-settled, settled-gone, settled-more, settled-next}
 use Rattle.ov_base.specs.declared.limits.TheConstants.{MAX_LAYER_NODES}
 
 -- ---- a wanted set that is there
@@ -78,7 +78,7 @@ module _ (master : List ℕ) (s : Catalogue) (ws : List (Option ℕ)) (want : Op
   own_here = ap (living_at s.files) (sym many) ∙ here
 
   next : living_at before file ≡ Some own
-  next = ap (living_at before) many ∙ settled-next (s.epoch + 1) (with_wants s.surface.sets ws) ws s.files own own_here
+  next = ap (living_at before) many ∙ settled-next (s.epoch + 1) (with_wants s.surface.sets ws) ws s.files (Some own) own_here
 
   turn_is : (b : Bool) → same_surface f.surface (surface_at after want) ≡ b
       → turn own ≡ refiled b (s.epoch + 1) (surface_at after want) own
@@ -195,6 +195,19 @@ module _ (master : List ℕ) (s : Catalogue) (ws : List (Option ℕ)) (want : Op
   pub full-next_file : {W : ℕ} (old : Rewrites W) (why : GraphRefusal) → AreSettled master s ws old
       → IsFull (with_want master (nodes_planned s.surface old.nodes) want).sets why → IsFull after why
   full-next_file old why h full = subst (λ (sets : List ℕ). IsFull sets why) (sets_after old h) full
+
+-- nothing is planned for a file that is gone
+pub settled-gone_file : {W : ℕ} (master : List ℕ) (s : Catalogue) (wants : List (Option ℕ)) (plan : Rewrites W)
+    → living_at s.files (length wants) ≡ None → AreSettled master s wants plan → AreSettled master s (wants ++ None ∷ []) plan
+settled-gone_file {W} master s wants plan none h =
+    let same = settled-gone (s.epoch + 1) s.surface.sets wants s.files none in
+    record {
+      planned = h.planned;
+      nodes = h.nodes ∙ sym (with_surfaces-append master wants s.surface None);
+      files = h.files ∙ sym same;
+      rewrites = h.rewrites ∙ ap (rewrites_from 0 s.files) (sym same);
+      there = h.there;
+    }
 
 -- nothing is planned for no files
 pub settled-no_file : {W : ℕ} (master : List ℕ) (s : Catalogue) (plan : Rewrites W) → length s.surface.sets ≤ MAX_LAYER_NODES

@@ -4,7 +4,7 @@ use Rattle.std.specs.Prelude.{Contains, Option, Some, None, option_map}
 use Rattle.ov_history.specs.Places.{living_at}
 use Rattle.std.proofs.lemmas.List.{append-nil, append_assoc}
 use Rattle.ov_graph.proofs.ListLaws.{Contains-later}
-use Rattle.ov_history.specs.Places.{change_at}
+use Rattle.ov_history.specs.Places.{change_at, gone}
 use Rattle.ov_history.specs.Layers.{node_for, with_set, with_wants, surface_at, same_surface}
 use Rattle.ov_history.specs.Catalogue.{Filed, Nodes, refiled, settled_file, settled_files, with_surface, with_surfaces}
 use Rattle.ov_history.specs.Rewrites.{Rewrite as PlainRewrite, rewrite_of, rewrite_unless, rewrites_from}
@@ -23,6 +23,12 @@ pub change-same : {A : Type 0} (f : A → A) (place : ℕ) (xs : List (Option A)
 change-same f place [] x is same = refl
 change-same f zero (first ∷ xs) x is same = ap (λ y. y ∷ xs) (ap (option_map f) is ∙ ap Some same ∙ sym is)
 change-same f (suc place) (first ∷ xs) x is same = ap (λ ys. first ∷ ys) (change-same f place xs x is same)
+
+-- what is gone isn't changed
+pub change-none : {A : Type 0} (f : A → A) (place : ℕ) (xs : List (Option A)) → living_at xs place ≡ None → change_at (option_map f) place xs ≡ xs
+change-none f place [] none = refl
+change-none f zero (first ∷ xs) none = ap (λ y. y ∷ xs) (ap (option_map f) none ∙ sym none)
+change-none f (suc place) (first ∷ xs) none = ap (λ ys. first ∷ ys) (change-none f place xs none)
 
 pub change-alike : {A : Type 0} (f g : A → A) (place : ℕ) (xs : List (Option A)) (x : A) → living_at xs place ≡ Some x → f x ≡ g x
     → change_at (option_map f) place xs ≡ change_at (option_map g) place xs
@@ -97,9 +103,9 @@ module _ (epoch : ℕ) where
   settled-append sets (w ∷ wants) want (f ∷ files) =
       ap (λ (rest : List (Option Filed)). option_map (settled_file epoch sets w) f ∷ rest) (settled-append sets wants want files)
 
-  -- the next file is as it was
-  pub settled-next : (sets : List ℕ) (wants : List (Option ℕ)) (files : List (Option Filed)) (f : Filed)
-      → living_at files (length wants) ≡ Some f → living_at (settled_files epoch sets wants files) (length wants) ≡ Some f
+  -- the next file is as it was, or is gone as it was
+  pub settled-next : (sets : List ℕ) (wants : List (Option ℕ)) (files : List (Option Filed)) (f : Option Filed)
+      → living_at files (length wants) ≡ f → living_at (settled_files epoch sets wants files) (length wants) ≡ f
   settled-next sets [] files f is = is
   settled-next sets (w ∷ wants) [] f is = is
   settled-next sets (w ∷ wants) (first ∷ files) f is = settled-next sets wants files f is
@@ -123,6 +129,16 @@ module _ (epoch : ℕ) where
       settled-append after wants want files
       ∙ ap (λ (fs : List (Option Filed)). change_at (option_map (settled_file epoch after want)) (length wants) fs) (settled-still sets wants want files)
 
+  -- one wanted set more of a file that is gone settles nothing
+  pub settled-gone : (sets : List ℕ) (wants : List (Option ℕ)) (files : List (Option Filed)) → living_at files (length wants) ≡ None
+      → settled_files epoch (with_wants sets (wants ++ None ∷ [])) (wants ++ None ∷ []) files
+      ≡ settled_files epoch (with_wants sets wants) wants files
+  settled-gone sets wants files none =
+      settled-more sets wants None files
+      ∙ change-none (settled_file epoch (with_wants sets (wants ++ None ∷ [])) None) (length wants)
+      (settled_files epoch (with_wants sets wants) wants files)
+      (settled-next (with_wants sets wants) wants files None none)
+
 -- ---- which files have another surface
 
 -- there is no rewrite where the file is the same
@@ -136,6 +152,14 @@ rewrites-none number [] = refl
 rewrites-none number (f ∷ files) =
     ap (λ (rs : List PlainRewrite). rs ++ rewrites_from (number + 1) files files) (none_of number f)
     ∙ rewrites-none (number + 1) files
+
+-- there is none where a file goes
+pub rewrites-gone : (number place : ℕ) (files : List (Option Filed)) → rewrites_from number files (change_at gone place files) ≡ []
+rewrites-gone number place [] = refl
+rewrites-gone number zero (f ∷ files) = rewrites-none (number + 1) files
+rewrites-gone number (suc place) (f ∷ files) =
+    ap (λ (rs : List PlainRewrite). rs ++ rewrites_from (number + 1) files (change_at gone place files)) (none_of number f)
+    ∙ rewrites-gone (number + 1) place files
 
 -- a new file is rewritten to its surface
 pub rewrites-appended : (number : ℕ) (files : List (Option Filed)) (f : Filed)

@@ -4,7 +4,7 @@ use Rattle.std.proofs.Common.{◌≡◌, ℕ, zero, suc, ◌+◌, ◌-◌, ◌<�
 use Rattle.std.specs.Prelude.{is_some, option_map, slice_index, Contains, IfSome, Option, Some, None}
 use Rattle.std.proofs.lemmas.Bool.{cases_eq, cases_lt}
 use Rattle.std.proofs.lemmas.List.{get_or_default}
-use Rattle.ov_history.specs.Catalogue.{Filed, Catalogue, filed_at, outline, places}
+use Rattle.ov_history.specs.Catalogue.{Filed, Catalogue, outline, places}
 use Rattle.ov_history.specs.Layers.{same_surface, surface_at}
 use Rattle.ov_history.specs.Places.{living_at}
 use Rattle.ov_state.specs.declared.files.FileEntry.{FileEntry}
@@ -12,9 +12,8 @@ use Rattle.ov_state.specs.declared.relisting.Relisting.{Relisting}
 use Rattle.ov_state.specs.Contents.{IsWell}
 use Rattle.ov_state.specs.Entries.{node_of, plain_file}
 use Rattle.ov_state.specs.Relistings.{wants_after, AreMoving, MayMove}
-use Rattle.ov_state.proofs.ChangedWants.{file-stays, take-all}
+use Rattle.ov_state.proofs.ChangedWants.{file-gone, file-stays, take-all}
 use Rattle.ov_state.proofs.FilesByNode.{node-low}
-use Rattle.ov_state.proofs.FilesByNumber.{filed-there}
 
 -- ---- places between the numbers of files that may move
 
@@ -100,24 +99,27 @@ GoesOn s Holds =
     → same_surface f.surface (surface_at s.surface.sets want) ≡ true
     → Holds (wants ++ want ∷ [])
 
--- each file is there
-abbrev pub AreThere : Catalogue → Type 0
-AreThere s = (file : ℕ) → file < length s.files → is_some (living_at s.files file) ≡ true
+-- and it goes on with none for a file that is gone
+abbrev pub GoesOnGone : Catalogue → (List (Option ℕ) → Type 0) → Type 0
+GoesOnGone s Holds =
+    (wants : List (Option ℕ)) → Holds wants → living_at s.files (length wants) ≡ None → Holds (wants ++ None ∷ [])
 
 -- the file of this number has the wanted surface that it should have afterwards
 abbrev Stays : {W : ℕ} → Catalogue → Relisting W → ℕ → Type 0
 Stays s r file = (f : FileEntry) → living_at s.files file ≡ Some (plain_file f) → MayMove false s r file f
 
-module _ {W : ℕ} (s : Catalogue) (r : Relisting W) (limit : ℕ) (well : IsWell limit s) (there : AreThere s)
-    (Holds : List (Option ℕ) → Type 0) (goes_on : GoesOn s Holds) where
+module _ {W : ℕ} (s : Catalogue) (r : Relisting W) (limit : ℕ) (well : IsWell limit s)
+    (Holds : List (Option ℕ) → Type 0) (goes_on : GoesOn s Holds) (goes_on_gone : GoesOnGone s Holds) where
   abbrev wants : List (Option ℕ)
   wants = wants_after (outline s) r 0 (places s.files)
 
   skip-one : (file : ℕ) → file < length s.files → Stays s r file → Holds (take file wants) → Holds (take (file + 1) wants)
-  skip-one file low stays holds =
-      let f : FileEntry = entry_of (filed_at s file) in
-      let here : living_at s.files file ≡ Some (plain_file f) = filed-there s file (there file low) in
-      file-stays s r file f here Holds limit well (stays f here) (λ at surface same. goes_on (take file wants) _ f holds at surface same)
+  skip-one file low stays holds = by_file (living_at s.files file) refl where
+    by_file : (o : Option Filed) → living_at s.files file ≡ o → Holds (take (file + 1) wants)
+    by_file None none = file-gone s r file low none Holds goes_on_gone holds
+    by_file (Some own) here =
+        let f : FileEntry = entry_of own in
+        file-stays s r file f here Holds limit well (stays f here) (λ at surface same. goes_on (take file wants) _ f holds at surface same)
 
   skip-some : (from n : ℕ) → from + n ≤ length s.files → ((file : ℕ) → from ≤ file → file < from + n → Stays s r file)
       → Holds (take from wants) → Holds (take (from + n) wants)

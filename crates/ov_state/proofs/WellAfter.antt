@@ -4,7 +4,9 @@ use Rattle.std.proofs.Common.{◌≡◌, ℕ, ◌+◌, ◌≤◌, ◌*◌, List,
 use Rattle.std.specs.Prelude.{Option, None, nat_le}
 use Rattle.std.proofs.lemmas.Bool.Decides.{nat_tests}
 use Rattle.ov_base.specs.declared.mode.Mode.{Mode}
-use Rattle.ov_history.specs.Briefs.{Brief, BriefEnrol, BriefCreate, BriefGrant, BriefRevoke}
+use Rattle.ov_history.specs.Briefs.{Brief, BriefEnrol, BriefCreate, BriefGrant, BriefRemove, BriefRevoke}
+use Rattle.ov_history.specs.Places.{gone}
+use Rattle.ov_history.proofs.ChangeLaws.{length-change_at}
 use Rattle.ov_history.specs.Layers.{node_for, with_wants, wants_of, lists_of, lists_after}
 use Rattle.ov_history.specs.Lists.{byte_sum}
 use Rattle.ov_history.specs.Refusals.{tests_of, is_last}
@@ -15,7 +17,7 @@ use Rattle.ov_history.proofs.SoundSteps.{sound_after, nothing_is_sound}
 use Rattle.ov_history.proofs.SoundTests.{NoneApplies, none_applies, files_shown-length}
 use Rattle.ov_state.specs.Contents.{IsWell}
 use Rattle.ov_state.specs.Plans.{IsFitting}
-use Rattle.ov_state.proofs.WellFiles.{bytes_in, byte_sum-shown, bytes_in-append, AllWithin, within-each, each-within, within-append, length-settled, bytes_in-settled, within-settled}
+use Rattle.ov_state.proofs.WellFiles.{bytes_in, byte_sum-shown, bytes_in-append, AllWithin, within-each, each-within, within-append, within-gone, length-settled, bytes_in-fewer, bytes_in-settled, within-settled}
 use Rattle.ov_state.proofs.WellSettled.{settled-each, settled_after}
 use Rattle.ov_base.specs.declared.limits.TheConstants.{LAST_EPOCH, MAX_FILES, MAX_FILE_BYTES, MAX_SET_WORDS, MAX_STORE_BYTES, MAX_USERS}
 use Rattle.ov_base.proofs.Tests.{ge_of_false}
@@ -75,6 +77,13 @@ within_grown s (BriefRevoke user file) within (no_user, (no_file, (listed, (room
   files = within.files;
   bytes = within.bytes;
   each = within.each;
+  epoch = next_epoch s.epoch spent;
+}
+within_grown s (BriefRemove file) within (no_file, (room, (spent, none))) fits = record {
+  users = within.users;
+  files = subst (λ n. n ≤ MAX_FILES) (sym (length-change_at gone file s.files)) within.files;
+  bytes = omega (arith, within.bytes, bytes_in-fewer s.files file);
+  each = within-gone MAX_FILE_BYTES s.files file within.each;
   epoch = next_epoch s.epoch spent;
 }
 

@@ -1,7 +1,7 @@
 -- The bytes of the files, and how many they are after an update.
 use Rattle.std.proofs.Common.{Bool, true, false, ◌≡◌, ℕ, zero, suc, ◌+◌, ◌≤◌, List, [], ◌∷◌, ◌++◌, length, refl, sym, ◌∙◌, ap, subst, arith}
 use Rattle.std.specs.Prelude.{Option, Some, None, option_map}
-use Rattle.ov_history.specs.Places.{living_at}
+use Rattle.ov_history.specs.Places.{change_at, gone, living_at}
 use Rattle.ov_history.specs.Layers.{Layers, surface_at, same_surface}
 use Rattle.ov_history.specs.Lists.{byte_sum}
 use Rattle.ov_history.specs.Catalogue.{Filed, Catalogue, outline, files_shown, matrix_shown, refiled, settled_file, settled_files}
@@ -29,6 +29,24 @@ pub bytes_in-append : (files : List (Option Filed)) (f : Filed) → bytes_in (fi
 bytes_in-append [] f = omega arith
 bytes_in-append (first ∷ files) f = omega (arith, bytes_in-append files f)
 
+-- a file that goes takes its bytes with it
+pub bytes_in-gone : (files : List (Option Filed)) (file : ℕ) (f : Filed) → living_at files file ≡ Some f
+    → bytes_in (change_at gone file files) + f.length ≡ bytes_in files
+bytes_in-gone [] file f is = absurd (cc)
+bytes_in-gone (first ∷ files) zero f is =
+    let own : bytes_of_one first ≡ f.length = ap bytes_of_one is in
+    omega arith
+bytes_in-gone (first ∷ files) (suc file) f is = omega (arith, bytes_in-gone files file f is)
+
+pub bytes_in-fewer : (files : List (Option Filed)) (file : ℕ) → bytes_in (change_at gone file files) ≤ bytes_in files
+bytes_in-fewer [] file = omega arith
+bytes_in-fewer (first ∷ files) zero = omega arith
+bytes_in-fewer (first ∷ files) (suc file) = omega (arith, bytes_in-fewer files file)
+
+-- a file that is there has no more bytes than all files together
+pub bytes_in-there : (s : Catalogue) (file : ℕ) (f : Filed) → living_at s.files file ≡ Some f → f.length ≤ byte_sum (matrix_shown s).files
+bytes_in-there s file f is = omega (arith, byte_sum-shown s, bytes_in-gone s.files file f is)
+
 -- ---- the bytes of each file
 
 -- each of these files has at most this many bytes
@@ -53,6 +71,11 @@ pub within-append : (most : ℕ) (files : List (Option Filed)) (f : Filed) → A
     → AllWithin most (files ++ Some f ∷ [])
 within-append most [] f all last = (last, tt)
 within-append most (first ∷ files) f all last = (all.0, within-append most files f all.1 last)
+
+pub within-gone : (most : ℕ) (files : List (Option Filed)) (file : ℕ) → AllWithin most files → AllWithin most (change_at gone file files)
+within-gone most [] file all = tt
+within-gone most (first ∷ files) zero all = (omega arith, all.1)
+within-gone most (first ∷ files) (suc file) all = (all.0, within-gone most files file all.1)
 
 -- ---- files that are settled
 

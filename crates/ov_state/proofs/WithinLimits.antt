@@ -10,7 +10,7 @@ use Rattle.std.proofs.lemmas.Nat.{ones-le}
 use Rattle.ov_base.specs.Sets.{IsBelow, size}
 use Rattle.ov_base.proofs.SetLaws.{IsBelow-small}
 use Rattle.ov_graph.proofs.GraphLaws.{plan-few}
-use Rattle.ov_history.specs.Briefs.{Brief, BriefEnrol, BriefCreate, BriefGrant, BriefRevoke, outer}
+use Rattle.ov_history.specs.Briefs.{Brief, BriefEnrol, BriefCreate, BriefGrant, BriefRemove, BriefRevoke, outer}
 use Rattle.ov_history.specs.Catalogue.{Catalogue, outline, matrix_shown}
 use Rattle.ov_history.specs.Refusals.{tests_of}
 use Rattle.ov_history.proofs.SoundTests.{NoneApplies, none_applies, accepted}
@@ -46,3 +46,6 @@ module _ (limit : ℕ) (s : Catalogue) where
         there user (length s.users) MAX_USERS passed.0 well.users,
         omega (arith, below_some s.files file (file_low s file (true_of_not (is_file (matrix_shown s) file) passed.1.0)), well.files),
       )
+  within_limits (BriefRemove file) well fits (accepts, parts) =
+      let passed : NoneApplies (tests_of (matrix_shown s) (outline s) s.epoch (outer (BriefRemove file))) = none_applies (tests_of (matrix_shown s) (outline s) s.epoch (outer (BriefRemove file))) accepts in
+      omega (arith, below_some s.files file (file_low s file (true_of_not (is_file (matrix_shown s) file) passed.0)), well.files)

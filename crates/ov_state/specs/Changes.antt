@@ -1,6 +1,6 @@
 -- A change that was prepared, and what it makes of the catalogue.
 use Rattle.std.specs.Prelude.{◌≡◌, ℕ, ◌+◌, ◌<◌, ◌≤◌, true, false, List, [], ◌∷◌, ◌++◌, length}
-use Rattle.std.specs.Prelude.{Option, Some, None, IsTrue, option_map}
+use Rattle.std.specs.Prelude.{Option, Some, None, IsTrue, is_some, option_map}
 use Rattle.ov_base.specs.NameLists.{is_among}
 use Rattle.ov_base.specs.Sets.{Has}
 use Rattle.ov_base.specs.declared.limits.TheConstants.{MAX_LAYER_NODES}
@@ -8,7 +8,7 @@ use Rattle.ov_graph.specs.Contents.{joined, plan_of}
 use Rattle.ov_graph.specs.Reach.{IsRooted}
 use Rattle.ov_base_layer.specs.declared.grant.Grant.{Grant}
 use Rattle.ov_base_layer.specs.Holders.{accesses_of, holders_in}
-use Rattle.ov_history.specs.Places.{change_at}
+use Rattle.ov_history.specs.Places.{change_at, gone, living_at}
 use Rattle.ov_history.specs.Lists.{byte_sum}
 use Rattle.ov_history.specs.Catalogue.{Nodes, Filed, Catalogue, matrix_shown, added_if}
 use Rattle.ov_state.specs.Contents.{Room, IsWell}
@@ -16,8 +16,10 @@ use Rattle.ov_state.specs.Entries.{filed_names, plain_file}
 use Rattle.ov_state.specs.declared.change.NewNode.{NewNode}
 use Rattle.ov_state.specs.declared.change.Rewrite.{Rewrite}
 use Rattle.ov_state.specs.declared.change.Growth.{Growth}
-use Rattle.ov_state.specs.declared.change.Growth.TheVariants.{User, File, Access, Nothing}
+use Rattle.ov_state.specs.declared.change.Growth.TheVariants.{User, File, Access, Removal}
+use Rattle.ov_state.specs.declared.change.Growth.TheVariants.{Nothing}
 use Rattle.ov_state.specs.declared.change.Change.{Change}
+use Rattle.ov_state.specs.declared.files.FileEntry.{FileEntry}
 
 -- ---- what a change makes
 
@@ -40,13 +42,15 @@ abbrev pub users_grown : List (List ℕ) → Growth → List (List ℕ)
 users_grown users (User name) = users ++ name ∷ []
 users_grown users (File file) = users
 users_grown users (Access grant) = users
+users_grown users (Removal number) = users
 users_grown users Nothing = users
 
--- the files with a new one
+-- the files with a new one, or without the one that goes
 abbrev pub files_grown : List (Option Filed) → Growth → List (Option Filed)
 files_grown files (User name) = files
 files_grown files (File file) = files ++ Some (plain_file file) ∷ []
 files_grown files (Access grant) = files
+files_grown files (Removal number) = change_at gone number files
 files_grown files Nothing = files
 
 -- the access tokens with a new one
@@ -54,11 +58,16 @@ abbrev pub grants_grown : List Grant → Growth → List Grant
 grants_grown grants (User name) = grants
 grants_grown grants (File file) = grants
 grants_grown grants (Access grant) = grants ++ grant ∷ []
+grants_grown grants (Removal number) = grants
 grants_grown grants Nothing = grants
 
 -- the file under the new surface of its rewrite, from this epoch on
 abbrev pub rewritten : ℕ → Rewrite → Filed → Filed
 rewritten epoch r f = record f { surface = r.new; generation = epoch }
+
+-- the same of a file as a state keeps it
+abbrev pub entry_rewritten : ℕ → Rewrite → FileEntry → FileEntry
+entry_rewritten epoch r f = record f { surface = r.new; generation = epoch }
 
 -- the files after all these rewrites, in order
 abbrev pub all_rewritten : ℕ → List Rewrite → List (Option Filed) → List (Option Filed)
@@ -99,13 +108,14 @@ IsNewNodeIf sets None = Unit {0}
 IsNewNodeIf sets (Some new) = IsNewNode sets new
 
 -- What grows fits beside these users, files, sets and access tokens: no name is taken, and an
--- access token is for a user below the limit who isn't a holder.
+-- access token is for a user below the limit who isn't a holder. A file that goes is there.
 abbrev pub Fits : ℕ → List (List ℕ) → List (Option Filed) → List ℕ → List Grant → Growth → Type 0
 Fits limit users files sets grants (User name) = is_among name users ≡ false
 Fits limit users files sets grants (File file) = is_among file.name (filed_names files) ≡ false
 Fits limit users files sets grants (Access grant) =
     (grant.node < length sets) × (grant.user < limit)
     × ¬ Has (holders_in sets (accesses_of grants) grant.node) grant.user
+Fits limit users files sets grants (Removal number) = is_some (living_at files number) ≡ true
 Fits limit users files sets grants Nothing = Unit {0}
 
 -- each of the rewrites is of one of this many files
@@ -130,6 +140,7 @@ abbrev pub GrowsWithin : ℕ → ℕ → ℕ → Growth → Type 0
 GrowsWithin users files grants (User name) = 1 ≤ users
 GrowsWithin users files grants (File file) = 1 ≤ files
 GrowsWithin users files grants (Access grant) = 1 ≤ grants
+GrowsWithin users files grants (Removal number) = Unit {0}
 GrowsWithin users files grants Nothing = Unit {0}
 
 -- there is the room that the change takes

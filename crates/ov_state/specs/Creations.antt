@@ -1,12 +1,12 @@
--- Inner: no public contract needs this. The changes that enrolments and creations make.
+-- Inner: no public contract needs this. The changes that enrolments, creations and removals make.
 use Rattle.std.specs.Prelude.{◌≡◌, ℕ, ◌+◌, true, List, [], ◌∷◌, length, Some, None}
 use Rattle.ov_base.specs.Sets.{single}
 use Rattle.ov_tokens.specs.declared.token.Token.{Token}
 use Rattle.ov_history.specs.Lists.{byte_sum}
-use Rattle.ov_history.specs.Catalogue.{Catalogue, matrix_shown}
+use Rattle.ov_history.specs.Catalogue.{Catalogue, filed_at, matrix_shown}
 use Rattle.ov_state.specs.NewFiles.{new_node_if}
 use Rattle.ov_state.specs.declared.change.NewNode.{NewNode}
-use Rattle.ov_state.specs.declared.change.Growth.TheVariants.{User, File}
+use Rattle.ov_state.specs.declared.change.Growth.TheVariants.{User, File, Removal}
 use Rattle.ov_state.specs.declared.change.Change.{Change}
 use Rattle.ov_state.specs.declared.site.Site.{Site}
 
@@ -43,3 +43,11 @@ pub record IsCreation {W : ℕ} (c : Catalogue) (site : Site W) (name : List ℕ
   pub rewrites : change.rewrites.items
       ≡ record { file = length c.files; length = bytes; old = None; new = site.to } ∷ []
   pub size : change.size ≡ byte_sum (matrix_shown c).files + bytes
+
+-- the change that takes a file away
+pub record IsRemoval {W : ℕ} (c : Catalogue) (file : ℕ) (change : Change W) : Type 0 where
+  pub growth : change.growth ≡ Removal file
+  pub base : change.base ≡ None
+  pub surface : change.surface.items ≡ []
+  pub rewrites : change.rewrites.items ≡ []
+  pub size : change.size + (filed_at c file).length ≡ byte_sum (matrix_shown c).files

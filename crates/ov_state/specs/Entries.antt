@@ -1,6 +1,7 @@
 -- Files as a state keeps them, and rewrites, as the catalogue has them.
 use Rattle.std.specs.Prelude.{◌≡◌, ℕ, ◌+◌, ◌<◌, ◌≤◌, true, List, [], ◌∷◌, length, Contains}
-use Rattle.std.specs.Prelude.{Option, Some, None, is_some, option_map, slice_index, unwrap_or}
+use Rattle.std.specs.Prelude.{Option, Some, None, is_some, option_map, remove, slice_index}
+use Rattle.std.specs.Prelude.{unwrap_or}
 use Rattle.ov_base.specs.declared.limits.TheConstants.{MAX_FILES}
 use Rattle.ov_history.specs.Catalogue.{Filed}
 use Rattle.ov_history.specs.Places.{living_at}
@@ -19,10 +20,10 @@ plain_file f = record {
   length = f.length;
 }
 
--- the files as the catalogue has them
-abbrev pub plain_files : List FileEntry → List (Option Filed)
+-- the files as the catalogue has them, but for those that are gone
+abbrev pub plain_files : List (Option FileEntry) → List (Option Filed)
 plain_files [] = []
-plain_files (f ∷ files) = Some (plain_file f) ∷ plain_files files
+plain_files (f ∷ files) = option_map plain_file f ∷ plain_files files
 
 -- a rewrite in the words of histories
 abbrev pub plain_rewrite : Rewrite → PlainRewrite
@@ -33,7 +34,7 @@ abbrev pub plain_rewrites : List Rewrite → List PlainRewrite
 plain_rewrites [] = []
 plain_rewrites (r ∷ rewrites) = plain_rewrite r ∷ plain_rewrites rewrites
 
--- the files by number, and for how many more there is room
+-- the files by number, but for those that are gone, and for how many more there is room
 pub record FileList : Type 0 where
   pub files : List (Option Filed)
   pub spare : ℕ
@@ -48,13 +49,18 @@ abbrev pub filed_names : List (Option Filed) → List (List ℕ)
 filed_names [] = []
 filed_names (f ∷ files) = filed_name f ∷ filed_names files
 
--- the names of these files with their numbers, of which the first is this
+-- this is the name of the file of this number
+abbrev pub HasName : List (Option Filed) → ℕ → List ℕ → Type 0
+HasName files number name = (f : Filed) → living_at files number ≡ Some f → name ≡ f.name
+
+-- the names of these files with their numbers, of which the first is this; a file that is gone has
+-- neither
 abbrev pub numbered : ℕ → List (Option Filed) → List (List ℕ × ℕ)
 numbered number [] = []
 numbered number (None ∷ files) = numbered (number + 1) files
 numbered number (Some f ∷ files) = (f.name, number) ∷ numbered (number + 1) files
 
--- each name leads to the number of its file, and there are no more files than a store may have
+-- each name leads to the number of its file, and no more numbers are given than a store may have
 abbrev pub AreNumbered : List (Option Filed) → List (List ℕ × ℕ) → Type 0
 AreNumbered files numbers = (numbers ≡ numbered 0 files) × (length files ≤ MAX_FILES)
 
@@ -89,6 +95,12 @@ pub record IsCountBelow (files : List (Option Filed)) (node : ℕ) (numbers : Li
   pub below : (i : ℕ) → i < count → node_at files (slice_index numbers i) < node
   pub behind : (i : ℕ) → count ≤ i → i < length numbers
       → node ≤ node_at files (slice_index numbers i)
+
+-- the number was one of these, and now it is left out of them
+abbrev pub IsTakenOut : ℕ → List ℕ → List ℕ → Type 0
+IsTakenOut number old new =
+    (place : ℕ) × (place < length old) × (slice_index old place ≡ number)
+    × (new ≡ remove old place)
 
 -- each number is below those after it
 abbrev pub Ascend : List ℕ → Type 0

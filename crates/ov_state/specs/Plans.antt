@@ -2,7 +2,7 @@
 use Rattle.std.specs.Prelude.{◌≡◌, ℕ, ◌<◌, ◌≤◌, List, length, Some, None, Result, Ok, Err}
 use Rattle.ov_base.specs.declared.limits.TheConstants.{MAX_FILES, MAX_FILE_BYTES, MAX_USERS}
 use Rattle.ov_history.specs.Briefs.{Brief as PlainBrief, BriefEnrol, BriefCreate, BriefGrant}
-use Rattle.ov_history.specs.Briefs.{BriefRevoke, part_place}
+use Rattle.ov_history.specs.Briefs.{BriefRemove, BriefRevoke, part_place}
 use Rattle.ov_history.specs.Catalogue.{Catalogue, outline, catalogue_after}
 use Rattle.ov_history.specs.Rewrites.{rewrites_of}
 use Rattle.ov_history.specs.Sealed.{HasParts, refusal_shown}
@@ -22,6 +22,7 @@ IsWithinLimits (BriefCreate name list tokens tag size) =
     (length tokens ≤ MAX_USERS) × (size ≤ MAX_FILE_BYTES)
 IsWithinLimits (BriefGrant user file token) = (user < MAX_USERS) × (file < MAX_FILES)
 IsWithinLimits (BriefRevoke user file) = (user < MAX_USERS) × (file < MAX_FILES)
+IsWithinLimits (BriefRemove file) = file < MAX_FILES
 
 -- ---- what is answered
 

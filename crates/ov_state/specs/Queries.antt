@@ -7,7 +7,8 @@ use Rattle.ov_history.specs.Refusals.{list_refusal, read_refusal}
 use Rattle.ov_history.specs.Catalogue.{Catalogue, matrix_shown}
 use Rattle.ov_state.specs.declared.queries.Sizes.{Sizes}
 
--- how many users, files, nodes and access tokens there are, and the bytes of all files
+-- how many users, nodes and access tokens there are, how many numbers were given to files, and the
+-- bytes of all files that are there
 abbrev pub sizes_of : Catalogue → Sizes
 sizes_of c = record {
   users = length c.users;

@@ -4,10 +4,10 @@ ghost use Rattle.ov_base.specs.Sets.{single};
 ghost use Rattle.ov_base.specs.declared.limits.TheConstants.{MAX_SET_WORDS};
 ghost use Rattle.ov_history.specs.Asking.{file_named, key_refusal, newcomer, of_both, of_grant};
 ghost use Rattle.ov_history.specs.Asking.{of_user, refusal_at, user_named};
-ghost use Rattle.ov_history.specs.History.{Enrolled, Granted, Revoked};
+ghost use Rattle.ov_history.specs.History.{Enrolled, Granted, Removed, Revoked};
 ghost use Rattle.ov_history.specs.Layers.{root_of};
 ghost use Rattle.ov_history.specs.Places.{living_at};
-ghost use Rattle.ov_state.specs.Asking.{numbers_of, Asks, Tells};
+ghost use Rattle.ov_state.specs.Asking.{numbers_of, of_file, Asks, Tells};
 
 use crate::chains::root;
 use crate::fault::ChainFault;
@@ -74,6 +74,21 @@ impl<B: Graph<Base, W>, S: Graph<Surface, W>, const W: usize> State<B, S, W> {
         }
     }
 
+    /// What is told of a file alone.
+    fn told_of_file(&self, file: u32) -> Asked
+        requires { is_some (living_at self.now.catalogue.files file) ≡ true }
+        ensures { numbers_of result ≡ of_file self.now.catalogue file }
+    {
+        Asked {
+            user: 0,
+            base_root: 0,
+            surface_root: 0,
+            file,
+            node: self.entry(file).node,
+            wants: false,
+        }
+    }
+
     /// What is told of a user who is to be enrolled: which numbers the user and both roots will
     /// get. It is refused exactly where the enrolment is.
     pub fn ask_enrol(&self, user: &Name) -> Result<Asked, Refusal>
@@ -124,6 +139,18 @@ impl<B: Graph<Base, W>, S: Graph<Surface, W>, const W: usize> State<B, S, W> {
         let relisting = self.decided(user, file, Verb::Revoke)?;
         self.over_wants(&relisting, &mut NewSets::new(alloc))?;
         Ok(self.told_of_both(user, file))
+    }
+
+    /// What is told of a file that is to be removed. It is refused exactly where the removal is.
+    pub fn ask_remove(&self, file: &Name) -> Result<Asked, ChainFault>
+        ensures { let c = self.now.catalogue in let f = file_named c file.now in
+            Asks (refusal_at c (Removed f)) (of_file c f) result }
+    {
+        let file = self.file_or_next(file);
+        if let Some(why) = self.refusal_remove(file) {
+            return Err(ChainFault::Refused(why));
+        }
+        Ok(self.told_of_file(file))
     }
 
     /// What is told of a user whose keys are asked for: NoUser exactly where there is none of this

@@ -38,7 +38,6 @@ impl<B: Graph<Base, W>, S: Graph<Surface, W>, const W: usize> State<B, S, W> {
         ensures { AnswersReader self.now.catalogue user.now file.now result }
     {
         self.known();
-        self.files_known();
         let Some(user) = self.user_number(user) else {
             return Err(Refusal::NoUser);
         };

@@ -25,7 +25,7 @@ pub struct Rewrite {
     pub new: Option<u32>,
 }
 
-/// What a catalogue is to have one more of.
+/// What a catalogue is to have one more of, or which file it is to have no more.
 #[derive(Drop)]
 pub enum Growth {
     /// A user.
@@ -34,12 +34,14 @@ pub enum Growth {
     File(FileEntry),
     /// An access token.
     Access(Grant),
+    /// The file of this number goes.
+    Removal(u32),
     /// Nothing.
     Nothing,
 }
 
-/// All that an update makes: what grows, the nodes that each layer gets, the rewrites by file
-/// number, and the bytes of all files afterwards.
+/// All that an update makes: what grows or goes, the nodes that each layer gets, the rewrites by
+/// file number, and the bytes of all files afterwards.
 #[derive(Drop)]
 pub struct Change<const W: usize> {
     pub(crate) growth: Growth,

@@ -2,7 +2,7 @@
 //! holders of its base node grow in Delta, those beside it. The question for it and its plan
 //! collect the same wanted sets, each in its own way.
 ghost use Rattle.std.specs.Prelude.{◌≡◌, ◌<◌, ◌≤◌, ◌+◌, ◌*◌, ◌++◌, ◌∷◌, [], ℕ, List, Option, Some};
-ghost use Rattle.std.specs.Prelude.{IfErr, IfSome, OnOk, is_some, length, take, true};
+ghost use Rattle.std.specs.Prelude.{None, IfErr, IfSome, OnOk, length, take, true};
 ghost use Rattle.ov_base.specs.declared.limits.TheConstants.{MAX_LAYER_NODES};
 ghost use Rattle.ov_graph.specs.Reach.{IsRooted};
 ghost use Rattle.ov_history.specs.Catalogue.{Catalogue, outline, place_of_file};
@@ -57,7 +57,8 @@ pub trait Collector<S: Graph<Surface, W>, const W: usize> {
             → IfErr result (IsFull (with_wants c.surface.sets (wants ++ want.now ∷ []))) };
 
     /// Does nothing. Its contract is what holds of every collector: its layer has room for the sets
-    /// that are collected, and a file that has its wanted surface already adds nothing.
+    /// that are collected, and a file that has its wanted surface already adds nothing. Neither does
+    /// one that is gone, of which no surface is wanted.
     fn known(&self)
         ensures few { (start : Self) (c : Catalogue) (wants : List (Option ℕ))
             → has start c wants self.now
@@ -67,7 +68,10 @@ pub trait Collector<S: Graph<Surface, W>, const W: usize> {
             → living_at c.files (length wants) ≡ Some (plain_file f)
             → IfSome f.surface (λ node. node < length c.surface.sets)
             → same_surface f.surface (surface_at c.surface.sets want) ≡ true
-            → has start c (wants ++ want ∷ []) self.now };
+            → has start c (wants ++ want ∷ []) self.now }
+        ensures gone { (start : Self) (c : Catalogue) (wants : List (Option ℕ))
+            → has start c wants self.now → living_at c.files (length wants) ≡ None
+            → has start c (wants ++ None ∷ []) self.now };
 }
 
 impl<B: Graph<Base, W>, S: Graph<Surface, W>, const W: usize> State<B, S, W> {
@@ -184,7 +188,6 @@ impl<B: Graph<Base, W>, S: Graph<Surface, W>, const W: usize> State<B, S, W> {
             Passes (room_refusal sets y.epoch) result }
     {
         self.known();
-        self.files_known();
         let numbers = self.moving(relisting);
         for file in numbers {
             collector.known();

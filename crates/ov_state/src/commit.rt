@@ -30,7 +30,7 @@ fn add_user(users: &mut IndexSet<Name>, name: Name)
     let _ = users.insert(name);
 }
 
-/// Adds what grows.
+/// Adds what grows, or takes away the file that goes.
 fn grow<B: Graph<Base, W>, const W: usize>(
     users: &mut IndexSet<Name>,
     files: &mut Files,
@@ -51,6 +51,7 @@ fn grow<B: Graph<Base, W>, const W: usize>(
         Growth::User(name) => add_user(users, name),
         Growth::File(file) => files.push(file),
         Growth::Access(grant) => layer.add_access(grant),
+        Growth::Removal(file) => files.remove(file),
         Growth::Nothing => {}
     }
 }

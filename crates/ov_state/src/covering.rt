@@ -96,7 +96,6 @@ impl<B: Graph<Base, W>, S: Graph<Surface, W>, const W: usize> State<B, S, W> {
         ensures { let c = self.now.catalogue in
             Plans c name.now (set_named c.users names.now) size result }
     {
-        self.files_known();
         if self.has_file(name) {
             return Err(ChainFault::Refused(Refusal::Taken));
         }

@@ -1,13 +1,14 @@
 //! Files by number, by name, and by base node.
 ghost use Rattle.std.specs.Prelude.{◌≡◌, ◌<◌, ◌≤◌, ◌++◌, ◌∷◌, [], false, length, option_map};
-ghost use Rattle.std.specs.Prelude.{is_some, true, OnOk, Some, ℕ};
+ghost use Rattle.std.specs.Prelude.{is_some, true, IfSome, OnOk, Some};
 ghost use Rattle.ov_base.specs.NameLists.{is_among};
 ghost use Rattle.ov_base.specs.declared.limits.TheConstants.{MAX_FILES};
-ghost use Rattle.ov_history.specs.Places.{change_at, living_at, IsNumber};
-ghost use Rattle.ov_state.specs.Entries.{filed_names, plain_file, AreOfNode};
-ghost use Rattle.ov_state.specs.Changes.{rewritten};
+ghost use Rattle.ov_history.specs.Places.{change_at, gone, living_at, IsNumber};
+ghost use Rattle.ov_state.specs.Entries.{filed_names, plain_file, plain_files};
+ghost use Rattle.ov_state.specs.Entries.{AreOfNode, HasName};
+ghost use Rattle.ov_state.specs.Changes.{entry_rewritten, rewritten};
 
-use crate::by_node::{count_below, files_of_node};
+use crate::by_node::{count_below, entry_at, files_of_node, take_out};
 use crate::change::Rewrite;
 use indexmap::IndexMap;
 use ov_base::{Memory, Name};
@@ -27,10 +28,11 @@ pub struct FileEntry {
 }
 
 /// The files: a file's number is its place in the list, and the names lead to numbers. So do the
-/// base nodes: the numbers of the files of a node stand side by side.
+/// base nodes: the numbers of the files of a node stand side by side. A file that is gone leaves
+/// its place empty, since numbers are given once, and no name and no node leads there.
 #[derive(Drop)]
 pub(crate) struct Files {
-    list: Vec<FileEntry>,
+    list: Vec<Option<FileEntry>>,
     numbers: IndexMap<Name, u32>,
     by_node: Vec<u32>,
 }
@@ -52,6 +54,27 @@ impl Model for Files {
         × AreByNode (plain_files f.list.items) f.by_node.items };
 }
 
+/// The name of the file of this number, which is there.
+fn name_at(list: &[Option<FileEntry>], number: u32) -> Name
+    requires { is_some (living_at (plain_files list.now) number) ≡ true }
+    ensures { HasName (plain_files list.now) number result }
+{
+    match entry_at(list, number) {
+        Some(file) => file.name.copy(),
+        None => unreachable!(),
+    }
+}
+
+/// Gives a file its new surface, from this epoch on. There is none for a file that is gone.
+fn refile(file: &mut Option<FileEntry>, rewrite: Rewrite, epoch: u32)
+    ensures { file.new ≡ option_map (entry_rewritten epoch rewrite) file.old }
+{
+    if let Some(file) = file {
+        file.surface = rewrite.new;
+        file.generation = epoch;
+    }
+}
+
 impl Files {
     /// No files.
     pub fn new(alloc: Global) -> Self
@@ -64,31 +87,24 @@ impl Files {
         }
     }
 
-    /// How many files there are.
+    /// How many numbers were given out, with those of files that are gone.
     pub fn count(&self) -> u32
         ensures { result ≡ length self.now.files }
     {
         self.list.len() as u32
     }
 
-    /// Does nothing. Its contract is what holds of every list of files: each of them is there.
-    pub fn known(&self)
-        ensures { (file : ℕ) → file < length self.now.files
-            → is_some (living_at self.now.files file) ≡ true }
-    {
-        let _ = &self.list;
-    }
-
-    /// The file of this number.
+    /// The file of this number, where it is there.
     pub fn get(&self, file: u32) -> Option<&FileEntry>
         ensures { option_map (λ f. plain_file f.now) result ≡ living_at self.now.files file }
     {
-        self.list.get(file as usize)
+        entry_at(&self.list, file)
     }
 
     /// The number of the file of this name.
     pub fn number_of(&self, name: &Name) -> Option<u32>
-        ensures { IsNumber (filed_names self.now.files) name.now result }
+        ensures number { IsNumber (filed_names self.now.files) name.now result }
+        ensures there { IfSome result (λ file. is_some (living_at self.now.files file) ≡ true) }
     {
         // A name isn't empty, so no file that is gone is found by it.
         let _bytes = name.as_bytes();
@@ -126,7 +142,20 @@ impl Files {
         let place = count_below(&self.list, &self.by_node, u64::from(file.node) + 1);
         let _ = self.by_node.insert(place, number);
         let _ = self.numbers.insert(file.name.copy(), number);
-        let _ = self.list.push(file);
+        let _ = self.list.push(Some(file));
+    }
+
+    /// Takes a file away. Its number isn't given to another. It takes no memory.
+    pub fn remove(&mut self, file: u32)
+        requires { is_some (living_at self.old.files file) ≡ true }
+        ensures { self.new.files ≡ change_at gone file self.old.files }
+    {
+        // A map has each name once, as its length says: so the name leads to no other file.
+        let _count = self.numbers.len();
+        let name = name_at(&self.list, file);
+        let _ = self.numbers.shift_remove(&name);
+        take_out(&mut self.by_node, file);
+        self.list[file as usize] = None;
     }
 
     /// Gives a file its new surface, from this epoch on.
@@ -135,8 +164,6 @@ impl Files {
         ensures { let one = option_map (rewritten epoch rewrite) in
             self.new.files ≡ change_at one rewrite.file self.old.files }
     {
-        let file = &mut self.list[rewrite.file as usize];
-        file.surface = rewrite.new;
-        file.generation = epoch;
+        refile(&mut self.list[rewrite.file as usize], rewrite, epoch);
     }
 }

@@ -14,7 +14,7 @@
 //!   collecting  the wanted surface of each file that may move      │
 //!   rewrites    the files that get another surface by it           │
 //!   new_nodes   the surface nodes that these need                  │
-//!   plan_new, plan_list     all that as a change                   │
+//!   plan_new, plan_list, plan_remove     all that as a change      │
 //!   room        the memory that it takes                           │
 //!        ┌──────────────────────────────────────────── Change ◄────┘
 //!        ├─► rewrites()   file, length, old and new surface, by number
@@ -25,6 +25,10 @@
 //! takes all the memory that the change needs, and leaves the catalogue as it was.
 //! [`State::commit`] makes the change: it takes no memory and can't fail. So an update can be
 //! written down between the two.
+//!
+//! A file that is removed is gone: its name and its entry are forgotten, and its number isn't given
+//! to another. Its base node and the access tokens to that node stay, since other files may be
+//! there. So the holders stay, and a removal rewrites no file.
 //!
 //! A state is given the surface master with each update and never the base master. It makes the
 //! surface layer's tokens; those of the base layer come with the update.
@@ -44,15 +48,16 @@
 //! * [`closures_are_the_matrix`] does nothing; its contract is what holds of every catalogue that
 //!   stands for a history.
 //! * [`State::known`] does nothing; its contract is what holds of every state (`IsWell`): its
-//!   catalogue is sound, each file has its wanted surface, and no limit is passed.
+//!   catalogue is sound, each file that is there has its wanted surface, and no limit is passed.
 //! * The queries give the epoch, the mode, sizes, numbers and names, files, and the list of a file,
-//!   which is read off the layers.
-//! * `ask_enrol`, `ask_grant`, `ask_revoke` and `cover` tell an owner, before an update, the
-//!   numbers that it needs, or why the update would be refused. They touch no bytes, and plan no
-//!   surface nodes: of these they only count which sets would be new. A question and its update
-//!   take the same steps: one decision on the list, and one pass over the files that may move, with
-//!   two collectors. What `cover` told can be given back by [`State::remember`], so that the
-//!   creation needn't plan it again.
+//!   which is read off the layers. They find no file that is gone. It counts among the numbers that
+//!   were given out, and its bytes don't count.
+//! * `ask_enrol`, `ask_grant`, `ask_revoke`, `ask_remove` and `cover` tell an owner, before an
+//!   update, the numbers that it needs, or why the update would be refused. They touch no bytes, and
+//!   plan no surface nodes: of these they only count which sets would be new. A question about a list
+//!   and its update take the same steps: one decision on the list, and one pass over the files that
+//!   may move, with two collectors. What `cover` told can be given back by [`State::remember`], so
+//!   that the creation needn't plan it again.
 //! * [`State::chain`] is refused exactly where a read is, unless memory is. It gives a reader of a
 //!   file the chains from the reader's two roots to the file's keys ([`Chained`]); over true tokens
 //!   they lead to these keys, and [`access_key_by`] walks the one of the base layer.
@@ -81,7 +86,9 @@
 //! halves. A grant in Delta by which the holders of a base node grow is the one exception. It goes
 //! through the files of that node, since bare ones get a surface, and looks at none of another node
 //! after that. A creation looks at a few files to find its file's place among them, and moves the
-//! numbers behind it, four bytes each. All this is read off the code, and no contract says it.
+//! numbers behind it, four bytes each. A removal looks through these numbers for that of its file,
+//! and moves the names behind that of its file. All this is read off the code, and no contract says
+//! it.
 //!
 //! Nothing is claimed of secrecy, nor that memory isn't refused.
 #![tactic(auto)]
@@ -104,6 +111,7 @@ mod new_sets;
 mod places;
 mod plan_list;
 mod plan_new;
+mod plan_remove;
 mod prepare;
 mod queries;
 mod relisting;

@@ -1,5 +1,5 @@
 //! What plans look up in a state.
-ghost use Rattle.std.specs.Prelude.{◌≡◌, ◌<◌, ◌≤◌, ◌+◌, ◌*◌, ◌||◌, Some, ℕ, length, nat_le, nat_lt};
+ghost use Rattle.std.specs.Prelude.{◌≡◌, ◌<◌, ◌≤◌, ◌+◌, ◌*◌, ◌||◌, Some, length, nat_le, nat_lt};
 ghost use Rattle.std.specs.Prelude.{is_some, true, IfSome};
 ghost use Rattle.ov_history.specs.Places.{living_at};
 ghost use Rattle.ov_base.specs.NameLists.{is_among};
@@ -8,7 +8,7 @@ ghost use Rattle.ov_base.specs.declared.limits.TheConstants.{MAX_FILES, MAX_FILE
 ghost use Rattle.ov_base.specs.declared.limits.TheConstants.{MAX_LAYER_NODES, MAX_SET_WORDS};
 ghost use Rattle.ov_base.specs.declared.limits.TheConstants.{MAX_STORE_BYTES, MAX_USERS};
 ghost use Rattle.ov_history.specs.Layers.{holders, list_at, set_or};
-ghost use Rattle.ov_history.specs.Lists.{byte_sum, everyone};
+ghost use Rattle.ov_history.specs.Lists.{byte_sum, everyone, file_number, is_file};
 ghost use Rattle.ov_history.specs.Refusals.{is_last};
 ghost use Rattle.ov_history.specs.Catalogue.{matrix_shown, outline, place_of_file};
 ghost use Rattle.ov_history.specs.Sound.{IsPlaced};
@@ -42,14 +42,6 @@ impl<B: Graph<Base, W>, S: Graph<Surface, W>, const W: usize> State<B, S, W> {
         (user as usize) < self.users.len()
     }
 
-    /// Does nothing. Its contract is that each file is there.
-    pub(crate) fn files_known(&self)
-        ensures { (file : ℕ) → file < length self.now.catalogue.files
-            → is_some (living_at self.now.catalogue.files file) ≡ true }
-    {
-        self.files.known();
-    }
-
     /// The numbers of the files with this base node, ascending.
     pub(crate) fn files_of_node(&self, node: u32) -> &[u32]
         ensures { AreOfNode self.now.catalogue.files node result.now }
@@ -57,7 +49,7 @@ impl<B: Graph<Base, W>, S: Graph<Surface, W>, const W: usize> State<B, S, W> {
         self.files.of_node(node)
     }
 
-    /// Whether there is a file of this number.
+    /// Whether there is a file of this number, which isn't gone.
     pub(crate) fn is_file(&self, file: u32) -> bool
         ensures { result ≡ is_some (living_at self.now.catalogue.files file) }
     {
@@ -73,7 +65,9 @@ impl<B: Graph<Base, W>, S: Graph<Surface, W>, const W: usize> State<B, S, W> {
 
     /// Whether a file has this name.
     pub(crate) fn has_file(&self, name: &Name) -> bool
-        ensures { result ≡ is_among name.now (filed_names self.now.catalogue.files) }
+        ensures named { result ≡ is_among name.now (filed_names self.now.catalogue.files) }
+        ensures shown { let m = matrix_shown self.now.catalogue in
+            result ≡ is_file m (file_number m name.now) }
     {
         self.files.number_of(name).is_some()
     }
@@ -139,7 +133,7 @@ impl<B: Graph<Base, W>, S: Graph<Surface, W>, const W: usize> State<B, S, W> {
         self.users.len() >= MAX_USERS as usize
     }
 
-    /// Whether there are as many files as a store holds.
+    /// Whether as many numbers of files were given out as a store has.
     pub(crate) fn is_full_of_files(&self) -> bool
         ensures { result ≡ nat_le MAX_FILES (length self.now.catalogue.files) }
     {

@@ -1,10 +1,13 @@
 //! Enrolments and creations as changes.
-ghost use Rattle.std.specs.Prelude.{◌≡◌, ◌≤◌, ◌<◌, ◌+◌, ◌*◌, ℕ, List, [], ◌∷◌, length, IfOk};
+ghost use Rattle.std.specs.Prelude.{◌≡◌, ◌≤◌, ◌<◌, ◌+◌, ◌*◌, ℕ, List, [], ◌∷◌, length, IfNone};
+ghost use Rattle.std.specs.Prelude.{false, IfOk};
+ghost use Rattle.ov_base.specs.NameLists.{is_among};
 ghost use Rattle.ov_base.specs.declared.limits.TheConstants.{LAST_EPOCH, MAX_FILE_BYTES};
 ghost use Rattle.ov_base.specs.declared.limits.TheConstants.{MAX_SET_WORDS, MAX_USERS};
 ghost use Rattle.ov_history.specs.Briefs.{BriefCreate, BriefEnrol};
 ghost use Rattle.ov_history.specs.Refusals.{first_of_tests};
 ghost use Rattle.ov_history.specs.Sealed.{refusal_shown};
+ghost use Rattle.ov_state.specs.Entries.{filed_names};
 ghost use Rattle.ov_state.specs.Plans.{Prepares};
 ghost use Rattle.ov_state.specs.NewFiles.{tests_before};
 ghost use Rattle.ov_state.specs.Creations.{alone, IsCreation, IsEnrolment};
@@ -112,9 +115,11 @@ impl<B: Graph<Base, W>, S: Graph<Surface, W>, const W: usize> State<B, S, W> {
         size: u32,
     ) -> Option<Refusal>
         requires { size ≤ MAX_FILE_BYTES }
-        ensures { result ≡ first_of_tests (tests_before self.now.catalogue name.now list.now size) }
+        ensures why { result ≡ first_of_tests (tests_before self.now.catalogue
+            name.now list.now size) }
+        ensures fresh { IfNone result
+            (is_among name.now (filed_names self.now.catalogue.files) ≡ false) }
     {
-        self.files_known();
         if self.has_file(name) {
             Some(Refusal::Taken)
         } else if !self.has_all(list) {
@@ -185,7 +190,6 @@ impl<B: Graph<Base, W>, S: Graph<Surface, W>, const W: usize> State<B, S, W> {
             (BriefCreate name list.entry tokens tag size) result }
     {
         self.known();
-        self.files_known();
         if let Some(why) = self.refusal_create(&name, &list, size) {
             return Err(PrepareFault::Refused(why));
         }

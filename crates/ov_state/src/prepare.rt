@@ -38,6 +38,7 @@ impl<B: Graph<Base, W>, S: Graph<Surface, W>, const W: usize> State<B, S, W> {
                 self.plan_grant(alloc, surface, user, file, token)
             }
             Brief::Revoke { user, file } => self.plan_revoke(alloc, surface, user, file),
+            Brief::Remove { file } => self.plan_remove(alloc, file),
         }
     }
 

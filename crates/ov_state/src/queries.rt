@@ -6,7 +6,7 @@ ghost use Rattle.ov_history.specs.Catalogue.{filed_at, matrix_shown, outline, pl
 ghost use Rattle.ov_history.specs.Layers.{list_at};
 ghost use Rattle.ov_history.specs.Lists.{file_names};
 ghost use Rattle.ov_history.specs.Places.{living_at, IsNumber};
-ghost use Rattle.std.specs.Prelude.{is_some, true};
+ghost use Rattle.std.specs.Prelude.{is_some, true, IfSome};
 ghost use Rattle.ov_state.specs.Contents.{nodes_of, IsWell};
 ghost use Rattle.ov_state.specs.Entries.{plain_file};
 ghost use Rattle.ov_state.specs.Queries.{sizes_of, AnswersList};
@@ -18,7 +18,8 @@ use ov_base_layer::BaseLayer;
 use ov_graph::Graph;
 use ov_tokens::{Base, Surface};
 
-/// How many users, files, nodes and access tokens a state has, and the bytes of all its files.
+/// How many users, nodes and access tokens a state has, how many numbers it has given to files, and
+/// the bytes of all files that are there.
 #[derive(Clone, Copy, Debug, PartialEq, Eq)]
 pub struct Sizes {
     pub users: u32,
@@ -51,7 +52,8 @@ impl<B: Graph<Base, W>, S: Graph<Surface, W>, const W: usize> State<B, S, W> {
         self.mode
     }
 
-    /// How many users, files, nodes and access tokens there are, and the bytes of all files.
+    /// How many users, nodes and access tokens there are, how many numbers were given to files, and
+    /// the bytes of all files. A file that is gone keeps its number and has no bytes.
     pub fn sizes(&self) -> Sizes
         ensures { result ≡ sizes_of self.now.catalogue }
     {
@@ -101,14 +103,17 @@ impl<B: Graph<Base, W>, S: Graph<Surface, W>, const W: usize> State<B, S, W> {
         }
     }
 
-    /// The number of the file of this name.
+    /// The number of the file of this name. A file that is gone has none.
     pub fn file_number(&self, name: &Name) -> Option<u32>
-        ensures { IsNumber (file_names (matrix_shown self.now.catalogue).files) name.now result }
+        ensures number { IsNumber (file_names (matrix_shown self.now.catalogue).files) name.now
+            result }
+        ensures there { IfSome result (λ file.
+            is_some (living_at self.now.catalogue.files file) ≡ true) }
     {
         self.files.number_of(name)
     }
 
-    /// The number of the file of this name, or one past the last.
+    /// The number of the file of this name, or one past the last that was given out.
     pub(crate) fn file_or_next(&self, name: &Name) -> u32
         ensures { result ≡ file_named self.now.catalogue name.now }
     {
@@ -125,7 +130,7 @@ impl<B: Graph<Base, W>, S: Graph<Surface, W>, const W: usize> State<B, S, W> {
         self.users.get_index(user as usize)
     }
 
-    /// The file of this number.
+    /// The file of this number, where it isn't gone.
     pub fn file_at(&self, file: u32) -> Option<&FileEntry>
         ensures { option_map (λ f. plain_file f.now) result
             ≡ living_at self.now.catalogue.files file }
@@ -147,7 +152,6 @@ impl<B: Graph<Base, W>, S: Graph<Surface, W>, const W: usize> State<B, S, W> {
     pub fn list(&self, file: &Name) -> Result<UserSet<W>, Refusal>
         ensures { AnswersList self.now.catalogue file.now result }
     {
-        self.files_known();
         match self.file_number(file) {
             Some(number) => Ok(self.list_of(number)),
             None => Err(Refusal::NoFile),

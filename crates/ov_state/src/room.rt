@@ -43,6 +43,8 @@ fn reserve_growth<B: Graph<Base, W>, const W: usize>(
         Growth::User(_) => users.reserve(1)?,
         Growth::File(_) => files.reserve()?,
         Growth::Access(_) => layer.reserve_access()?,
+        // A file that goes leaves room.
+        Growth::Removal(_) => {}
         Growth::Nothing => {}
     }
     Ok(())

@@ -1,5 +1,5 @@
-//! A history in both modes with the updates that it refuses, chains over its tokens, a small team's
-//! day, and the last epoch.
+//! A history in both modes with the updates that it refuses, a file that is removed, chains over its
+//! tokens, a small team's day, and the last epoch.
 ghost use Rattle.ov_state.specs.Plans.{plain_brief, IsFitting};
 
 mod rows;
@@ -11,7 +11,7 @@ use ov_graph::Graph;
 use ov_record::Update;
 use ov_state::*;
 use ov_tokens::{Master, Token, Tokens};
-use rows::{FAULTS, READINGS, ROWS, Reading, Rewritten, Step};
+use rows::{FAULTS, FAULTS_BEHIND_IT, READINGS, REMOVAL, ROWS, Reading, Rewritten, Row, Step};
 use std::alloc::Global;
 use std::process::Abort;
 
@@ -67,6 +67,7 @@ fn brief(rt: &impl Abort, alloc: Global, step: Step) -> Brief<WIDTH>
             token: if has_token { Some(TOKEN) } else { None },
         },
         Step::Revoke(user, file) => Brief::Revoke { user, file },
+        Step::Remove(file) => Brief::Remove { file },
     }
 }
 
@@ -105,16 +106,21 @@ fn expect_fault(
     assert_eq!(rt; answer.err(), Some(fault));
 }
 
-/// The catalogue after all of the rows.
-fn after_rows(rt: &impl Abort, alloc: Global, mode: Mode) -> Catalogue {
-    let mut catalogue: Catalogue = State::new(alloc, mode, 0).expect(rt, "memory");
-    for row in &ROWS {
-        let expected = match mode {
+/// Makes the updates of a table, each of which makes a change with its rewrites.
+fn make_rows(rt: &impl Abort, alloc: Global, catalogue: &mut Catalogue, rows: &[Row]) {
+    for row in rows {
+        let expected = match catalogue.mode() {
             Mode::Delta => row.delta,
             Mode::Full => row.full,
         };
-        make(rt, alloc, &mut catalogue, row.step, expected);
+        make(rt, alloc, catalogue, row.step, expected);
     }
+}
+
+/// The catalogue after all of the rows.
+fn after_rows(rt: &impl Abort, alloc: Global, mode: Mode) -> Catalogue {
+    let mut catalogue: Catalogue = State::new(alloc, mode, 0).expect(rt, "memory");
+    make_rows(rt, alloc, &mut catalogue, &ROWS);
     catalogue
 }
 
@@ -142,6 +148,57 @@ fn a_history_in_both_modes(rt: HostRuntime) {
     }
 }
 
+/// What is told of a file that is to be removed.
+fn told(file: u32, node: u32) -> Asked {
+    Asked {
+        user: 0,
+        base_root: 0,
+        surface_root: 0,
+        file,
+        node,
+        wants: false,
+    }
+}
+
+/// Makes sure that the second file of the rows is gone: its number isn't given again, and its name
+/// is another file's.
+fn expect_gone(rt: &impl Abort, catalogue: &Catalogue) {
+    let file = name(rt, b"f2");
+    assert!(rt; catalogue.file_at(1).is_none());
+    assert_eq!(rt; catalogue.file_number(&file), Some(5));
+    assert_eq!(rt; catalogue.ask_remove(&file).ok(), Some(told(5, 3)));
+    let none = catalogue.ask_remove(&name(rt, b"f6"));
+    assert_eq!(rt; none.err(), Some(ChainFault::Refused(Refusal::NoFile)));
+    let (files, bytes) = (catalogue.sizes().files, catalogue.sizes().bytes);
+    assert_eq!(rt; (files, bytes), (6, 25));
+}
+
+#[test]
+fn a_removed_file_in_both_modes(rt: HostRuntime) {
+    for mode in [Mode::Delta, Mode::Full] {
+        let mut catalogue = after_rows(&rt, rt.alloc(), mode);
+        let asked = catalogue.ask_remove(&name(&rt, b"f2"));
+        assert_eq!(rt; asked.ok(), Some(told(1, 3)));
+        make_rows(&rt, rt.alloc(), &mut catalogue, &REMOVAL);
+        for (step, fault) in &FAULTS_BEHIND_IT {
+            expect_fault(&rt, rt.alloc(), &mut catalogue, *step, *fault);
+        }
+        expect_gone(&rt, &catalogue);
+    }
+}
+
+/// A file that is gone has no bytes and no readers. Its number counts still.
+#[test]
+fn bytes_and_readers_of_a_removed_file(rt: HostRuntime) {
+    let mut catalogue = after_rows(&rt, rt.alloc(), Mode::Delta);
+    make(&rt, rt.alloc(), &mut catalogue, Step::Remove(1), &[]);
+    assert_eq!(rt; (catalogue.sizes().files, catalogue.sizes().bytes), (5, 20));
+    let (user, file) = (name(&rt, b"a"), name(&rt, b"f2"));
+    let none = catalogue.chain(rt.alloc(), &user, &file);
+    assert_eq!(rt; none.err(), Some(ChainFault::Refused(Refusal::NoFile)));
+    assert_eq!(rt; catalogue.list(&file).err(), Some(Refusal::NoFile));
+}
+
 /// What a grant and the updates before it rewrite in mode Delta: the grant wants two sets that have
 /// no surface node, and its nodes come in the order of the files that want them.
 const TWO_NEW_NODES: [(Step, &[Rewritten]); 7] = [
@@ -165,6 +222,27 @@ fn new_surface_nodes_in_the_order_of_files(rt: HostRuntime) {
         make(&rt, rt.alloc(), &mut catalogue, *step, expected);
     }
     assert_eq!(rt; catalogue.surface().count(), 5);
+}
+
+/// The same, where the second file is removed before: the grant passes over it.
+const ONE_NEW_NODE: [(Step, &[Rewritten]); 8] = [
+    (Step::Enrol(b"a"), &[]),
+    (Step::Enrol(b"b"), &[]),
+    (Step::Enrol(b"c"), &[]),
+    (Step::Create(b"f0", &[0, 1], 2), &[(0, None, None)]),
+    (Step::Create(b"f1", &[0, 1], 0), &[(1, None, None)]),
+    (Step::Remove(1), &[]),
+    (Step::Revoke(1, 0), &[(0, None, Some(0))]),
+    (Step::Grant(2, 0, true), &[(0, Some(0), Some(3))]),
+];
+
+#[test]
+fn no_surface_node_for_a_removed_file(rt: HostRuntime) {
+    let mut catalogue: Catalogue = State::new(rt.alloc(), Mode::Delta, 0).expect(&rt, "memory");
+    for (step, expected) in &ONE_NEW_NODE {
+        make(&rt, rt.alloc(), &mut catalogue, *step, expected);
+    }
+    assert_eq!(rt; catalogue.surface().count(), 4);
 }
 
 /// Makes sure that a reader gets these chains.
@@ -216,6 +294,7 @@ fn the_last_epoch(rt: HostRuntime) {
         (Step::Enrol(b"b"), Refusal::Spent),
         (Step::Enrol(b"a"), Refusal::Taken),
         (Step::Create(b"f", &[], 1), Refusal::Spent),
+        (Step::Remove(0), Refusal::NoFile),
     ];
     for (step, why) in rows {
         expect_fault(&rt, alloc, &mut catalogue, step, PrepareFault::Refused(why));

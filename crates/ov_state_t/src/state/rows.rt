@@ -1,4 +1,5 @@
-//! A history of three users and five files, the updates that make no change after it, and chains.
+//! A history of three users and five files, the updates that make no change after it, and chains; and
+//! the removal of a file, with what is made and refused after that.
 
 use ov_base::Refusal;
 use ov_state::PrepareFault;
@@ -14,6 +15,8 @@ pub enum Step {
     Grant(u32, u32, bool),
     /// A file is revoked from a user.
     Revoke(u32, u32),
+    /// A file is removed.
+    Remove(u32),
 }
 
 /// A file, and the surfaces under which its stored bytes were and are to be.
@@ -127,6 +130,39 @@ pub static FAULTS: [(Step, PrepareFault); 11] = [
         PrepareFault::BadPlan { at: 1 + 8 },
     ),
     (Step::Grant(2, 1, true), PrepareFault::BadPlan { at: 1 + 8 }),
+];
+
+/// The second file goes after all of the rows, and a file of its name comes under the next number.
+pub static REMOVAL: [Row; 2] = [
+    Row {
+        step: Step::Remove(1),
+        delta: &[],
+        full: &[],
+    },
+    Row {
+        step: Step::Create(b"f2", &[0, 1], 0),
+        delta: &[(5, None, Some(3))],
+        full: &[(5, None, Some(3))],
+    },
+];
+
+/// Updates after the removal, and why they make no change in either mode.
+pub static FAULTS_BEHIND_IT: [(Step, PrepareFault); 6] = [
+    (Step::Remove(1), PrepareFault::Refused(Refusal::NoFile)),
+    (Step::Remove(9), PrepareFault::Refused(Refusal::NoFile)),
+    (
+        Step::Grant(2, 1, false),
+        PrepareFault::Refused(Refusal::NoFile),
+    ),
+    (
+        Step::Grant(3, 1, false),
+        PrepareFault::Refused(Refusal::NoUser),
+    ),
+    (Step::Revoke(0, 1), PrepareFault::Refused(Refusal::NoFile)),
+    (
+        Step::Create(b"f2", &[0, 1], 0),
+        PrepareFault::Refused(Refusal::Taken),
+    ),
 ];
 
 /// A reader of a file, and the chains that the reader gets after all of the rows of mode Delta.

@@ -11,13 +11,13 @@ use Rattle.ov_state.proofs.files.Files.push.Goals as goal
 pub overflow_cast-number : goal.overflow_cast-number
 overflow_cast-number c = record { fits = omega (arith, c.self.invariant.0.1, length-plain c.self.inside.list.items) }
 
-pushed : (c : goal.After-push) → c.push.new.self.items ≡ c.self.inside.list.items ++ c.args.file ∷ []
+pushed : (c : goal.After-push) → c.push.new.self.items ≡ c.self.inside.list.items ++ Some c.args.file ∷ []
 pushed c =
     let room = ap (λ (l : FileList). l.spare) c.self.view_is in
     let by_node = vec_capacity c.self.inside.by_node - vec_len c.self.inside.by_node in
     let spare_list = min-le_left (vec_capacity c.self.inside.list - vec_len c.self.inside.list) (min (spare c.self.inside.numbers) by_node) in
     c.push.ensures.items
-    ∙ ap (λ b. if b then c.self.inside.list.items ++ c.args.file ∷ [] else c.self.inside.list.items)
+    ∙ ap (λ b. if b then c.self.inside.list.items ++ Some c.args.file ∷ [] else c.self.inside.list.items)
     (c.push.ensures.succeeds (omega (arith, room, c.requires.room, spare_list)))
 
 -- there is room for the number, in both

@@ -1,15 +1,15 @@
 use Rattle.std.proofs.Common.{ℕ, sym, ◌∙◌, ap, not, subst}
 use Rattle.ov_state.specs.Asking.{Plans}
-use Rattle.ov_state.proofs.NewTests.{file_test, first_here, first_later}
+use Rattle.ov_state.proofs.NewTests.{first_here, first_later}
 use Rattle.ov_state.proofs.state.State.cover.Goals as goal
 
 pub returns-then-has_file : goal.returns-then-has_file
 returns-then-has_file g c =
-    first_here _ _ _ (file_test c.args.self.now.catalogue c.args.name.now c.files_known.ensures ∙ sym c.has_file.ensures ∙ c.if-has_file.true)
+    first_here _ _ _ (sym c.has_file.ensures.shown ∙ c.if-has_file.true)
 
 pub returns-in_default : goal.returns-in_default
 returns-in_default g c =
-    first_later _ _ _ (file_test c.args.self.now.catalogue c.args.name.now c.files_known.ensures ∙ sym c.has_file.ensures ∙ c.if-has_file.false)
+    first_later _ _ _ (sym c.has_file.ensures.shown ∙ c.if-has_file.false)
     ∙ first_here _ _ _ (ap not c.in_default.ensures.none)
 
 pub returns : goal.returns

@@ -15,8 +15,9 @@ pub collect_file-requires : goal.collect_file-requires
 collect_file-requires g c =
     let s = c.args.self.now.catalogue in
     let file = c.moving-numbers.ensures.own c.loop-file.file-index c.loop-file-test.true in
-    let next = next-moving s c.args.relisting.now _ c.known.ensures c.files_known.ensures
+    let next = next-moving s c.args.relisting.now _ c.known.ensures
     (λ (ws : List (Option ℕ)). g.C.Collector.has c.args.collector.now s ws c.loop-file.collector) (c.known-in-loop-file.ensures.stays c.args.collector.now s)
+    (c.known-in-loop-file.ensures.gone c.args.collector.now s)
     c.moving-numbers.result.now c.moving-numbers.ensures c.loop-file.file-index c.loop-file-test.true c.loop-file.invariant in
     (search rules, (search rules, (c.requires.relisting, (file, (c.args.collector.now, next)))))
 
@@ -24,8 +25,9 @@ pub loop-file-preserved : goal.loop-file-preserved
 loop-file-preserved g c =
     let s = c.args.self.now.catalogue in
     let wants : List (Option ℕ) = wants_after (outline s) c.args.relisting.now 0 (outline s).files in
-    let next = next-moving s c.args.relisting.now _ c.known.ensures c.files_known.ensures
+    let next = next-moving s c.args.relisting.now _ c.known.ensures
     (λ (ws : List (Option ℕ)). g.C.Collector.has c.args.collector.now s ws c.loop-file.collector) (c.known-in-loop-file.ensures.stays c.args.collector.now s)
+    (c.known-in-loop-file.ensures.gone c.args.collector.now s)
     c.moving-numbers.result.now c.moving-numbers.ensures c.loop-file.file-index c.loop-file-test.true c.loop-file.invariant in
     subst (λ n. g.C.Collector.has c.args.collector.now s (take n wants) c.collect_file.new.collector)
     (behind-more c.moving-numbers.result.now c.loop-file.file-index) (c.in_ok-collect_file.ensures.ok c.args.collector.now next)
@@ -46,16 +48,18 @@ returns-then-is_spent-clause-room g c =
     let s = c.args.self.now.catalogue in
     let y = outline s in
     let wants : List (Option ℕ) = wants_after y c.args.relisting.now 0 y.files in
-    let all = last-moving s c.args.relisting.now _ c.known.ensures c.files_known.ensures
+    let all = last-moving s c.args.relisting.now _ c.known.ensures
     (λ (ws : List (Option ℕ)). g.C.Collector.has c.args.collector.now s ws c.loop-file.collector) (c.known-2.ensures.stays c.args.collector.now s)
+    (c.known-2.ensures.gone c.args.collector.now s)
     c.moving-numbers.result.now c.moving-numbers.ensures c.loop-file.file-index (omega arith) c.loop-file.invariant in
     spent-room (with_wants s.surface.sets wants) s.epoch (c.known-2.ensures.few c.args.collector.now s wants all) (sym c.is_spent.ensures ∙ c.if-is_spent.true)
 
 pub returns-clause-ok : goal.returns-clause-ok
 returns-clause-ok g c =
     let s = c.args.self.now.catalogue in
-    last-moving s c.args.relisting.now _ c.known.ensures c.files_known.ensures
+    last-moving s c.args.relisting.now _ c.known.ensures
     (λ (ws : List (Option ℕ)). g.C.Collector.has c.args.collector.now s ws c.loop-file.collector) (c.known-2.ensures.stays c.args.collector.now s)
+    (c.known-2.ensures.gone c.args.collector.now s)
     c.moving-numbers.result.now c.moving-numbers.ensures c.loop-file.file-index (omega arith) c.loop-file.invariant
 
 pub returns-clause-room : goal.returns-clause-room
@@ -63,7 +67,8 @@ returns-clause-room g c =
     let s = c.args.self.now.catalogue in
     let y = outline s in
     let wants : List (Option ℕ) = wants_after y c.args.relisting.now 0 y.files in
-    let all = last-moving s c.args.relisting.now _ c.known.ensures c.files_known.ensures
+    let all = last-moving s c.args.relisting.now _ c.known.ensures
     (λ (ws : List (Option ℕ)). g.C.Collector.has c.args.collector.now s ws c.loop-file.collector) (c.known-2.ensures.stays c.args.collector.now s)
+    (c.known-2.ensures.gone c.args.collector.now s)
     c.moving-numbers.result.now c.moving-numbers.ensures c.loop-file.file-index (omega arith) c.loop-file.invariant in
     some-room (with_wants s.surface.sets wants) s.epoch (c.known-2.ensures.few c.args.collector.now s wants all) (sym c.is_spent.ensures ∙ c.if-is_spent.false)
