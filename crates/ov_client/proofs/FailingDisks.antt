@@ -120,7 +120,8 @@ chunk_other s r tries c stored (answers.Bytes bytes) is =
     sized_other r tries c stored (chunk_bytes c.length (length stored)) bytes
 chunk_other s r tries c stored (answers.Moved now) is =
     again_other (tries ++ c.generation ∷ []) now
-chunk_other s r tries c stored (answers.Refused why) is = tt
+chunk_other s r tries c stored (answers.Refused why) is =
+    again_other (tries ++ c.generation ∷ []) (c.generation + 1)
 chunk_other s r tries c stored answers.DeviceFault is =
     absurd (no_fault (living_at s.catalogue.files c.file)
     (option_map (λ bytes. slice_index_or bytes c.file []) s.stored) c.generation (length stored)

@@ -1,3 +1,4 @@
+pub mod Agreeing
 pub mod Alone
 pub mod Answering
 pub mod Coats

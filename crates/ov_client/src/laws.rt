@@ -20,7 +20,7 @@ pub fn reads_are_answered()
     ensures { ReadsAreAnswered }
 {}
 
-/// The generations of nine tries, in each of which the file moved, rise.
+/// The generations of nine tries, in each of which the file moved or was removed, rise.
 pub fn moved_generations_rise()
     ensures { MovedGenerationsRise }
 {}

@@ -4,23 +4,23 @@
 //! From these alone it reads a file: it asks a peer for the chains from the roots to the file's
 //! nodes, derives the keys along them, asks for the stored bytes chunk after chunk, takes both
 //! coats off, and gives the bytes only if the file's tag is theirs. Where the file's surface
-//! changes meanwhile, it begins again, nine times in all.
+//! changes meanwhile, or the file is removed, it begins again, nine times in all.
 //!
 //! ```text
 //! fetch ──► try_once ──► ask_chain     Chain: the chains, or a refusal
 //!   ▲          │
 //!   │          └───────► read_along    keys along the chains, tag
 //!   │                      │
-//!   │                      └► gather ──► ask_chunk   Chunk: bytes, or Moved
+//!   │                      └► gather ──► ask_chunk   Chunk: bytes, or begin again
 //!   └── again, up to nine tries ◄────────────┘
 //! ```
 //!
 //! What a read asks and what it comes to is one definition, an automaton over the replies
 //! (`Talks`). [`Client::read`] promises that its asks lead from the peer that it found to the one
 //! that it left, and are such a talk with just its result. So each fault has its cause there: the
-//! refusal or the disk's fault that was answered, the place of the first byte that can't be, both
-//! tags, the nine generations. A fault of the link comes only where the peer's count of faults
-//! rose.
+//! refusal of the chains or the disk's fault that was answered, the place of the first byte that
+//! can't be, both tags, the nine generations. A fault of the link comes only where the peer's count
+//! of faults rose.
 //!
 //! An owner hands a user the keys as a line of text: [`Client::line`] writes it, and
 //! [`Client::from_line`] reads it exactly where it is one. A line has one reader
