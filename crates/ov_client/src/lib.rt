@@ -31,7 +31,8 @@
 //! Where nobody changes a right history meanwhile, a read by the keys of the user's own roots ends
 //! so unless it is cut off: by the server's disk, by the link or by a lack of memory (`complete` of
 //! each call, and [`reads_are_answered`]).
-//! The nine generations rise ([`moved_generations_rise`]).
+//! The nine generations rise ([`moved_generations_rise`]), and a read is refused only where its last
+//! ask for chains was ([`refusals_are_of_chains`]).
 //!
 //! | file in `specs/` | says |
 //! |---|---|
@@ -42,6 +43,7 @@
 //! | `Tries` | of the code alone: what came of a part of a try |
 //! | `Causes` | where a fault of the link comes |
 //! | `Rising` | the generations of a read that is unsettled |
+//! | `Refusing` | which ask of a read that is refused was refused |
 //! | `KeyLines` | the line of a reader's keys, as it is written and as it may be read |
 //! | `Laws` | the laws |
 //! | `Told` | what a read gives over a peer that tells its history |
@@ -64,4 +66,5 @@ pub use client::Client;
 pub use fault::ClientFault;
 pub use laws::{
     lines_are_read_once, moved_generations_rise, reads_are_answered, reads_are_the_machines,
+    refusals_are_of_chains,
 };
