@@ -5,12 +5,10 @@ use Rattle.std.proofs.Common.{◌≤◌, arith}
 use Rattle.ov_base.specs.Causes.{Rose}
 use Rattle.ov_base.specs.declared.limits.TheConstants.{MAX_CHUNK_BYTES}
 use Rattle.ov_record.specs.Updates.{SealedUpdate}
+use Rattle.ov_history.specs.FadingLaws.{IsRight}
 use Rattle.ov_history.specs.Masters.{Masters}
-use Rattle.ov_history.specs.Plain.{PlainHistory, history_of}
-use Rattle.ov_history.specs.Refusals.{IsLegal}
+use Rattle.ov_history.specs.Plain.{PlainHistory}
 use Rattle.ov_history.specs.Sealed.{SealedHistory}
-use Rattle.ov_history.specs.Sealing.{sealed}
-use Rattle.ov_history.proofs.Sealing.{sealed_comes_of_one}
 use Rattle.ov_wire.specs.Requests.{HasRequestForm, request_bytes}
 use Rattle.ov_wire.specs.declared.request.Request.{Request}
 use Rattle.ov_wire.specs.declared.request.Request.TheVariants as requests
@@ -31,6 +29,7 @@ use Rattle.ov_client.specs.Reads.{Reads}
 use Rattle.ov_client.specs.Talks.{AsksChain, AsksChunk, Ends, Goes, Stage, asked_at}
 use Rattle.ov_client.specs.declared.fault.ClientFault.{ClientFault}
 use Rattle.ov_client.specs.declared.fault.ClientFault.TheVariants as client
+use Rattle.ov_client.proofs.Agreeing.{reads_alike}
 use Rattle.ov_client.proofs.FailingDisks.{read_fails}
 use Rattle.ov_client.proofs.Machine.{reads_are_the_machines}
 use Rattle.ov_client.proofs.Settled.{reads_are_answered}
@@ -120,12 +119,15 @@ chain_is h (a ∷ asks) (g ∷ histories) before at_one (one, same) first is =
     chain_is h asks histories (now_if (is_chain a.request) g before) at_one same
     (now_is (is_chain a.request) g h before at_one one first) is
 
--- each history is right that is this one
-pub all_right : (k : Masters) (p : PlainHistory) (histories : List SealedHistory)
-    → IsLegal (history_of p) → AllAre (sealed k p) histories → AreRight k histories
-all_right k p [] legal same = tt
-all_right k p (g ∷ histories) legal (one, same) =
-    ((p, legal, one), all_right k p histories legal same)
+-- each history is right that is this one, which is
+pub all_right : (k : Masters) (p : PlainHistory) (g : SealedHistory)
+    (histories : List SealedHistory)
+    → IsRight k p g → AllAre g histories → AreRight k histories
+all_right k p g [] right same = tt
+all_right k p g (other ∷ histories) right (one, same) = (
+  (p, subst (λ (h : SealedHistory). IsRight k p h) (sym one) right),
+  all_right k p g histories right same,
+)
 
 -- ---- counts of faults
 
@@ -142,49 +144,52 @@ module _ {P : Type 0} (peer : PeerTells P) (p q : P) (r : Reader) (file : List �
   Disk = FailsDisk peer p q
 
   -- what the machine answers at the history of the last Chain it answers at this one
-  machine_there : (k : Masters) (h : PlainHistory) (asks : List Ask)
+  machine_there : (k : Masters) (h : PlainHistory) (g : SealedHistory) (asks : List Ask)
       (histories : List SealedHistory) (result : Result (List ℕ) ClientFault)
-      → AllAre (sealed k h) histories
+      → IsRight k h g → AllAre g histories
       → MachineAnswers k (last_chain None asks histories) r.name file result
       → IsReadAt h r.name file result
-  machine_there k h asks histories result same (other, legal, at_one, reads) =
-      let there : sealed k other ≡ sealed k h =
-      chain_is (sealed k h) asks histories None (sealed k other) same (λ none. absurd (cc none))
-      at_one in
-      subst (λ (x : PlainHistory). IsReadAt x r.name file result)
-      (sealed_comes_of_one k other h there) reads
+  machine_there k h g asks histories result right same (other, there, at_one, too, reads) =
+      let is : there ≡ g =
+      chain_is g asks histories None there same (λ none. absurd (cc none)) at_one in
+      reads_alike k other h g r.name file result
+      (subst (λ (x : SealedHistory). IsRight k other x) is too) right reads
 
   module _ (Stays Linked : Type 0) where
-    by_result : (k : Masters) (h : PlainHistory) (asks : List Ask)
+    by_result : (k : Masters) (h : PlainHistory) (g : SealedHistory) (asks : List Ask)
         (histories : List SealedHistory) (result : Result (List ℕ) ClientFault)
-        → AllAre (sealed k h) histories
+        → IsRight k h g → AllAre g histories
         → IsAsMachine k (last_chain None asks histories) r.name file result
         → IsAnsweredOrCut result → (result ≡ Err client.Device → Disk)
         → (result ≡ Err client.Link → Linked)
         → ((result ≡ Err client.Link → ⊥) → (result ≡ Err client.Memory → ⊥) → Stays)
         → IsReadOrCut h r.name file Stays Disk Linked result
-    by_result k h asks histories (Ok bytes) same machine cut failed linked stays = (
-      machine_there k h asks histories (Ok bytes) same machine,
+    by_result k h g asks histories (Ok bytes) right same machine cut failed linked stays = (
+      machine_there k h g asks histories (Ok bytes) right same machine,
       stays (λ e. cc e) (λ e. cc e),
     )
-    by_result k h asks histories (Err (client.Refused why)) same machine cut failed linked stays = (
-      machine_there k h asks histories (Err (client.Refused why)) same machine,
-      stays (λ e. cc e) (λ e. cc e),
-    )
-    by_result k h asks histories (Err client.Link) same machine cut failed linked stays =
+    by_result k h g asks histories (Err (client.Refused why)) right same machine cut failed linked
+        stays = (
+          machine_there k h g asks histories (Err (client.Refused why)) right same machine,
+          stays (λ e. cc e) (λ e. cc e),
+        )
+    by_result k h g asks histories (Err client.Link) right same machine cut failed linked stays =
         linked refl
-    by_result k h asks histories (Err (client.BadReply place)) same machine cut failed linked
+    by_result k h g asks histories (Err (client.BadReply place)) right same machine cut failed
+        linked stays =
+        absurd cut
+    by_result k h g asks histories (Err (client.Damaged stored computed)) right same machine cut
+        failed linked stays =
+        absurd cut
+    by_result k h g asks histories (Err client.Device) right same machine cut failed linked
         stays =
-        absurd cut
-    by_result k h asks histories (Err (client.Damaged stored computed)) same machine cut failed
-        linked stays =
-        absurd cut
-    by_result k h asks histories (Err client.Device) same machine cut failed linked stays =
         failed refl
-    by_result k h asks histories (Err (client.Unsettled generations)) same machine cut failed
-        linked stays =
+    by_result k h g asks histories (Err (client.Unsettled generations)) right same machine cut
+        failed linked stays =
         absurd cut
-    by_result k h asks histories (Err client.Memory) same machine cut failed linked stays = tt
+    by_result k h g asks histories (Err client.Memory) right same machine cut failed linked
+        stays =
+        tt
 
   -- a read is the machine's, or cut off
   pub read_said : (Linked : Type 0) (k : Masters) (h : PlainHistory) (v : Service)
@@ -196,13 +201,12 @@ module _ {P : Type 0} (peer : PeerTells P) (p q : P) (r : Reader) (file : List �
       (asks, unanswered, (m, leads, ends), (last, goes, closes)) linked =
       let ((histories, along, same), still) = read_alone peer alone r file asks
       (AsksChain [] 0) last p m v goes leads serving in
-      let all : AllAre (sealed k h) histories =
-      subst (λ (g : SealedHistory). AllAre g histories) store.history same in
-      by_result (peer.serves q v) Linked k h asks histories result all
+      let right : IsRight k h v.history = (store.legal, store.history) in
+      by_result (peer.serves q v) Linked k h v.history asks histories result right same
       (reads_are_the_machines k r file asks unanswered result v v histories holds store.surface
-      (last, goes, closes) along (all_right k h histories store.legal all))
-      (reads_are_answered k r file asks unanswered result v v histories h holds roots
-      store.surface (last, goes, closes) along store.legal all)
+      (last, goes, closes) along (all_right k h v.history histories right same))
+      (reads_are_answered k r file asks unanswered result v v histories h v.history holds roots
+      store.surface (last, goes, closes) along right same)
       (λ device.
       read_fails peer alone r file p q v
       (subst (λ (x : Result (List ℕ) ClientFault). Reads peer p q r file x) device

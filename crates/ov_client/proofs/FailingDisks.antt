@@ -1,14 +1,12 @@
 -- Where a read ends with a fault of the server's disk, the server replied that its disk failed.
-use Rattle.std.proofs.Common.{◌≡◌, ℕ, List, [], ◌∷◌, ◌++◌, length, Bool, true, false}
+use Rattle.std.proofs.Common.{◌≡◌, ℕ, List, [], ◌∷◌, ◌++◌, length}
 use Rattle.std.proofs.Common.{Option, Some, None, Result, Ok, Err, refl, sym, subst, inl, inr}
-use Rattle.std.specs.Prelude.{◌⊎◌, ◌+◌, min, nat_lt, ◌==◌, bytes_eq, if◌then◌else◌}
-use Rattle.std.specs.Prelude.{option_map, slice_index_or}
+use Rattle.std.specs.Prelude.{◌⊎◌, ◌+◌, option_map, slice_index_or}
 use Rattle.ov_base.specs.declared.limits.TheConstants.{MAX_CHUNK_BYTES}
 use Rattle.ov_fields.specs.Fronts.{AreAllBytes}
 use Rattle.ov_record.specs.Updates.{SealedUpdate}
 use Rattle.ov_history.specs.Catalogue.{Filed}
 use Rattle.ov_history.specs.Places.{living_at}
-use Rattle.ov_surface.specs.Tags.{tag_of_file}
 use Rattle.ov_wire.specs.AnswerReading.{answer_of}
 use Rattle.ov_wire.specs.Requests.{HasRequestForm, request_bytes}
 use Rattle.ov_wire.specs.declared.answer.Answer.{Answer}
@@ -25,13 +23,13 @@ use Rattle.ov_peer.specs.Alone.{IsAlone}
 use Rattle.ov_peer.specs.Asks.{Ask, EndsAt, Leads}
 use Rattle.ov_peer.specs.Tells.{PeerTells}
 use Rattle.ov_client.specs.Completeness.{FailsDisk}
-use Rattle.ov_client.specs.Readers.{Reader, judged, keys_along, uncovered}
+use Rattle.ov_client.specs.Readers.{Reader}
 use Rattle.ov_client.specs.Reads.{Reads}
 use Rattle.ov_client.specs.Talks.{AsksChain, AsksChunk, Closes, Ends, Goes, IsAfter, Moves, Stage}
-use Rattle.ov_client.specs.Talks.{after, after_fetched, again, asked_at, goes_on, then_or}
-use Rattle.ov_client.specs.Telling.{chained_unless, chunk_bytes, sized, wrong_field}
+use Rattle.ov_client.specs.Talks.{after, asked_at}
+use Rattle.ov_client.specs.Telling.{chunk_bytes, wrong_field}
 use Rattle.ov_client.specs.declared.fault.ClientFault.TheVariants as client
-use Rattle.ov_client.specs.declared.telling.Fetched.TheVariants.{Bytes}
+use Rattle.ov_client.proofs.Stages.{HoldsOnTheWay, again_holds, sized_holds, unless_holds}
 
 -- a disk that fails from a later peer on fails from an earlier one on too
 pub fails_later : {P : Type 0} (peer : PeerTells P) (p m q : P)
@@ -58,53 +56,23 @@ abbrev IsOther : Stage → Type 0
 IsOther (Ends (Err client.Device)) = ⊥
 IsOther stage = Unit {0}
 
-judged_other : (r : Reader) (c : Chained) (bytes : List ℕ)
-    → IsOther (Ends (judged (keys_along r c) c bytes))
-judged_other r c bytes =
-    by (bytes_eq (tag_of_file (keys_along r c).access c.file bytes) c.tag) where
-      by : (b : Bool)
-          → IsOther (Ends (if b then Ok bytes
-          else Err (client.Damaged c.tag (tag_of_file (keys_along r c).access c.file bytes))))
-      by true = tt
-      by false = tt
-
-goes_on_other : (r : Reader) (tries : List ℕ) (c : Chained) (stored : List ℕ)
-    → IsOther (goes_on r tries c stored)
-goes_on_other r tries c stored = by (nat_lt (length stored) c.length) where
-  by : (b : Bool)
-      → IsOther (if b then AsksChunk tries c stored
-      else Ends (judged (keys_along r c) c (uncovered (keys_along r c) c.file 0 stored)))
-  by true = tt
-  by false = judged_other r c (uncovered (keys_along r c) c.file 0 stored)
-
-again_other : (tries : List ℕ) (least : ℕ) → IsOther (again tries least)
-again_other tries least = by (length tries == 9) where
-  by : (b : Bool)
-      → IsOther (if b then Ends (Err (client.Unsettled tries)) else AsksChain tries least)
-  by true = tt
-  by false = tt
-
-unless_other : (r : Reader) (tries : List ℕ) (o : Option ℕ) (c : Chained)
-    → IsOther (then_or (λ (d : Chained). goes_on r tries d []) (chained_unless o c))
-unless_other r tries None c = goes_on_other r tries c []
-unless_other r tries (Some place) c = tt
+on_the_way : HoldsOnTheWay IsOther
+on_the_way = record {
+  chain = λ tries least. tt;
+  chunk = λ tries c stored. tt;
+  done = λ bytes. tt;
+  damaged = λ stored computed. tt;
+  bad = λ place. tt;
+  unsettled = λ generations. tt;
+}
 
 chain_other : (r : Reader) (tries : List ℕ) (least : ℕ) (a : Answer)
     → IsOther (after r (AsksChain tries least) (Ok a))
-chain_other r tries least (answers.Chained c) = unless_other r tries (wrong_field r least c) c
+chain_other r tries least (answers.Chained c) =
+    unless_holds r IsOther on_the_way tries (wrong_field r least c) c
 chain_other r tries least (answers.Refused why) = tt
 chain_other r tries least answers.NoMemory = tt
 chain_other r tries least a = tt
-
-sized_other : (r : Reader) (tries : List ℕ) (c : Chained) (stored : List ℕ) (count : ℕ)
-    (bytes : List ℕ)
-    → IsOther (then_or (after_fetched r tries c stored) (sized count bytes))
-sized_other r tries c stored count bytes = by (length bytes == count) where
-  by : (b : Bool)
-      → IsOther (then_or (after_fetched r tries c stored)
-      (if b then Ok (Bytes bytes) else Err (client.BadReply (1 + min (length bytes) count))))
-  by true = goes_on_other r tries c (stored ++ bytes)
-  by false = tt
 
 no_fault : (o : Option Filed) (told : Option (List ℕ)) (generation start count : ℕ)
     → AnswersChunk o told generation start count answers.DeviceFault → ⊥
@@ -117,10 +85,11 @@ chunk_other : (s : Serving) (r : Reader) (tries : List ℕ) (c : Chained) (store
     → Answers s (requests.Chunk c.file c.generation (length stored) MAX_CHUNK_BYTES) a
     → IsOther (after r (AsksChunk tries c stored) (Ok a))
 chunk_other s r tries c stored (answers.Bytes bytes) is =
-    sized_other r tries c stored (chunk_bytes c.length (length stored)) bytes
+    sized_holds r IsOther on_the_way tries c stored (chunk_bytes c.length (length stored)) bytes
 chunk_other s r tries c stored (answers.Moved now) is =
-    again_other (tries ++ c.generation ∷ []) now
-chunk_other s r tries c stored (answers.Refused why) is = tt
+    again_holds r IsOther on_the_way (tries ++ c.generation ∷ []) now
+chunk_other s r tries c stored (answers.Refused why) is =
+    again_holds r IsOther on_the_way (tries ++ c.generation ∷ []) (c.generation + 1)
 chunk_other s r tries c stored answers.DeviceFault is =
     absurd (no_fault (living_at s.catalogue.files c.file)
     (option_map (λ bytes. slice_index_or bytes c.file []) s.stored) c.generation (length stored)

@@ -2,23 +2,22 @@
 use Rattle.std.proofs.Common.{◌≡◌, ◌∙◌, ◌≤◌, ℕ, Bool, true, false}
 use Rattle.std.proofs.Common.{List, [], ◌∷◌, ◌++◌, length, take, drop, Option, Some, None}
 use Rattle.std.proofs.Common.{Ok, Err, refl, sym, ap, subst, arith, append_assoc}
-use Rattle.std.specs.Prelude.{◌+◌, min, ◌==◌, nat_lt, if◌then◌else◌, slice_index_or}
+use Rattle.std.specs.Prelude.{◌+◌, min, ◌==◌, nat_lt, if◌then◌else◌, is_some, slice_index_or}
 use Rattle.std.proofs.Math.Seq.{drop-append_seam}
 use Rattle.std.proofs.lemmas.List.{append-nil, take-append-drop}
 use Rattle.ov_base.proofs.Tests.{ge_of_false}
 use Rattle.ov_base.specs.declared.limits.TheConstants.{MAX_CHUNK_BYTES}
+use Rattle.ov_base.specs.declared.refusal.Refusal.TheVariants.{NoFile}
 use Rattle.ov_record.specs.Updates.{SealedUpdate}
-use Rattle.ov_surface.specs.Coats.{stored_under}
 use Rattle.ov_history.specs.Asking.{file_named, user_named}
-use Rattle.ov_history.specs.Catalogue.{Catalogue, matrix_shown}
+use Rattle.ov_history.specs.Catalogue.{Catalogue, Filed, matrix_shown}
+use Rattle.ov_history.specs.FadingLaws.{IsRight}
 use Rattle.ov_history.specs.Masters.{Masters}
-use Rattle.ov_history.specs.Plain.{PlainHistory, bytes_of, history_of}
-use Rattle.ov_history.specs.Refusals.{IsLegal, read_refusal}
-use Rattle.ov_history.specs.Rewrites.{surface_key}
-use Rattle.ov_history.specs.Sealed.{SealedHistory, catalogue_of, sent_of, stored_of}
+use Rattle.ov_history.specs.Places.{living_at}
+use Rattle.ov_history.specs.Plain.{PlainHistory, bytes_of}
+use Rattle.ov_history.specs.Refusals.{read_refusal}
+use Rattle.ov_history.specs.Sealed.{SealedHistory, catalogue_of, stored_of}
 use Rattle.ov_history.specs.Sealing.{sealed}
-use Rattle.ov_history.proofs.Sealing.{sealed_is_sealed}
-use Rattle.ov_history.proofs.Storing.{stored_is_coated}
 use Rattle.ov_wire.specs.declared.answer.Answer.{Answer}
 use Rattle.ov_wire.specs.declared.answer.Answer.TheVariants as answers
 use Rattle.ov_wire.specs.declared.answer.Chained.{Chained}
@@ -32,9 +31,10 @@ use Rattle.ov_client.specs.Telling.{chained_unless, chunk_bytes, wrong_field}
 use Rattle.ov_client.specs.declared.fault.ClientFault.TheVariants as client
 use Rattle.ov_client.specs.declared.reading.TheConstants.{TRIES}
 use Rattle.ov_client.specs.declared.telling.Fetched.TheVariants.{Bytes}
+use Rattle.ov_client.proofs.Agreeing.{right_keeps, right_shows}
 use Rattle.ov_client.proofs.Leading.{BeginsAt}
 use Rattle.ov_client.proofs.Opening.{file_is, judged_is, length_is, read_named, there}
-use Rattle.ov_client.proofs.Staying.{IsIn, file_in, found_file, same_file, same_text, stays_followed}
+use Rattle.ov_client.proofs.Staying.{IsIn, file_in, found_file, same_stored}
 use Rattle.ov_client.proofs.Fields.{no_field, no_rest}
 
 module _ (k : Masters) (r : Reader) (file : List ℕ) (holds : HoldsRootKeys k r) where
@@ -43,10 +43,11 @@ module _ (k : Masters) (r : Reader) (file : List ℕ) (holds : HoldsRootKeys k r
   pub record IsFetching (v : Service) (c : Chained) (stored : List ℕ)
       (at_one : Option SealedHistory) : Type 0 where
     pub plain : PlainHistory
-    pub legal : IsLegal (history_of plain)
-    pub chained_at : at_one ≡ Some (sealed k plain)
+    pub history : SealedHistory
+    pub right : IsRight k plain history
+    pub chained_at : at_one ≡ Some history
     pub more : List SealedUpdate
-    pub goes : v.history ≡ followed (sealed k plain) more
+    pub goes : v.history ≡ followed history more
     pub allowed : read_refusal (matrix_shown (catalogue_of k.surface (sealed k plain)))
         (user_named (catalogue_of k.surface (sealed k plain)) r.name)
         (file_named (catalogue_of k.surface (sealed k plain)) file)
@@ -88,34 +89,34 @@ module _ (k : Masters) (r : Reader) (file : List ℕ) (holds : HoldsRootKeys k r
           let s : Catalogue = catalogue_of k.surface (sealed k f.plain) in
           let n : ℕ = file_named s file in
           let text : List ℕ = slice_index_or (stored_of k.surface (sealed k f.plain)) n [] in
-          let low : IsIn s.files n = there k f.plain f.legal (user_named s r.name) n
+          let low : IsIn s.files n = there k f.plain f.right.0 (user_named s r.name) n
           f.allowed in
           let split : text ≡ stored ++ f.rest =
           ap (λ m. slice_index_or (stored_of k.surface (sealed k f.plain)) m []) (sym f.told.file)
           ∙ f.front in
           let size : length text ≡ c.length =
-          length_is k f.plain f.legal n low ∙ sym f.told.length in
+          length_is k f.plain f.right.0 n low ∙ sym f.told.length in
           let enough : c.length ≤ length stored = ge_of_false (length stored) c.length is in
           let long : length text ≡ length (stored ++ f.rest) = ap length split in
           let whole : stored ≡ text =
           sym (split ∙ no_rest stored f.rest (omega (arith, size, enough, long))) in
-          let ok = judged_is k f.plain f.legal r holds (user_named s r.name) n c low f.told f.base
-          f.surface stored whole in
+          let ok = judged_is k f.plain f.right.0 r holds (user_named s r.name) n c low f.told
+          f.base f.surface stored whole in
           subst (IsAsMachine k at_one r.name file) (sym ok) (
             f.plain,
-            f.legal,
+            f.history,
             f.chained_at,
+            f.right,
             (
-              sym (read_named k f.plain f.legal r.name file) ∙ f.allowed,
-              ap (bytes_of f.plain) (file_is k f.plain f.legal file),
+              sym (read_named k f.plain f.right.0 r.name file) ∙ f.allowed,
+              ap (bytes_of f.plain) (file_is k f.plain f.right.0 file),
             ),
           )
 
   -- ---- an answer to Chain
 
   module _ (v : Service) (tries : List ℕ) (least : ℕ) (p : PlainHistory)
-      (legal : IsLegal (history_of p))
-      (at_p : v.history ≡ sealed k p) where
+      (right : IsRight k p v.history) where
     abbrev c_at : Catalogue
     c_at = catalogue_of k.surface (sealed k p)
 
@@ -123,18 +124,19 @@ module _ (k : Masters) (r : Reader) (file : List ℕ) (holds : HoldsRootKeys k r
         → AnswersChain c_at (user_named c_at r.name) (file_named c_at file) (answers.Chained c)
         → (o : Option ℕ) → wrong_field r least c ≡ o
         → StandsAt v (then_or (λ (d : Chained). goes_on r tries d []) (chained_unless o c))
-        (Some (sealed k p))
+        (Some v.history)
     unfolding StandsAt
     told_stands c (allowed, told) (Some place) wrong = tt
     told_stands c (allowed, told) None wrong =
         let (base, surface) = no_field r least c wrong in
-        goes_on_stands v tries (Some (sealed k p)) c [] (record {
+        goes_on_stands v tries (Some v.history) c [] (record {
           plain = p;
-          legal = legal;
+          history = v.history;
+          right = right;
           chained_at = refl;
           more = [];
-          goes = at_p ∙ sym (ap (λ (us : List SealedUpdate). record (sealed k p) { updates = us })
-              (append-nil (sealed k p).updates));
+          goes = sym (ap (λ (us : List SealedUpdate). record v.history { updates = us })
+              (append-nil v.history.updates));
           allowed = allowed;
           told = told;
           base = base;
@@ -145,11 +147,11 @@ module _ (k : Masters) (r : Reader) (file : List ℕ) (holds : HoldsRootKeys k r
 
     pub chain_stands : (answer : Answer)
         → AnswersChain c_at (user_named c_at r.name) (file_named c_at file) answer
-        → StandsAt v (after r (AsksChain tries least) (Ok answer)) (Some (sealed k p))
+        → StandsAt v (after r (AsksChain tries least) (Ok answer)) (Some v.history)
     unfolding StandsAt
     chain_stands (answers.Chained c) is = told_stands c is (wrong_field r least c) refl
     chain_stands (answers.Refused why) is =
-        (p, legal, refl, sym (read_named k p legal r.name file) ∙ is)
+        (p, v.history, refl, right, sym (read_named k p right.0 r.name file) ∙ is)
     chain_stands answers.NoMemory is = tt
     chain_stands answer is = tt
 
@@ -158,8 +160,7 @@ module _ (k : Masters) (r : Reader) (file : List ℕ) (holds : HoldsRootKeys k r
   module _ (v : Service) (tries : List ℕ) (c : Chained) (stored : List ℕ)
       (at_one : Option SealedHistory)
       (f : IsFetching v c stored at_one) (others : List SealedUpdate)
-      (q : PlainHistory) (legal : IsLegal (history_of q))
-      (at_q : followed v.history others ≡ sealed k q) where
+      (q : PlainHistory) (right : IsRight k q (followed v.history others)) where
     abbrev before : Catalogue
     before = catalogue_of k.surface (sealed k f.plain)
 
@@ -169,58 +170,56 @@ module _ (k : Masters) (r : Reader) (file : List ℕ) (holds : HoldsRootKeys k r
     abbrev all_more : List SealedUpdate
     all_more = f.more ++ others
 
-    goes_to : sealed k q ≡ followed (sealed k f.plain) all_more
+    goes_to : followed v.history others ≡ followed f.history all_more
     goes_to =
-        sym at_q ∙ ap (λ (g : SealedHistory). followed g others) f.goes
-        ∙ ap (λ (us : List SealedUpdate). record (sealed k f.plain) { updates = us })
-        (append_assoc (sealed k f.plain).updates f.more others)
+        ap (λ (g : SealedHistory). followed g others) f.goes
+        ∙ ap (λ (us : List SealedUpdate). record f.history { updates = us })
+        (append_assoc f.history.updates f.more others)
 
     low : IsIn before.files c.file
     low =
         subst (λ n. IsIn before.files n) (sym f.told.file)
-        (there k f.plain f.legal (user_named before r.name) (file_named before file) f.allowed)
-
-    pub still : IsIn now.files c.file
-    still =
-        subst (λ (g : SealedHistory). IsIn (catalogue_of k.surface g).files c.file)
-        (sym goes_to)
-        (stays_followed k.surface (sealed k f.plain) all_more c.file low).is_in
+        (there k f.plain f.right.0 (user_named before r.name) (file_named before file) f.allowed)
 
     generation_before : c.generation ≡ (file_in before.files c.file).generation
     generation_before =
         f.told.generation ∙ ap (λ n. (file_in before.files n).generation) (sym f.told.file)
 
-    -- bytes of the same generation are the same
-    same_stored : (file_in now.files c.file).generation ≡ c.generation
+    -- what both histories show
+    shown_before : catalogue_of k.surface f.history ≡ before
+    shown_before = right_shows k f.plain f.history f.right
+
+    shown_now : catalogue_of k.surface (followed f.history all_more) ≡ now
+    shown_now =
+        ap (λ (g : SealedHistory). catalogue_of k.surface g) (sym goes_to)
+        ∙ right_shows k q (followed v.history others) right
+
+    -- of a file that is there still, of the same generation, the same bytes are stored
+    still_stored : IsIn now.files c.file
+        → (file_in now.files c.file).generation ≡ c.generation
         → slice_index_or (stored_of k.surface (sealed k q)) c.file []
         ≡ slice_index_or (stored_of k.surface (sealed k f.plain)) c.file []
-    same_stored generation =
+    still_stored still generation =
         let n : ℕ = c.file in
-        let g : SealedHistory = followed (sealed k f.plain) all_more in
-        let now_is : file_in now.files n ≡ file_in before.files n =
-        ap (λ (h : SealedHistory). file_in (catalogue_of k.surface h).files n) goes_to
-        ∙ same_file k.surface (sealed k f.plain) all_more n low
-        (ap (λ (h : SealedHistory). (file_in (catalogue_of k.surface h).files n).generation)
-        (sym goes_to)
-        ∙ generation ∙ generation_before) in
-        let text_is : slice_index_or (sent_of (sealed k q)) n [] ≡ slice_index_or
-        (sent_of (sealed k f.plain)) n [] =
-        ap (λ (h : SealedHistory). slice_index_or (sent_of h) n []) goes_to
-        ∙ same_text k.surface (sealed k f.plain) all_more n low in
-        let coated_now = stored_is_coated k.surface now (stored_of k.surface (sealed k q))
-        (sealed k q)
-        (sealed_is_sealed k q legal, refl) refl in
-        let coated_before = stored_is_coated k.surface before
-        (stored_of k.surface (sealed k f.plain)) (sealed k f.plain)
-        (sealed_is_sealed k f.plain f.legal, refl) refl in
-        coated_now.coats n (file_in now.files n) (found_file now.files n still)
-        ∙ (λ i. stored_under (surface_key k.surface (now_is i).surface) n (text_is i))
-        ∙ sym (coated_before.coats n (file_in before.files n) (found_file before.files n low))
+        let was_in : IsIn (catalogue_of k.surface f.history).files n =
+        subst (λ (d : Catalogue). IsIn d.files n) (sym shown_before) low in
+        let is_in : IsIn (catalogue_of k.surface (followed f.history all_more)).files n =
+        subst (λ (d : Catalogue). IsIn d.files n) (sym shown_now) still in
+        let same : (file_in (catalogue_of k.surface (followed f.history all_more)).files
+        n).generation
+        ≡ (file_in (catalogue_of k.surface f.history).files n).generation =
+        ap (λ (d : Catalogue). (file_in d.files n).generation) shown_now
+        ∙ generation ∙ generation_before
+        ∙ ap (λ (d : Catalogue). (file_in d.files n).generation) (sym shown_before) in
+        ap (λ (bytes : List (List ℕ)). slice_index_or bytes n [])
+        (sym (right_keeps k q (followed v.history others) right)
+        ∙ ap (λ (g : SealedHistory). stored_of k.surface g) goes_to)
+        ∙ same_stored k.surface f.history all_more n was_in is_in same
+        ∙ ap (λ (bytes : List (List ℕ)). slice_index_or bytes n [])
+        (right_keeps k f.plain f.history f.right)
 
-    goes_on_from : (later v others).history ≡ followed (sealed k f.plain) all_more
-    goes_on_from = at_q ∙ goes_to
-
-    bytes_stand : (bytes : List ℕ) → (file_in now.files c.file).generation ≡ c.generation
+    bytes_stand : (bytes : List ℕ) → IsIn now.files c.file
+        → (file_in now.files c.file).generation ≡ c.generation
         → bytes ≡ take MAX_CHUNK_BYTES
         (drop (length stored) (slice_index_or (stored_of k.surface (sealed k q)) c.file []))
         → (b : Bool)
@@ -229,24 +228,25 @@ module _ (k : Masters) (r : Reader) (file : List ℕ) (holds : HoldsRootKeys k r
         (if b then Ok (Bytes bytes) else Err
         (client.BadReply (1 + min (length bytes) (chunk_bytes c.length (length stored)))))) at_one
     unfolding StandsAt
-    bytes_stand bytes generation are false = tt
-    bytes_stand bytes generation are true =
+    bytes_stand bytes still generation are false = tt
+    bytes_stand bytes still generation are true =
         let text : List ℕ = slice_index_or (stored_of k.surface (sealed k f.plain)) c.file [] in
         let left : drop (length stored) text ≡ f.rest =
         ap (drop (length stored)) f.front ∙ drop-append_seam stored f.rest in
         let taken : bytes ≡ take MAX_CHUNK_BYTES f.rest =
         are ∙ ap (λ (t : List ℕ). take MAX_CHUNK_BYTES (drop (length stored) t))
-        (same_stored generation)
+        (still_stored still generation)
         ∙ ap (take MAX_CHUNK_BYTES) left in
         let split : f.rest ≡ bytes ++ drop MAX_CHUNK_BYTES f.rest =
         sym (take-append-drop MAX_CHUNK_BYTES f.rest)
         ∙ ap (λ (t : List ℕ). t ++ drop MAX_CHUNK_BYTES f.rest) (sym taken) in
         goes_on_stands (later v others) tries at_one c (stored ++ bytes) (record {
           plain = f.plain;
-          legal = f.legal;
+          history = f.history;
+          right = f.right;
           chained_at = f.chained_at;
           more = all_more;
-          goes = goes_on_from;
+          goes = goes_to;
           allowed = f.allowed;
           told = f.told;
           base = f.base;
@@ -256,15 +256,44 @@ module _ (k : Masters) (r : Reader) (file : List ℕ) (holds : HoldsRootKeys k r
               ∙ sym (append_assoc stored bytes (drop MAX_CHUNK_BYTES f.rest));
         })
 
-    pub chunk_stands : (answer : Answer)
+    -- the file is there still
+    still_stands : (answer : Answer) → IsIn now.files c.file
         → AnswersChunk (Some (file_in now.files c.file))
         (Some (slice_index_or (stored_of k.surface (sealed k q)) c.file []))
         c.generation (length stored) MAX_CHUNK_BYTES answer
         → StandsAt (later v others) (after r (AsksChunk tries c stored) (Ok answer)) at_one
     unfolding StandsAt
-    chunk_stands (answers.Bytes bytes) (generation, many, are) =
-        bytes_stand bytes generation are (length bytes == chunk_bytes c.length (length stored))
-    chunk_stands (answers.Moved to) is = again_stands (later v others) (tries ++ c.generation ∷ [])
-        at_one to
-    chunk_stands (answers.Refused why) is = absurd is
-    chunk_stands answer is = tt
+    still_stands (answers.Bytes bytes) still (generation, many, are) =
+        bytes_stand bytes still generation are
+        (length bytes == chunk_bytes c.length (length stored))
+    still_stands (answers.Moved to) still is =
+        again_stands (later v others) (tries ++ c.generation ∷ []) at_one to
+    still_stands (answers.Refused why) still is = absurd is
+    still_stands answer still is = tt
+
+    -- the file is gone
+    gone_stands : (answer : Answer) → answer ≡ answers.Refused NoFile
+        → StandsAt (later v others) (after r (AsksChunk tries c stored) (Ok answer)) at_one
+    gone_stands answer is =
+        subst (λ (a : Answer). StandsAt (later v others)
+        (after r (AsksChunk tries c stored) (Ok a)) at_one) (sym is)
+        (again_stands (later v others) (tries ++ c.generation ∷ []) at_one (c.generation + 1))
+
+    pub chunk_stands : (answer : Answer)
+        → AnswersChunk (living_at now.files c.file)
+        (Some (slice_index_or (stored_of k.surface (sealed k q)) c.file []))
+        c.generation (length stored) MAX_CHUNK_BYTES answer
+        → StandsAt (later v others) (after r (AsksChunk tries c stored) (Ok answer)) at_one
+    chunk_stands answer is = by_file (living_at now.files c.file) refl is where
+      by_file : (o : Option Filed) → living_at now.files c.file ≡ o
+          → AnswersChunk o (Some (slice_index_or (stored_of k.surface (sealed k q)) c.file []))
+          c.generation (length stored) MAX_CHUNK_BYTES answer
+          → StandsAt (later v others) (after r (AsksChunk tries c stored) (Ok answer)) at_one
+      by_file None none is = gone_stands answer is
+      by_file (Some g) some is =
+          let still : IsIn now.files c.file = ap (λ (o : Option Filed). is_some o) some in
+          still_stands answer still
+          (subst (λ (o : Option Filed). AnswersChunk o
+          (Some (slice_index_or (stored_of k.surface (sealed k q)) c.file []))
+          c.generation (length stored) MAX_CHUNK_BYTES answer)
+          (sym some ∙ found_file now.files c.file still) is)

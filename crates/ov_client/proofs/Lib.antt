@@ -1,3 +1,4 @@
+pub mod Agreeing
 pub mod Alone
 pub mod Answering
 pub mod Coats
@@ -11,9 +12,11 @@ pub mod Machine
 pub mod Opening
 pub mod Quiet
 pub mod ReadingBack
+pub mod Refusing
 pub mod Rising
 pub mod Settled
 pub mod Spaces
+pub mod Stages
 pub mod Staying
 pub mod Talking
 pub mod Told

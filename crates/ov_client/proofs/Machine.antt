@@ -7,11 +7,11 @@ use Rattle.ov_base.specs.declared.limits.TheConstants.{MAX_CHUNK_BYTES}
 use Rattle.ov_fields.specs.Fronts.{AreAllBytes}
 use Rattle.ov_record.specs.Updates.{SealedUpdate}
 use Rattle.ov_history.specs.Asking.{file_named, user_named}
-use Rattle.ov_history.specs.Catalogue.{Catalogue, Filed}
+use Rattle.ov_history.specs.Catalogue.{Catalogue}
+use Rattle.ov_history.specs.FadingLaws.{IsRight}
 use Rattle.ov_history.specs.Masters.{Masters}
 use Rattle.ov_history.specs.Places.{living_at}
-use Rattle.ov_history.specs.Plain.{PlainHistory, history_of}
-use Rattle.ov_history.specs.Refusals.{IsLegal}
+use Rattle.ov_history.specs.Plain.{PlainHistory}
 use Rattle.ov_history.specs.Sealed.{SealedHistory, catalogue_of, stored_of}
 use Rattle.ov_history.specs.Sealing.{sealed}
 use Rattle.ov_wire.specs.declared.request.Request.{Request}
@@ -36,8 +36,8 @@ use Rattle.ov_client.specs.Talks.{AsksChain, AsksChunk, Closes, Ends, Goes, IsAf
 use Rattle.ov_client.specs.Talks.{after, asked_at}
 use Rattle.ov_client.specs.declared.fault.ClientFault.{ClientFault}
 use Rattle.ov_client.specs.declared.fault.ClientFault.TheVariants as client
-use Rattle.ov_client.proofs.Staying.{found_file}
-use Rattle.ov_client.proofs.Fetching.{IsFetching, StandsAt, chain_stands, chunk_stands, still}
+use Rattle.ov_client.proofs.Agreeing.{right_keeps, right_shows}
+use Rattle.ov_client.proofs.Fetching.{IsFetching, StandsAt, chain_stands, chunk_stands}
 
 module _ (k : Masters) (r : Reader) (file : List ℕ) (holds : HoldsRootKeys k r) where
   abbrev Stands : Service → Stage → Option SealedHistory → Type 0
@@ -58,16 +58,19 @@ module _ (k : Masters) (r : Reader) (file : List ℕ) (holds : HoldsRootKeys k r
       inr (sym (read_alike request reply answers.DeviceFault answer bytes tt failed.spelled reads))
 
   module _ (v : Service) (under_k : v.surface ≡ k.surface) (others made : List SealedUpdate)
-      (p : PlainHistory) (legal : IsLegal (history_of p))
-      (at_p : followed v.history others ≡ sealed k p) where
+      (p : PlainHistory) (right : IsRight k p (followed v.history others)) where
     abbrev u : Service
     u = later v others
 
     catalogue_is : catalogue_of u.surface u.history ≡ catalogue_of k.surface (sealed k p)
-    catalogue_is = λ i. catalogue_of (under_k i) (at_p i)
+    catalogue_is =
+        ap (λ (master : List ℕ). catalogue_of master u.history) under_k
+        ∙ right_shows k p u.history right
 
     stored_is : stored_of u.surface u.history ≡ stored_of k.surface (sealed k p)
-    stored_is = λ i. stored_of (under_k i) (at_p i)
+    stored_is =
+        ap (λ (master : List ℕ). stored_of master u.history) under_k
+        ∙ right_keeps k p u.history right
 
     made_nothing : made ≡ [] → later u made ≡ u
     made_nothing none = ap (later u) none ∙ later-nil u
@@ -76,21 +79,21 @@ module _ (k : Masters) (r : Reader) (file : List ℕ) (holds : HoldsRootKeys k r
         → HasRequestForm (requests.Chain r.name file) → AreAllBytes reply
         → answer_of (requests.Chain r.name file) reply ≡ read
         → IsReplyAt u (request_bytes (requests.Chain r.name file)) reply made
-        → Stands (later u made) (after r (AsksChain tries least) read) (Some (sealed k p))
+        → Stands (later u made) (after r (AsksChain tries least) read) (Some u.history)
     unfolding StandsAt
     chain_asked tries least reply (Err place) form bytes reads at_u = tt
     chain_asked tries least reply (Ok answer) form bytes reads at_u =
         elim (read_at u (requests.Chain r.name file) reply made answer form bytes reads at_u) [
           | inl (is, none) ↦
               subst (λ (w : Service). Stands w (after r (AsksChain tries least) (Ok answer))
-              (Some (sealed k p)))
+              (Some u.history))
               (sym (made_nothing none))
-              (chain_stands k r file holds u tries least p legal at_p answer
+              (chain_stands k r file holds u tries least p right answer
               (subst (λ (d : Catalogue). AnswersChain d (user_named d r.name) (file_named d file)
               answer) catalogue_is is))
           | inr fault ↦
               subst (λ (a : Answer). Stands (later u made) (after r (AsksChain tries least) (Ok a))
-              (Some (sealed k p)))
+              (Some u.history))
               (sym fault) tt
         ]
 
@@ -109,13 +112,11 @@ module _ (k : Masters) (r : Reader) (file : List ℕ) (holds : HoldsRootKeys k r
         elim (read_at u (requests.Chunk c.file c.generation (length stored) MAX_CHUNK_BYTES) reply
         made answer form bytes reads at_u) [
           | inl (is, none) ↦
-              let files : List (Option Filed) = (catalogue_of k.surface (sealed k p)).files in
-              let found = found_file files c.file
-              (still k r file holds v tries c stored at_one f others p legal at_p) in
-              let at_k : AnswersChunk (living_at files c.file)
+              let shown : Catalogue = catalogue_of k.surface (sealed k p) in
+              let at_k : AnswersChunk (living_at shown.files c.file)
               (Some (slice_index_or (stored_of k.surface (sealed k p)) c.file []))
               c.generation (length stored) MAX_CHUNK_BYTES answer =
-              subst (λ (t : List (List ℕ)). AnswersChunk (living_at files c.file)
+              subst (λ (t : List (List ℕ)). AnswersChunk (living_at shown.files c.file)
               (Some (slice_index_or t c.file [])) c.generation (length stored) MAX_CHUNK_BYTES answer)
               stored_is
               (subst (λ (d : Catalogue). AnswersChunk (living_at d.files c.file)
@@ -125,11 +126,7 @@ module _ (k : Masters) (r : Reader) (file : List ℕ) (holds : HoldsRootKeys k r
               subst (λ (w : Service). Stands w (after r (AsksChunk tries c stored) (Ok answer))
               at_one)
               (sym (made_nothing none))
-              (chunk_stands k r file holds v tries c stored at_one f others p legal at_p answer
-              (subst (λ (o : Option Filed). AnswersChunk o
-              (Some (slice_index_or (stored_of k.surface (sealed k p)) c.file [])) c.generation
-              (length stored) MAX_CHUNK_BYTES answer)
-              found at_k))
+              (chunk_stands k r file holds v tries c stored at_one f others p right answer at_k)
           | inr fault ↦
               subst (λ (a : Answer). Stands (later u made)
               (after r (AsksChunk tries c stored) (Ok a)) at_one)
@@ -139,7 +136,7 @@ module _ (k : Masters) (r : Reader) (file : List ℕ) (holds : HoldsRootKeys k r
     -- the stage after an ask
     asked_stands : (stage next : Stage) (a : Ask) (at_one : Option SealedHistory)
         → Stands v stage at_one → Moves r file stage a next → IsReplyAt u a.request a.reply made
-        → Stands (later u made) next (now_if (is_chain a.request) (sealed k p) at_one)
+        → Stands (later u made) next (now_if (is_chain a.request) u.history at_one)
     unfolding StandsAt
     asked_stands stage next a at_one stands moves at_u = by_read moves.reads where
       spelled : a.request ≡ request_bytes moves.asks.request
@@ -149,7 +146,7 @@ module _ (k : Masters) (r : Reader) (file : List ℕ) (holds : HoldsRootKeys k r
       at_it = subst (λ (frame : List ℕ). IsReplyAt u frame a.reply made) spelled at_u
 
       by_stage : (s : Stage) → s ≡ stage → IsAfter r stage moves.asks.request a.reply next
-          → Stands (later u made) next (now_if (is_chain a.request) (sealed k p) at_one)
+          → Stands (later u made) next (now_if (is_chain a.request) u.history at_one)
       by_stage (AsksChain tries least) is moved =
           let request : requests.Chain r.name file ≡ moves.asks.request =
           cc (ap (asked_at r file) is, moves.asks.is_asked) in
@@ -163,8 +160,8 @@ module _ (k : Masters) (r : Reader) (file : List ℕ) (holds : HoldsRootKeys k r
           (λ i. after r (is i) (answer_of (request i) a.reply)) ∙ sym moved.moves in
           let kind : is_chain a.request ≡ true =
           ap is_chain (spelled ∙ ap request_bytes (sym request)) in
-          subst (λ (b : Bool). Stands (later u made) next (now_if b (sealed k p) at_one)) (sym kind)
-          (subst (λ (s : Stage). Stands (later u made) s (Some (sealed k p))) goes asked)
+          subst (λ (b : Bool). Stands (later u made) next (now_if b u.history at_one)) (sym kind)
+          (subst (λ (s : Stage). Stands (later u made) s (Some u.history)) goes asked)
       by_stage (AsksChunk tries c stored) is moved =
           let chunk : Request = requests.Chunk c.file c.generation (length stored)
           MAX_CHUNK_BYTES in
@@ -180,18 +177,18 @@ module _ (k : Masters) (r : Reader) (file : List ℕ) (holds : HoldsRootKeys k r
           (λ i. after r (is i) (answer_of (request i) a.reply)) ∙ sym moved.moves in
           let kind : is_chain a.request ≡ false =
           ap is_chain (spelled ∙ ap request_bytes (sym request)) in
-          subst (λ (b : Bool). Stands (later u made) next (now_if b (sealed k p) at_one)) (sym kind)
+          subst (λ (b : Bool). Stands (later u made) next (now_if b u.history at_one)) (sym kind)
           (subst (λ (s : Stage). Stands (later u made) s at_one) goes asked)
       by_stage (Ends result) is moved =
           absurd (let none = ap (asked_at r file) is in cc (none, moves.asks.is_asked))
 
       by_read : (IsAfter r stage moves.asks.request a.reply next)
           ⊎ (next ≡ Ends (Err client.Memory))
-          → Stands (later u made) next (now_if (is_chain a.request) (sealed k p) at_one)
+          → Stands (later u made) next (now_if (is_chain a.request) u.history at_one)
       by_read (inl moved) = by_stage stage refl moved
       by_read (inr memory) =
           subst (λ (s : Stage). Stands (later u made) s
-          (now_if (is_chain a.request) (sealed k p) at_one))
+          (now_if (is_chain a.request) u.history at_one))
           (sym memory) tt
 
   -- ---- all asks
@@ -209,15 +206,16 @@ module _ (k : Masters) (r : Reader) (file : List ℕ) (holds : HoldsRootKeys k r
       along
   all_stand (a ∷ asks) stage last v end [] at_one under_k stands goes along right = absurd along
   all_stand (a ∷ asks) stage last v end (g ∷ histories) at_one under_k stands (next, moves, goes)
-      (others, made, at_g, at_u, along) ((p, legal, is), right) =
-      let at_p : followed v.history others ≡ sealed k p = sym at_g ∙ is in
-      let one = asked_stands v under_k others made p legal at_p stage next a at_one stands moves
+      (others, made, at_g, at_u, along) ((p, is), right) =
+      let here : SealedHistory = followed v.history others in
+      let one = asked_stands v under_k others made p
+      (subst (λ (h : SealedHistory). IsRight k p h) at_g is) stage next a at_one stands moves
       at_u in
       subst (λ (h : SealedHistory). Stands end last
       (last_chain (now_if (is_chain a.request) h at_one) asks histories))
-      (sym is)
+      (sym at_g)
       (all_stand asks next last (later (later v others) made) end histories
-      (now_if (is_chain a.request) (sealed k p) at_one) under_k one goes along right)
+      (now_if (is_chain a.request) here at_one) under_k one goes along right)
 
   -- how a read closes
   closed_so : (end : Service) (last : Stage) (unanswered : Option (List ℕ))

@@ -42,7 +42,7 @@ judged_if true tag computed bytes is = refl
 judged_if false tag computed bytes is = absurd (cc)
 
 -- the third test of a read comes only where the file is there
-file_there : (a b c : Bool)
+pub file_there : (a b c : Bool)
     → first_of_tests ((NoUser, a) ∷ (NoFile, b) ∷ (NoPath, c) ∷ []) ≡ None → b ≡ false
 file_there true b c none = cc
 file_there false true c none = cc

@@ -1,4 +1,4 @@
--- The generations of tries in which a file moved rise.
+-- The generations of tries in which a file moved or was removed rise.
 use Rattle.std.proofs.Common.{◌≡◌, ℕ, ◌+◌, ◌<◌, ◌≤◌, List, [], ◌∷◌, ◌++◌, length, length-append}
 use Rattle.std.proofs.Common.{Option, Some, None, Result, Ok, Err, refl, sym, subst, inl, inr}
 use Rattle.std.proofs.Common.{arith, lit<}
@@ -124,7 +124,9 @@ module _ (r : Reader) (file : List ℕ) where
   chunk_rising (answers.Moved now) tries c stored is rises few =
       again_rising (length (tries ++ c.generation ∷ []) == TRIES) tries c.generation now refl rises
       few is.0
-  chunk_rising (answers.Refused why) tries c stored is rises few = λ gs wrong. absurd (cc wrong)
+  chunk_rising (answers.Refused why) tries c stored is rises few =
+      again_rising (length (tries ++ c.generation ∷ []) == TRIES) tries c.generation
+      (c.generation + 1) refl rises few (omega arith)
   chunk_rising answers.DeviceFault tries c stored is rises few = λ gs wrong. absurd (cc wrong)
   chunk_rising answers.NoMemory tries c stored is rises few = λ gs wrong. absurd (cc wrong)
   chunk_rising a tries c stored is rises few = λ gs wrong. absurd (cc wrong)

@@ -7,6 +7,7 @@ use Rattle.ov_base.specs.declared.limits.TheConstants.{MAX_CHUNK_BYTES}
 use Rattle.ov_record.specs.Updates.{SealedUpdate}
 use Rattle.ov_history.specs.Asking.{file_named, user_named}
 use Rattle.ov_history.specs.Catalogue.{Catalogue, Filed}
+use Rattle.ov_history.specs.FadingLaws.{IsRight}
 use Rattle.ov_history.specs.Masters.{Masters}
 use Rattle.ov_history.specs.Places.{living_at}
 use Rattle.ov_history.specs.Plain.{PlainHistory, history_of}
@@ -36,6 +37,7 @@ use Rattle.ov_client.specs.Talks.{AsksChain, AsksChunk, Closes, Ends, Goes, IsAf
 use Rattle.ov_client.specs.Talks.{after, asked_at}
 use Rattle.ov_client.specs.declared.fault.ClientFault.{ClientFault}
 use Rattle.ov_client.specs.declared.fault.ClientFault.TheVariants as client
+use Rattle.ov_client.proofs.Agreeing.{right_keeps, right_shows}
 use Rattle.ov_client.proofs.Staying.{found_file}
 use Rattle.ov_client.proofs.Quiet.{IsFetching, StandsQuiet, chain_stands, chunk_stands, low_told}
 use Rattle.ov_client.proofs.ReadingBack.{chain_is_answer, reads_back}
@@ -56,13 +58,17 @@ module _ (k : Masters) (r : Reader) (file : List ℕ) (p : PlainHistory)
 
   -- ---- one ask
 
-  module _ (v : Service) (under_k : v.surface ≡ k.surface) (at_p : v.history ≡ sealed k p)
+  module _ (v : Service) (under_k : v.surface ≡ k.surface) (right : IsRight k p v.history)
       (made : List SealedUpdate) where
     catalogue_is : catalogue_of v.surface v.history ≡ s
-    catalogue_is = λ i. catalogue_of (under_k i) (at_p i)
+    catalogue_is =
+        ap (λ (master : List ℕ). catalogue_of master v.history) under_k
+        ∙ right_shows k p v.history right
 
     stored_is : stored_of v.surface v.history ≡ stored_of k.surface (sealed k p)
-    stored_is = λ i. stored_of (under_k i) (at_p i)
+    stored_is =
+        ap (λ (master : List ℕ). stored_of master v.history) under_k
+        ∙ right_keeps k p v.history right
 
     -- the answer in a reply
     answers_so : (request : Request) (reply : List ℕ) → HasRequestForm request
@@ -197,17 +203,20 @@ module _ (k : Masters) (r : Reader) (file : List ℕ) (p : PlainHistory)
   -- ---- all asks
 
   all_stand : (asks : List Ask) (stage last : Stage) (v end : Service)
-      (histories : List SealedHistory)
+      (histories : List SealedHistory) (g : SealedHistory)
       → v.surface ≡ k.surface → Stands stage → Goes r file stage asks last
-      → Along v asks histories end → AllAre (sealed k p) histories
+      → Along v asks histories end → IsRight k p g → AllAre g histories
       → Stands last
-  all_stand [] stage last v end histories under_k stands goes along same = subst Stands goes stands
-  all_stand (a ∷ asks) stage last v end [] under_k stands goes along same = absurd along
-  all_stand (a ∷ asks) stage last v end (g ∷ histories) under_k stands (next, moves, goes)
-      (others, made, at_g, at_u, along) (is, same) =
-      all_stand asks next last (later (later v others) made) end histories under_k
-      (asked_stands (later v others) under_k (sym at_g ∙ is) made stage next a stands moves at_u)
-      goes along same
+  all_stand [] stage last v end histories g under_k stands goes along right same =
+      subst Stands goes stands
+  all_stand (a ∷ asks) stage last v end [] g under_k stands goes along right same = absurd along
+  all_stand (a ∷ asks) stage last v end (other ∷ histories) g under_k stands (next, moves, goes)
+      (others, made, at_other, at_u, along) right (is, same) =
+      let here : IsRight k p (later v others).history =
+      subst (λ (h : SealedHistory). IsRight k p h) (sym is ∙ at_other) right in
+      all_stand asks next last (later (later v others) made) end histories g under_k
+      (asked_stands (later v others) under_k here made stage next a stands moves at_u)
+      goes along right same
 
   closed_so : (last : Stage) (unanswered : Option (List ℕ)) (result : Result (List ℕ) ClientFault)
       → Stands last → Closes r file last unanswered result → IsAnsweredOrCut result
@@ -223,9 +232,9 @@ module _ (k : Masters) (r : Reader) (file : List ℕ) (p : PlainHistory)
   begins = refl
 
 pub reads_are_answered : ReadsAreAnswered
-reads_are_answered k r file asks unanswered result v last histories p holds roots under_k
-    (end, goes, closes) along legal same =
-    closed_so k r file p legal holds roots end unanswered result
-    (all_stand k r file p legal holds roots asks (AsksChain [] 0) end v last histories under_k
-    (begins k r file p legal holds roots) goes along same)
+reads_are_answered k r file asks unanswered result v last histories p g holds roots under_k
+    (end, goes, closes) along right same =
+    closed_so k r file p right.0 holds roots end unanswered result
+    (all_stand k r file p right.0 holds roots asks (AsksChain [] 0) end v last histories g under_k
+    (begins k r file p right.0 holds roots) goes along right same)
     closes

@@ -6,18 +6,22 @@ use Rattle.std.specs.Prelude.{◌⊎◌, Option, Some, None, is_some, slice_inde
 use Rattle.std.proofs.lemmas.Bool.{cases_lt}
 use Rattle.std.proofs.lemmas.List.{get_or_append_left}
 use Rattle.ov_graph.proofs.GraphLaws.{last_item}
-use Rattle.ov_record.specs.Updates.{SealedCreate, SealedEnrol, SealedGrant, SealedRevoke}
-use Rattle.ov_record.specs.Updates.{SealedUpdate}
-use Rattle.ov_history.specs.Briefs.{Brief, BriefCreate, BriefEnrol, BriefGrant, BriefRevoke, brief}
-use Rattle.ov_history.specs.Briefs.{outer, text_of}
+use Rattle.ov_record.specs.Updates.{SealedCreate, SealedEnrol, SealedGrant, SealedRemove}
+use Rattle.ov_record.specs.Updates.{SealedRevoke, SealedUpdate}
+use Rattle.ov_surface.specs.Coats.{stored_under}
+use Rattle.ov_history.specs.Briefs.{Brief, BriefCreate, BriefEnrol, BriefGrant, BriefRemove}
+use Rattle.ov_history.specs.Briefs.{BriefRevoke, brief, outer, text_of}
 use Rattle.ov_history.specs.Catalogue.{Catalogue, Filed, catalogue_after, empty_catalogue}
-use Rattle.ov_history.specs.Catalogue.{grown_catalogue, no_filed, outline, refiled, settled_files}
-use Rattle.ov_history.specs.Places.{living_at}
-use Rattle.ov_history.specs.Layers.{lists_after, lists_of, node_for, same_surface, surface_at}
+use Rattle.ov_history.specs.Catalogue.{grown_catalogue, new_file, no_filed, outline, refiled}
+use Rattle.ov_history.specs.Catalogue.{settled_files}
+use Rattle.ov_history.specs.Places.{change_at, gone, living_at}
+use Rattle.ov_history.specs.Layers.{lists_after, lists_of, same_surface, surface_at}
 use Rattle.ov_history.specs.Layers.{wants_of, with_wants}
-use Rattle.ov_history.specs.Rewrites.{with_text}
+use Rattle.ov_history.specs.Rewrites.{surface_key, with_text}
 use Rattle.ov_history.specs.Sealed.{SealedHistory, catalogue_all, catalogue_of, sent_all, sent_of}
-use Rattle.ov_history.proofs.Storing.{length-settled_files, living_below}
+use Rattle.ov_history.specs.Sealed.{stored_of}
+use Rattle.ov_history.proofs.ChangeLaws.{gone_other, length-change_at}
+use Rattle.ov_history.proofs.Storing.{coated, coats_of, length-settled_files, living_below}
 use Rattle.ov_protocol.specs.Serving.{followed}
 
 abbrev pub file_in : List (Option Filed) → ℕ → Filed
@@ -66,37 +70,47 @@ settled_in epoch sets (want ∷ wants) (None ∷ files) zero = refl
 settled_in epoch sets (want ∷ wants) (Some f ∷ files) zero = refl
 settled_in epoch sets (want ∷ wants) (f ∷ files) (suc n) = settled_in epoch sets wants files n
 
--- what a creation files
-abbrev new_file : Catalogue → List ℕ → ℕ → List ℕ → ℕ → Filed
-new_file c file list tag size = record {
-  name = file;
-  node = node_for c.base.sets list;
-  surface = None;
-  generation = c.epoch + 1;
-  tag = tag;
-  length = size;
-}
+-- where a file is what was there before, it was there and is the same
+was_same : (files : List (Option Filed)) (o : Option Filed) (n : ℕ) → o ≡ living_at files n
+    → is_some o ≡ true → (unwrap_or o no_filed ≡ file_in files n) × IsIn files n
+was_same files o n same is = (
+  ap (λ (p : Option Filed). unwrap_or p no_filed) same,
+  ap (λ (p : Option Filed). is_some p) (sym same) ∙ is,
+)
 
--- a file that is there stays until the surfaces are settled
-grown_file : (c : Catalogue) (b : Brief) (n : ℕ) → IsIn c.files n
-    → (file_in (grown_catalogue c b).files n ≡ file_in c.files n)
-    × IsIn (grown_catalogue c b).files n
-grown_file c (BriefEnrol user) n is = (refl, is)
-grown_file c (BriefCreate file list tokens tag size) n is =
+-- a file whose number was given, and that is there still, is the same until the surfaces are
+-- settled
+grown_file : (c : Catalogue) (b : Brief) (n : ℕ) → n < length c.files
+    → IsIn (grown_catalogue c b).files n
+    → (file_in (grown_catalogue c b).files n ≡ file_in c.files n) × IsIn c.files n
+grown_file c (BriefEnrol user) n given is = (refl, is)
+grown_file c (BriefCreate file list tokens tag size) n given is =
     let f : Filed = new_file c file list tag size in
-    let same : living_at (c.files ++ Some f ∷ []) n ≡ living_at c.files n =
-    get_or_append_left c.files (Some f ∷ []) None n (in_below c.files n is) in (
-      ap (λ (o : Option Filed). unwrap_or o no_filed) same,
-      ap (λ (o : Option Filed). is_some o) same ∙ is,
-    )
-grown_file c (BriefGrant user file token) n is = (refl, is)
-grown_file c (BriefRevoke user file) n is = (refl, is)
+    was_same c.files (living_at (c.files ++ Some f ∷ []) n) n
+    (get_or_append_left c.files (Some f ∷ []) None n given) is
+grown_file c (BriefGrant user file token) n given is = (refl, is)
+grown_file c (BriefRevoke user file) n given is = (refl, is)
+grown_file c (BriefRemove file) n given is =
+    was_same c.files (living_at (change_at gone file c.files) n) n (gone_other file c.files n is) is
+
+-- a number that was given stays so
+grown_given : (c : Catalogue) (b : Brief) (n : ℕ) → n < length c.files
+    → n < length (grown_catalogue c b).files
+grown_given c (BriefEnrol user) n given = given
+grown_given c (BriefCreate file list tokens tag size) n given =
+    let f : Filed = new_file c file list tag size in
+    omega (arith, given, length-append c.files (Some f ∷ []))
+grown_given c (BriefGrant user file token) n given = given
+grown_given c (BriefRevoke user file) n given = given
+grown_given c (BriefRemove file) n given =
+    omega (arith, given, length-change_at gone file c.files)
 
 grown_epoch : (c : Catalogue) (b : Brief) → (grown_catalogue c b).epoch ≡ c.epoch + 1
 grown_epoch c (BriefEnrol user) = refl
 grown_epoch c (BriefCreate file list tokens tag size) = refl
 grown_epoch c (BriefGrant user file token) = refl
 grown_epoch c (BriefRevoke user file) = refl
+grown_epoch c (BriefRemove file) = refl
 
 -- no file is of a generation past the epoch
 abbrev pub AreUpTo : ℕ → List (Option Filed) → Type 0
@@ -123,12 +137,21 @@ grown_up_to c (BriefCreate file list tokens tag size) up n is =
     ]
 grown_up_to c (BriefGrant user file token) up n is = let was = up n is in omega arith
 grown_up_to c (BriefRevoke user file) up n is = let was = up n is in omega arith
+grown_up_to c (BriefRemove file) up n is =
+    let (same, there) = was_same c.files (living_at (change_at gone file c.files) n) n
+    (gone_other file c.files n is) is in
+    let was = up n there in
+    let generation = ap (λ (f : Filed). f.generation) same in
+    omega (arith, was, generation)
 
--- a file stays as it is, or comes to a generation past the epoch
+-- The number stays given. A file that has it afterwards had it before, and is as it was or came to
+-- a generation past the epoch.
 pub record Stays (c d : Catalogue) (n : ℕ) : Type 0 where
-  pub is_in : IsIn d.files n
+  pub given : n < length d.files
   pub epoch : c.epoch ≤ d.epoch
-  pub same : (file_in d.files n ≡ file_in c.files n) ⊎ (c.epoch < (file_in d.files n).generation)
+  pub was_in : IsIn d.files n → IsIn c.files n
+  pub same : IsIn d.files n
+      → (file_in d.files n ≡ file_in c.files n) ⊎ (c.epoch < (file_in d.files n).generation)
 
 module _ (master : List ℕ) (c : Catalogue) (b : Brief) where
   abbrev next : Catalogue
@@ -144,14 +167,15 @@ module _ (master : List ℕ) (c : Catalogue) (b : Brief) where
       ≡ is_some (living_at next.files n)
   stays_in n = settled_in next.epoch sets wants next.files n
 
-  stays_one : (n : ℕ) → IsIn c.files n → Stays c (catalogue_after master c b) n
-  stays_one n is =
-      let (same, there) = grown_file c b n is in
+  stays_one : (n : ℕ) → n < length c.files → Stays c (catalogue_after master c b) n
+  stays_one n given =
       let later = grown_epoch c b in record {
-        is_in = stays_in n ∙ there;
+        given = subst (λ many. n < many)
+            (sym (length-settled_files next.epoch sets wants next.files)) (grown_given c b n given);
         epoch = omega (arith, later);
-        same = elim (settled_each next.epoch sets wants next.files n) [
-          | inl stays ↦ inl (stays ∙ same)
+        was_in = λ is. (grown_file c b n given (sym (stays_in n) ∙ is)).1;
+        same = λ is. elim (settled_each next.epoch sets wants next.files n) [
+          | inl stays ↦ inl (stays ∙ (grown_file c b n given (sym (stays_in n) ∙ is)).0)
           | inr now ↦ inr (omega (arith, later, now))
         ];
       }
@@ -170,18 +194,22 @@ module _ (master : List ℕ) (c : Catalogue) (b : Brief) where
 -- ---- all updates
 
 pub stays_all : (master : List ℕ) (c : Catalogue) (updates : List SealedUpdate) (n : ℕ)
-    → IsIn c.files n → Stays c (catalogue_all master c updates) n
-stays_all master c [] n is_in = record { is_in = is_in; epoch = omega arith; same = inl refl }
-stays_all master c (u ∷ updates) n is_in =
-    let one = stays_one master c (brief u) n is_in in
-    let all = stays_all master (catalogue_after master c (brief u)) updates n one.is_in in
-    let end : Catalogue = catalogue_all master (catalogue_after master c (brief u)) updates in
-    record {
-      is_in = all.is_in;
+    → n < length c.files → Stays c (catalogue_all master c updates) n
+stays_all master c [] n given = record {
+  given = given;
+  epoch = omega arith;
+  was_in = λ is. is;
+  same = λ is. inl refl;
+}
+stays_all master c (u ∷ updates) n given =
+    let one = stays_one master c (brief u) n given in
+    let all = stays_all master (catalogue_after master c (brief u)) updates n one.given in record {
+      given = all.given;
       epoch = omega (arith, one.epoch, all.epoch);
-      same = elim all.same [
+      was_in = λ there. one.was_in (all.was_in there);
+      same = λ there. elim (all.same there) [
         | inr past ↦ inr (omega (arith, one.epoch, past))
-        | inl is ↦ elim one.same [
+        | inl is ↦ elim (one.same (all.was_in there)) [
           | inl was ↦ inl (is ∙ was)
           | inr past ↦ inr (subst (λ (f : Filed). c.epoch < f.generation) (sym is) past)
         ]
@@ -236,6 +264,7 @@ many_one c texts (SealedCreate file list tokens tag text) many =
     omega (arith, many, length-append texts (text ∷ []), length-append c.files (Some f ∷ []))
 many_one c texts (SealedGrant user file token) many = many
 many_one c texts (SealedRevoke user file) many = many
+many_one c texts (SealedRemove file) many = many ∙ sym (length-change_at gone file c.files)
 
 many_all : (master : List ℕ) (c : Catalogue) (texts : List (List ℕ)) (updates : List SealedUpdate)
     → length texts ≡ length c.files
@@ -250,31 +279,51 @@ many_all master c texts (u ∷ updates) many =
 
 -- ---- histories
 
+-- what is stored of a file that is there is its text as it was sent, in the coat of its surface
+coated_at : (master : List ℕ) (g : SealedHistory) (n : ℕ)
+    → IsIn (catalogue_of master g).files n
+    → slice_index_or (stored_of master g) n []
+    ≡ stored_under (surface_key master (file_in (catalogue_of master g).files n).surface) n
+    (slice_index_or (sent_of g) n [])
+coated_at master g n is_in =
+    let files : List (Option Filed) = (catalogue_of master g).files in
+    (coated master files (sent_of g) (stored_of master g) (coats_of master g)).coats n
+    (file_in files n) (found_file files n is_in)
+
 module _ (master : List ℕ) (g : SealedHistory) (updates : List SealedUpdate) (n : ℕ)
     (is_in : IsIn (catalogue_of master g).files n) where
-  pub stays_followed : Stays (catalogue_of master g) (catalogue_of master (followed g updates)) n
+  stays_followed : Stays (catalogue_of master g) (catalogue_of master (followed g updates)) n
   stays_followed =
       subst (λ (d : Catalogue). Stays (catalogue_of master g) d n)
       (sym (catalogue_both master (empty_catalogue g.mode g.first) g.updates updates))
-      (stays_all master (catalogue_of master g) updates n is_in)
-
-  -- a file of the same generation is the same
-  pub same_file : (file_in (catalogue_of master (followed g updates)).files n).generation
-      ≡ (file_in (catalogue_of master g).files n).generation
-      → file_in (catalogue_of master (followed g updates)).files n
-      ≡ file_in (catalogue_of master g).files n
-  same_file generation = elim stays_followed.same [
-    | inl is ↦ is
-    | inr past ↦
-        let up = up_to_of master g n is_in in absurd (omega (arith, past, up, generation))
-  ]
+      (stays_all master (catalogue_of master g) updates n
+      (in_below (catalogue_of master g).files n is_in))
 
   -- the texts that were sent stay
-  pub same_text : slice_index_or (sent_of (followed g updates)) n [] ≡ slice_index_or (sent_of g) n
-      []
+  same_text : slice_index_or (sent_of (followed g updates)) n [] ≡ slice_index_or (sent_of g) n []
   same_text =
       let many : length (sent_of g) ≡ length (catalogue_of master g).files =
       many_all master (empty_catalogue g.mode g.first) [] g.updates refl in
       ap (λ (texts : List (List ℕ)). slice_index_or texts n []) (sent_both [] g.updates updates)
       ∙ sent_stays (sent_of g) updates n
       (omega (arith, many, in_below (catalogue_of master g).files n is_in))
+
+  module _ (still : IsIn (catalogue_of master (followed g updates)).files n)
+      (generation : (file_in (catalogue_of master (followed g updates)).files n).generation
+      ≡ (file_in (catalogue_of master g).files n).generation) where
+    -- a file that is there still, of the same generation, is the same
+    same_file : file_in (catalogue_of master (followed g updates)).files n
+        ≡ file_in (catalogue_of master g).files n
+    same_file = elim (stays_followed.same still) [
+      | inl is ↦ is
+      | inr past ↦
+          let up = up_to_of master g n is_in in absurd (omega (arith, past, up, generation))
+    ]
+
+    -- and the same bytes are stored of it
+    pub same_stored : slice_index_or (stored_of master (followed g updates)) n []
+        ≡ slice_index_or (stored_of master g) n []
+    same_stored =
+        coated_at master (followed g updates) n still
+        ∙ (λ i. stored_under (surface_key master (same_file i).surface) n (same_text i))
+        ∙ sym (coated_at master g n is_in)

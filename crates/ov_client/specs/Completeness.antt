@@ -35,7 +35,7 @@ pub record FailsDisk {P : Type 0} (peer : PeerTells P) (p q : P) : Type 0 where
   pub made : List SealedUpdate
   pub fault : IsDiskFault (served service) request reply made
 
--- what is served is a legal history as these masters seal it, under their surface master
+-- what is served is right for this legal history, under these masters and their surface master
 pub record IsStoreUnder (k : Masters) (h : PlainHistory) (v : Service) : Type 0 where
   pub surface : v.surface ≡ k.surface
   pub legal : IsLegal (history_of h)

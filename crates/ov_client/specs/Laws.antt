@@ -3,14 +3,14 @@ use Rattle.std.specs.Prelude.{◌≡◌, ℕ, ◌==◌, Bool, true, false, List,
 use Rattle.std.specs.Prelude.{Option, Some, None, Result, Ok, Err}
 use Rattle.ov_tokens.specs.declared.label.Kind.TheVariants.{Derive, Surface}
 use Rattle.ov_tokens.specs.Keys.{node_key}
+use Rattle.ov_history.specs.FadingLaws.{IsRight}
 use Rattle.ov_history.specs.History.{matrix_of}
 use Rattle.ov_history.specs.Layers.{layers_of, root_of}
 use Rattle.ov_history.specs.Lists.{file_number, user_number}
 use Rattle.ov_history.specs.Masters.{Masters}
 use Rattle.ov_history.specs.Plain.{PlainHistory, bytes_of, history_of}
-use Rattle.ov_history.specs.Refusals.{IsLegal, read_refusal}
+use Rattle.ov_history.specs.Refusals.{read_refusal}
 use Rattle.ov_history.specs.Sealed.{SealedHistory}
-use Rattle.ov_history.specs.Sealing.{sealed}
 use Rattle.ov_protocol.specs.Serving.{Service}
 use Rattle.ov_peer.specs.Asks.{Along, AreRight, Ask}
 use Rattle.ov_client.specs.Readers.{Reader}
@@ -54,11 +54,11 @@ IsReadAt p user file (Err (Refused why)) =
     read_refusal m (user_number m user) (file_number m file) ≡ Some why
 IsReadAt p user file (Err fault) = ⊥
 
--- the history is the sealed form of a legal one, at which the machine answers so to a read
+-- the history is right for a legal one, at which the machine answers so to a read
 abbrev pub MachineAnswers : Masters → Option SealedHistory → List ℕ → List ℕ
     → Result (List ℕ) ClientFault → Type 0
 MachineAnswers k at_one user file result =
-    (p : PlainHistory) × IsLegal (history_of p) × (at_one ≡ Some (sealed k p))
+    (p : PlainHistory) × (g : SealedHistory) × (at_one ≡ Some g) × IsRight k p g
     × IsReadAt p user file result
 
 -- bytes and refusals are the machine's, and no read is damaged; of other faults this says nothing
@@ -110,8 +110,8 @@ abbrev pub ReadsAreAnswered : Type 0
 ReadsAreAnswered =
     (k : Masters) (r : Reader) (file : List ℕ) (asks : List Ask) (unanswered : Option (List ℕ))
     (result : Result (List ℕ) ClientFault)
-    (v last : Service) (histories : List SealedHistory) (p : PlainHistory)
+    (v last : Service) (histories : List SealedHistory) (p : PlainHistory) (g : SealedHistory)
     → HoldsRootKeys k r → HasRoots p r → v.surface ≡ k.surface
     → Talks r file asks unanswered result
-    → Along v asks histories last → IsLegal (history_of p) → AllAre (sealed k p) histories
+    → Along v asks histories last → IsRight k p g → AllAre g histories
     → IsAnsweredOrCut result

@@ -2,6 +2,7 @@ pub mod Readers
 pub mod Telling
 pub mod Talks
 pub mod Reads
+pub mod Refusing
 pub mod Rising
 pub mod Tries
 pub mod Causes

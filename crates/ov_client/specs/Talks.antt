@@ -16,12 +16,13 @@ use Rattle.ov_client.specs.declared.fault.ClientFault.{ClientFault}
 use Rattle.ov_client.specs.declared.fault.ClientFault.TheVariants.{BadReply, Link, Memory}
 use Rattle.ov_client.specs.declared.fault.ClientFault.TheVariants.{Unsettled}
 use Rattle.ov_client.specs.declared.telling.Fetched.{Fetched}
-use Rattle.ov_client.specs.declared.telling.Fetched.TheVariants.{Bytes, Moved}
+use Rattle.ov_client.specs.declared.telling.Fetched.TheVariants.{Again, Bytes}
 use Rattle.ov_client.specs.declared.reading.TheConstants.{TRIES}
 
--- The stages of a reader. It asks Chain, after tries at these generations that were all answered
--- Moved, the last of which told the least generation that may come; or it asks the next Chunk of a
--- file to which these chains lead, after these stored bytes came; or the read is done.
+-- The stages of a reader. It asks Chain, after tries at these generations, in each of which the
+-- file moved or was gone, and of which the last told the least generation that may come; or it asks
+-- the next Chunk of a file to which these chains lead, after these stored bytes came; or the read is
+-- done.
 pub data Stage : Type 0 where
   AsksChain : (tries : List ℕ) → (least : ℕ) → Stage
   AsksChunk : (tries : List ℕ) → (chained : Chained) → (stored : List ℕ) → Stage
@@ -36,7 +37,7 @@ asked_at r file (Ends result) = None
 
 -- ---- the stage after an answer
 
--- the next try, after this many that were answered Moved; there are nine and no more
+-- The next try, after those at these generations. There are nine and no more.
 abbrev pub again : List ℕ → ℕ → Stage
 again tries least =
     if length tries == TRIES then Ends (Err (Unsettled tries)) else AsksChain tries least
@@ -47,10 +48,10 @@ goes_on r tries c stored =
     if nat_lt (length stored) c.length then AsksChunk tries c stored
     else Ends (judged (keys_along r c) c (uncovered (keys_along r c) c.file 0 stored))
 
--- the stage after what was fetched
+-- the stage after what was fetched: more bytes, or nothing, and then the read begins again
 abbrev pub after_fetched : Reader → List ℕ → Chained → List ℕ → Fetched → Stage
 after_fetched r tries c stored (Bytes bytes) = goes_on r tries c (stored ++ bytes)
-after_fetched r tries c stored (Moved now) = again (tries ++ c.generation ∷ []) now
+after_fetched r tries c stored (Again least) = again (tries ++ c.generation ∷ []) least
 
 -- the stage after what was told, or the read ends with the fault
 abbrev pub then_or : {T : Type 0} → (T → Stage) → Result T ClientFault → Stage
@@ -64,7 +65,7 @@ after r (AsksChain tries least) (Ok answer) =
 after r (AsksChain tries least) (Err place) = Ends (Err (BadReply place))
 after r (AsksChunk tries c stored) (Ok answer) =
     then_or (after_fetched r tries c stored)
-    (fetched_in (chunk_bytes c.length (length stored)) answer)
+    (fetched_in c.generation (chunk_bytes c.length (length stored)) answer)
 after r (AsksChunk tries c stored) (Err place) = Ends (Err (BadReply place))
 after r (Ends result) read = Ends result
 

@@ -12,7 +12,7 @@ use Rattle.ov_client.specs.declared.fault.ClientFault.{ClientFault}
 use Rattle.ov_client.specs.declared.fault.ClientFault.TheVariants.{BadReply, Device, Memory}
 use Rattle.ov_client.specs.declared.fault.ClientFault.TheVariants.{Refused}
 use Rattle.ov_client.specs.declared.telling.Fetched.{Fetched}
-use Rattle.ov_client.specs.declared.telling.Fetched.TheVariants.{Bytes, Moved}
+use Rattle.ov_client.specs.declared.telling.Fetched.TheVariants.{Again, Bytes}
 
 -- ---- chains
 
@@ -75,16 +75,19 @@ sized count bytes =
     if length bytes == count then Ok (Bytes bytes)
     else Err (BadReply (1 + min (length bytes) count))
 
--- the bytes in an answer to Chunk, of which there must be this many, or the file's new generation
-abbrev pub fetched_in : ℕ → Answer → Result Fetched ClientFault
-fetched_in count (answers.Bytes bytes) = sized count bytes
-fetched_in count (answers.Moved now) = Ok (Moved now)
-fetched_in count (answers.Refused why) = Err (Refused why)
-fetched_in count answers.DeviceFault = Err Device
-fetched_in count answers.NoMemory = Err Memory
-fetched_in count answer = Err (BadReply 0)
+-- What an answer to Chunk tells, which was asked at this generation: bytes, of which there must be
+-- this many, or that the read begins again. Where the file moved, the next chains are at least of
+-- the generation that was told; where it is gone, they are of a greater one than was asked. A Chunk
+-- is refused as NoFile alone: the grammar of its answers has no other refusal.
+abbrev pub fetched_in : (asked count : ℕ) → Answer → Result Fetched ClientFault
+fetched_in asked count (answers.Bytes bytes) = sized count bytes
+fetched_in asked count (answers.Moved now) = Ok (Again now)
+fetched_in asked count (answers.Refused why) = Ok (Again (asked + 1))
+fetched_in asked count answers.DeviceFault = Err Device
+fetched_in asked count answers.NoMemory = Err Memory
+fetched_in asked count answer = Err (BadReply 0)
 
 -- as many bytes came as there must be
 abbrev pub HasSize : ℕ → Fetched → Type 0
 HasSize count (Bytes bytes) = length bytes ≡ count
-HasSize count (Moved now) = Unit {0}
+HasSize count (Again least) = Unit {0}

@@ -23,7 +23,7 @@ impl Client {
         alloc: Global,
         peer: &mut P,
         file: &Name,
-        least: u32,
+        least: u64,
     ) -> Result<Chained, ClientFault>
         ensures talk { (tries : List ℕ) → ReadGoesOn P.tells peer.old peer.new
             self.now file.now (AsksChain tries least) (λ c. goes_on self.now tries c []) result }
@@ -66,7 +66,7 @@ pub fn ask_chunk<P: Peer>(
     };
     let count = MAX_CHUNK_BYTES.min(chained.length - start);
     match exchange(alloc, peer, &request) {
-        Ok(answer) => fetched_in(count, answer),
+        Ok(answer) => fetched_in(chained.generation, count, answer),
         Err(fault) => Err(fault_of(fault)),
     }
 }

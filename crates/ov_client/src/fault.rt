@@ -9,7 +9,7 @@ use thiserror::Error;
 /// Why a file isn't read.
 #[derive(Clone, Copy, Debug, PartialEq, Eq, Error)]
 pub enum ClientFault {
-    /// The server refuses the read.
+    /// The server refuses the chains to the file, and so the read.
     #[error("the read is refused")]
     Refused(Refusal),
     /// The link failed.
@@ -30,7 +30,8 @@ pub enum ClientFault {
     /// The server's disk failed.
     #[error("the server's disk failed")]
     Device,
-    /// The file's surface changed in each of nine tries, which were made at these generations.
+    /// In each of nine tries, which were made at these generations, the file's surface changed or
+    /// the file was removed.
     #[error("the file changed while it was read, in each of nine tries")]
     Unsettled {
         generations: [u32; 9],

@@ -4,6 +4,7 @@ ghost use Rattle.std.specs.Prelude.{◌≡◌, ℕ, List};
 ghost use Rattle.ov_client.specs.KeyLines.{IsLineOf};
 ghost use Rattle.ov_client.specs.Laws.{ReadsAreAnswered, ReadsAreTheMachines};
 ghost use Rattle.ov_client.specs.Readers.{Reader};
+ghost use Rattle.ov_client.specs.Refusing.{RefusalsAreOfChains};
 ghost use Rattle.ov_client.specs.Rising.{MovedGenerationsRise};
 
 /// Over a peer whose histories are right under the masters of the reader's root keys, a read that
@@ -20,7 +21,13 @@ pub fn reads_are_answered()
     ensures { ReadsAreAnswered }
 {}
 
-/// The generations of nine tries, in each of which the file moved, rise.
+/// A read is refused only where its last ask was, which was for the chains. A chunk that is refused
+/// has the read begin again.
+pub fn refusals_are_of_chains()
+    ensures { RefusalsAreOfChains }
+{}
+
+/// The generations of nine tries, in each of which the file moved or was removed, rise.
 pub fn moved_generations_rise()
     ensures { MovedGenerationsRise }
 {}

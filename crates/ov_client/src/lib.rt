@@ -4,23 +4,23 @@
 //! From these alone it reads a file: it asks a peer for the chains from the roots to the file's
 //! nodes, derives the keys along them, asks for the stored bytes chunk after chunk, takes both
 //! coats off, and gives the bytes only if the file's tag is theirs. Where the file's surface
-//! changes meanwhile, it begins again, nine times in all.
+//! changes meanwhile, or the file is removed, it begins again, nine times in all.
 //!
 //! ```text
 //! fetch ──► try_once ──► ask_chain     Chain: the chains, or a refusal
 //!   ▲          │
 //!   │          └───────► read_along    keys along the chains, tag
 //!   │                      │
-//!   │                      └► gather ──► ask_chunk   Chunk: bytes, or Moved
+//!   │                      └► gather ──► ask_chunk   Chunk: bytes, or begin again
 //!   └── again, up to nine tries ◄────────────┘
 //! ```
 //!
 //! What a read asks and what it comes to is one definition, an automaton over the replies
 //! (`Talks`). [`Client::read`] promises that its asks lead from the peer that it found to the one
 //! that it left, and are such a talk with just its result. So each fault has its cause there: the
-//! refusal or the disk's fault that was answered, the place of the first byte that can't be, both
-//! tags, the nine generations. A fault of the link comes only where the peer's count of faults
-//! rose.
+//! refusal of the chains or the disk's fault that was answered, the place of the first byte that
+//! can't be, both tags, the nine generations. A fault of the link comes only where the peer's count
+//! of faults rose.
 //!
 //! An owner hands a user the keys as a line of text: [`Client::line`] writes it, and
 //! [`Client::from_line`] reads it exactly where it is one. A line has one reader
@@ -31,7 +31,8 @@
 //! Where nobody changes a right history meanwhile, a read by the keys of the user's own roots ends
 //! so unless it is cut off: by the server's disk, by the link or by a lack of memory (`complete` of
 //! each call, and [`reads_are_answered`]).
-//! The nine generations rise ([`moved_generations_rise`]).
+//! The nine generations rise ([`moved_generations_rise`]), and a read is refused only where its last
+//! ask for chains was ([`refusals_are_of_chains`]).
 //!
 //! | file in `specs/` | says |
 //! |---|---|
@@ -42,6 +43,7 @@
 //! | `Tries` | of the code alone: what came of a part of a try |
 //! | `Causes` | where a fault of the link comes |
 //! | `Rising` | the generations of a read that is unsettled |
+//! | `Refusing` | which ask of a read that is refused was refused |
 //! | `KeyLines` | the line of a reader's keys, as it is written and as it may be read |
 //! | `Laws` | the laws |
 //! | `Told` | what a read gives over a peer that tells its history |
@@ -64,4 +66,5 @@ pub use client::Client;
 pub use fault::ClientFault;
 pub use laws::{
     lines_are_read_once, moved_generations_rise, reads_are_answered, reads_are_the_machines,
+    refusals_are_of_chains,
 };

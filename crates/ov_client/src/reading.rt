@@ -28,9 +28,9 @@ const TRIES: usize = 9;
 pub enum Tried {
     /// The file's bytes.
     Read(Octets),
-    /// The file's surface changed: the generation of the chains that were told, and that of the
-    /// file now.
-    Moved { generation: u32, now: u32 },
+    /// The file's surface changed, or the file was removed: the generation of the chains that were
+    /// told, and the least that the next may have.
+    Again { generation: u32, next: u64 },
 }
 
 /// The bytes of a file, chunk after chunk, each without its coats.
@@ -56,7 +56,7 @@ fn gather<P: Peer>(
                 Ok(()) => {}
                 Err(Memory) => return Err(ClientFault::Memory),
             },
-            Ok(Fetched::Moved(now)) => return Ok(Fetched::Moved(now)),
+            Ok(Fetched::Again(next)) => return Ok(Fetched::Again(next)),
             Err(fault) => return Err(fault),
         }
     }
@@ -83,21 +83,22 @@ impl Client {
                 Ok(bytes) => Ok(Tried::Read(bytes)),
                 Err(fault) => Err(fault),
             },
-            Ok(Fetched::Moved(now)) => Ok(Tried::Moved {
+            Ok(Fetched::Again(next)) => Ok(Tried::Again {
                 generation: chained.generation,
-                now,
+                next,
             }),
             Err(fault) => Err(fault),
         }
     }
 
-    /// One try: the chains, then the chunks. It ends early where the file's surface changes.
+    /// One try: the chains, then the chunks. It ends early where the file's surface changes or the
+    /// file is removed.
     fn try_once<P: Peer>(
         &self,
         alloc: Global,
         peer: &mut P,
         file: &Name,
-        least: u32,
+        least: u64,
     ) -> Result<Tried, ClientFault>
         ensures talk { (tries : List ℕ) → ReadGoesOn P.tells peer.old peer.new
             self.now file.now (AsksChain tries least) (after_tried tries) result }
@@ -113,11 +114,12 @@ impl Client {
     /// The bytes of a file, by the user's keys alone.
     ///
     /// Asks for the chains from the user's two roots to the file's nodes, and then for its stored
-    /// bytes, chunk after chunk. Where the file's surface changes meanwhile it begins again, nine
-    /// times in all. The bytes are given only if the file's tag is theirs. A file without bytes
-    /// asks for no chunk. Where the reader's keys are those of the user's roots, a peer that serves a
-    /// right history, and that nobody else updates, cuts a read off only by a fault of its disk or of
-    /// the link, or where memory is refused.
+    /// bytes, chunk after chunk. Where the file's surface changes meanwhile, or the file is removed,
+    /// it begins again, nine times in all; a read is refused only where the chains are. The bytes are
+    /// given only if the file's tag is theirs. A file without bytes asks for no chunk. Where the
+    /// reader's keys are those of the user's roots, a peer that serves a right history, and that
+    /// nobody else updates, cuts a read off only by a fault of its disk or of the link, or where
+    /// memory is refused.
     pub fn fetch<P: Peer>(
         &self,
         alloc: Global,
@@ -136,9 +138,9 @@ impl Client {
         for n in 0..TRIES {
             match self.try_once(alloc, peer, file, least) {
                 Ok(Tried::Read(bytes)) => return Ok(bytes),
-                Ok(Tried::Moved { generation, now }) => {
+                Ok(Tried::Again { generation, next }) => {
                     generations[n] = generation;
-                    least = now;
+                    least = next;
                 }
                 Err(fault) => return Err(fault),
             }

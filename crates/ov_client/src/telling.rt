@@ -15,9 +15,9 @@ use ov_wire::{Answer, Chained};
 pub enum Fetched {
     /// Bytes.
     Bytes(Octets),
-    /// Nothing: the file's surface changed since its chains were told, and this is its generation
-    /// now.
-    Moved(u32),
+    /// Nothing, and the read begins again: since its chains were told, the file's surface changed or
+    /// the file was removed. The next chains have at least this generation.
+    Again(u64),
 }
 
 // Where the fields of a Chained are in its frame, and how many bytes a step has.
@@ -44,11 +44,11 @@ impl Client {
 
     /// The place of the first field that can't be: a generation below the least that may come, or a
     /// root that isn't the reader's.
-    fn wrong_field(&self, least: u32, chained: &Chained) -> Option<u32>
+    fn wrong_field(&self, least: u64, chained: &Chained) -> Option<u32>
         requires { HasFewSteps chained.now }
         ensures { result ≡ wrong_field self.now least chained.now }
     {
-        if chained.generation < least {
+        if (chained.generation as u64) < least {
             return Some(GENERATION);
         }
         if chained.base.root != self.base_root {
@@ -59,7 +59,7 @@ impl Client {
     }
 
     /// The chains that are told, where no field is wrong.
-    fn checked(&self, least: u32, chained: Chained) -> Result<Chained, ClientFault>
+    fn checked(&self, least: u64, chained: Chained) -> Result<Chained, ClientFault>
         requires { HasFewSteps chained }
         ensures { result ≡ chained_unless (wrong_field self.now least chained) chained }
     {
@@ -70,7 +70,7 @@ impl Client {
     }
 
     /// The chains in an answer to Chain.
-    pub fn chained_in(&self, least: u32, answer: Answer) -> Result<Chained, ClientFault>
+    pub fn chained_in(&self, least: u64, answer: Answer) -> Result<Chained, ClientFault>
         requires { TellsFewSteps answer }
         ensures { result ≡ chained_in self.now least answer }
     {
@@ -99,16 +99,19 @@ fn sized(count: u32, bytes: Octets) -> Result<Fetched, ClientFault>
     }
 }
 
-/// What is fetched by an answer to Chunk, which must have this many bytes.
-pub fn fetched_in(count: u32, answer: Answer) -> Result<Fetched, ClientFault>
+/// What is fetched by an answer to Chunk, which was asked at this generation and must have this
+/// many bytes.
+pub fn fetched_in(asked: u32, count: u32, answer: Answer) -> Result<Fetched, ClientFault>
     requires { count ≤ MAX_CHUNK_BYTES }
-    ensures told { result ≡ fetched_in count answer }
+    ensures told { result ≡ fetched_in asked count answer }
     ensures size { IfOk result (HasSize count) }
 {
     match answer {
         Answer::Bytes { bytes } => sized(count, bytes),
-        Answer::Moved { generation } => Ok(Fetched::Moved(generation)),
-        Answer::Refused { refusal } => Err(ClientFault::Refused(refusal)),
+        Answer::Moved { generation } => Ok(Fetched::Again(generation as u64)),
+        // A chunk is refused where the file is gone, and for no other reason. A file that has its
+        // name now was made later, so its generation is greater.
+        Answer::Refused { refusal: _ } => Ok(Fetched::Again(asked as u64 + 1)),
         Answer::DeviceFault => Err(ClientFault::Device),
         Answer::NoMemory => Err(ClientFault::Memory),
         _ => Err(ClientFault::BadReply { at: 0 }),

@@ -132,6 +132,24 @@ fn nine_tries_and_no_more(rt: HostRuntime) -> Result<(), Fail> {
     Ok(())
 }
 
+#[test]
+fn nine_files_that_are_gone_and_no_more(rt: HostRuntime) -> Result<(), Fail> {
+    let mut replies = Vec::new(rt.alloc());
+    for generation in 1..10u8 {
+        let mut chained = CHAINED_C_F1;
+        chained[16] = generation;
+        replies.push(Octets::copy(rt.alloc(), &chained)?)?;
+        replies.push(Octets::copy(rt.alloc(), &[0x88, 3])?)?;
+    }
+    let mut peer = FixedPeer::new(replies, Octets::new(rt.alloc()));
+    let result = reader_c()?.fetch(rt.alloc(), &mut peer, &name(b"f1")?);
+    let unsettled = ClientFault::Unsettled {
+        generations: [1, 2, 3, 4, 5, 6, 7, 8, 9],
+    };
+    assert_eq!(rt; result.map(|_| ()), Err(unsettled));
+    Ok(())
+}
+
 /// The fault of a read of f2 by a over these replies.
 fn fault_over(alloc: Global, replies: &[&[u8]]) -> Result<Result<(), ClientFault>, Fail> {
     Ok(read_of(alloc, &reader_a()?, b"f2", replies)?.0)
@@ -148,6 +166,18 @@ fn replies_that_cannot_be_are_bad(rt: HostRuntime) -> Result<(), Fail> {
     assert_eq!(rt; fault_over(rt.alloc(), &[&root])?, bad(93));
     let again = [CHAINED_A_F2.as_slice(), &MOVED_F2, &CHAINED_A_F2];
     assert_eq!(rt; fault_over(rt.alloc(), &again)?, bad(13));
+    // After a file that is gone comes one of a greater generation, or none.
+    let gone = [CHAINED_A_F2.as_slice(), &[0x88, 3], &CHAINED_A_F2];
+    assert_eq!(rt; fault_over(rt.alloc(), &gone)?, bad(13));
+    let mut last = CHAINED_A_F2;
+    last[13] = 0xff;
+    last[14] = 0xff;
+    last[15] = 0xff;
+    last[16] = 0xff;
+    let gone = [last.as_slice(), &[0x88, 3], &last];
+    assert_eq!(rt; fault_over(rt.alloc(), &gone)?, bad(13));
+    let other = [CHAINED_A_F2.as_slice(), &[0x88, 4]];
+    assert_eq!(rt; fault_over(rt.alloc(), &other)?, bad(1));
     let short = [CHAINED_A_F2.as_slice(), &BYTES_F2[..2]];
     assert_eq!(rt; fault_over(rt.alloc(), &short)?, bad(2));
     let long = [CHAINED_A_F2.as_slice(), &[0x86, 1, 2, 3]];

@@ -5,7 +5,7 @@ use Rattle.std.specs.Prelude.{Option, None, Some, true, is_some, not, unwrap_or}
 use Rattle.ov_base.specs.declared.limits.TheConstants.{MAX_USERS, MAX_FILES, MAX_LAYER_NODES}
 use Rattle.ov_base.specs.Sets.{single}
 use Rattle.ov_base.proofs.Tests.{gt_of_false}
-use Rattle.ov_history.specs.History.{Enrolled, Granted, Revoked}
+use Rattle.ov_history.specs.History.{Enrolled, Granted, Removed, Revoked}
 use Rattle.ov_history.specs.Asking.{Numbers, key_refusal, newcomer, of_both, of_grant, of_user, refusal_at}
 use Rattle.ov_history.specs.Catalogue.{Catalogue, Filed, Nodes, filed_at, matrix_shown}
 use Rattle.ov_history.specs.Catalogue.{no_filed, outline}
@@ -20,7 +20,7 @@ use Rattle.ov_history.proofs.Outlining.{node-shown}
 use Rattle.ov_history.proofs.PlanLaws.{node_for-there, with_wants-keeps}
 use Rattle.ov_history.proofs.SoundTests.{accepted, file_is as is_shown, is_below, none_applies}
 use Rattle.ov_history.proofs.Storing.{living_below}
-use Rattle.ov_state.specs.Asking.{numbers_of}
+use Rattle.ov_state.specs.Asking.{numbers_of, of_file}
 use Rattle.ov_state.specs.Contents.{IsWell}
 use Rattle.ov_state.specs.declared.asking.Asked.{Asked}
 use Rattle.ov_wire.specs.AnswerForm.{HasAnswerForm}
@@ -136,6 +136,18 @@ revoke_numbers limit c user file well none =
     in
     both_numbers limit c user file well (is_below user (length c.users) tests.0)
     (file_is c file tests.1.0)
+
+pub remove_numbers : (limit : ℕ) (c : Catalogue) (file : ℕ) → IsWell limit c
+    → refusal_at c (Removed file) ≡ None → AreNumbers (of_file c file)
+remove_numbers limit c file well none =
+    let tests = none_applies (tests_of (matrix_shown c) (outline c) c.epoch (Removed file)) none in
+    let kept : is_some (living_at c.files file) ≡ true = file_is c file tests.0 in record {
+      user = omega (arith);
+      base_root = omega (arith);
+      surface_root = omega (arith);
+      file = omega (arith, filed_below c file kept, well.files);
+      node = node_low limit c file well kept;
+    }
 
 -- a layer that has few nodes once a user is enrolled had fewer before
 surface_grows : (y : Layers) (name : List ℕ)

@@ -9,6 +9,7 @@ use Rattle.ov_base.specs.NameLists.{AreDistinct, is_among}
 use Rattle.ov_base.proofs.Tests.{ge_of_false}
 use Rattle.ov_record.specs.Updates.{SealedUpdate}
 use Rattle.ov_history.specs.History.{Update, Enrolled, Created, Granted, Revoked, History, Matrix, matrix_of, start_of, with_update}
+use Rattle.ov_history.specs.History.{Removed}
 use Rattle.ov_history.specs.Places.{place_of}
 use Rattle.ov_history.specs.Refusals.{AllAccepted, IsLegal, refusal_of, tests_of}
 use Rattle.ov_history.specs.History.{epoch_of}
@@ -62,6 +63,8 @@ one_more h (Granted user file) distinct none =
     subst (λ (m : Matrix). AreDistinct m.users) (sym (matrix_of-push h (Granted user file))) distinct
 one_more h (Revoked user file) distinct none =
     subst (λ (m : Matrix). AreDistinct m.users) (sym (matrix_of-push h (Revoked user file))) distinct
+one_more h (Removed file) distinct none =
+    subst (λ (m : Matrix). AreDistinct m.users) (sym (matrix_of-push h (Removed file))) distinct
 
 along : (h : History) (updates : List Update) → AreDistinct (matrix_of h).users
     → AllAccepted h updates → AreDistinct (matrix_of (with_updates h updates)).users

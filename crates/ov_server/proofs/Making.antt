@@ -11,6 +11,7 @@ use Rattle.ov_fields.proofs.NameLaws.{name_reads}
 use Rattle.ov_record.specs.Reading.{update_of}
 use Rattle.ov_record.specs.Spelling.{HasForm}
 use Rattle.ov_record.specs.Updates.{SealedUpdate, SealedEnrol, SealedCreate, SealedGrant, SealedRevoke}
+use Rattle.ov_record.specs.Updates.{SealedRemove}
 use Rattle.ov_record.specs.Forms.{second_form}
 use Rattle.ov_history.specs.Briefs.{brief, outer, part_place}
 use Rattle.ov_history.specs.Catalogue.{Catalogue, matrix_shown, outline}
@@ -47,6 +48,7 @@ part_low (SealedCreate name list tokens tag text) form =
     omega (arith, name_reads.short name form.0)
 part_low (SealedGrant user file token) form = omega arith
 part_low (SealedRevoke user file) form = omega arith
+part_low (SealedRemove file) form = omega arith
 
 -- ---- what is answered to an update that is tagged rightly and made at the epoch
 
@@ -94,6 +96,8 @@ not_spent c w none =
       by_update (SealedGrant user file token) (no_user, (no_file, (listed, (room, (spent, end))))) =
           gt_of_false LAST_EPOCH c.epoch spent
       by_update (SealedRevoke user file) (no_user, (no_file, (listed, (room, (spent, end))))) =
+          gt_of_false LAST_EPOCH c.epoch spent
+      by_update (SealedRemove file) (no_file, (room, (spent, end))) =
           gt_of_false LAST_EPOCH c.epoch spent
 
 -- why an update wasn't made

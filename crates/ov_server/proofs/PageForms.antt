@@ -20,11 +20,12 @@ use Rattle.ov_history.specs.Asking.{Numbers, of_user}
 use Rattle.ov_history.specs.Catalogue.{Catalogue, Filed, Nodes}
 use Rattle.ov_history.specs.Places.{living_at}
 use Rattle.ov_history.specs.Sound.{IsPlaced}
+use Rattle.ov_history.proofs.Storing.{living_below}
 use Rattle.ov_state.specs.Contents.{IsWell}
 use Rattle.ov_wire.specs.AnswerForm.{IsSomeEntry}
-use Rattle.ov_wire.specs.Entries.{Entry, User, Node, Access, File, IsEdge, IsNode, IsNodeEntry, IsOfPart, entry_bytes}
+use Rattle.ov_wire.specs.Entries.{Entry, User, Node, Access, File, Gone, IsEdge, IsNode, IsNodeEntry, IsOfPart, entry_bytes}
 use Rattle.ov_wire.specs.Updates.{Has32}
-use Rattle.ov_protocol.specs.Pages.{node_entry_of, page_of}
+use Rattle.ov_protocol.specs.Pages.{entry_of, file_entry_of, node_entry_of, page_of}
 use Rattle.ov_server.specs.Telling.{IsLayerOfStore, LeadByTokens, PagesNode}
 use Rattle.ov_server.proofs.AskForms.{AreNumbers, user_numbers}
 
@@ -146,3 +147,29 @@ some_entry part entry before bytes all form none spelled same = (
     spelled = same ∙ spelled ∙ ap (λ l. l ++ entry_bytes entry) none;
   },
 )
+
+-- ---- files by number
+
+-- the entry of a number that was given is that of what is there
+number_given : (c : Catalogue) (number : ℕ) (o : Option Filed) → number < length c.files
+    → living_at c.files number ≡ o → entry_of c 5 number ≡ file_entry_of (Some o)
+number_given c number o given is =
+    ap (λ (p : Option (Option Filed)). file_entry_of p)
+    (slice_get-get_or c.files number None given ∙ ap Some is)
+
+pub entry_there : (c : Catalogue) (number : ℕ) (f : Filed) → living_at c.files number ≡ Some f
+    → entry_of c 5 number ≡ Some (File f.name f.node f.length f.generation f.tag f.surface)
+entry_there c number f is =
+    number_given c number (Some f) (living_below c.files number f is) is
+
+pub entry_gone : (c : Catalogue) (number : ℕ) → number < length c.files
+    → living_at c.files number ≡ None → entry_of c 5 number ≡ Some Gone
+entry_gone c number given none = number_given c number None given none
+
+-- the bytes of an entry, which were appended to none, are as they stand in an answer
+pub page_is : (given : Option Entry) (entry : Entry) (before bytes all : List ℕ)
+    → given ≡ Some entry → before ≡ [] → bytes ≡ before ++ entry_bytes entry → all ≡ bytes
+    → Some all ≡ page_of given
+page_is given entry before bytes all is none spelled same =
+    ap Some (same ∙ spelled ∙ ap (λ l. l ++ entry_bytes entry) none)
+    ∙ ap (λ (o : Option Entry). page_of o) (sym is)

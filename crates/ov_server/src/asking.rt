@@ -76,6 +76,20 @@ fn answer_revoke(
     }
 }
 
+/// The answer to the question for a removal.
+fn answer_remove(state: &Catalogue, file: &Name) -> Result<Answer, Memory>
+    ensures answer { IfOk result
+        (AnswersAsk state.now.catalogue (questions.Remove file.now)) }
+    ensures form { IfOk result HasAnswerForm }
+{
+    state.known();
+    match state.ask_remove(file) {
+        Ok(asked) => Ok(known(state.epoch(), asked)),
+        Err(ChainFault::Refused(refusal)) => Ok(Answer::Refused { refusal }),
+        Err(ChainFault::Memory) => Err(Memory),
+    }
+}
+
 /// The answer to the question for a user's keys.
 fn answer_key(state: &Catalogue, user: &Name) -> Answer
     ensures answer { AnswersAsk state.now.catalogue (questions.Key user.now) result }
@@ -97,6 +111,7 @@ pub fn answer_ask(alloc: Global, state: &Catalogue, question: &Question) -> Resu
         Question::Enrol { user } => Ok(answer_enrol(state, user)),
         Question::Grant { user, file } => answer_grant(alloc, state, user, file),
         Question::Revoke { user, file } => answer_revoke(alloc, state, user, file),
+        Question::Remove { file } => answer_remove(state, file),
         Question::Key { user } => Ok(answer_key(state, user)),
     }
 }

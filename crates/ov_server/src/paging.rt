@@ -1,6 +1,7 @@
 //! The entries of the public catalogue.
-ghost use Rattle.std.specs.Prelude.{◌≡◌, ◌<◌, ◌≤◌, length, IfOk, IfSome, option_map};
+ghost use Rattle.std.specs.Prelude.{◌≡◌, ◌<◌, ◌≤◌, length, IfOk, IfSome, None, option_map};
 ghost use Rattle.ov_base_layer.specs.declared.grant.Grant.{Grant};
+ghost use Rattle.ov_history.specs.Places.{living_at};
 ghost use Rattle.ov_state.specs.Contents.{nodes_of};
 ghost use Rattle.ov_wire.specs.AnswerForm.{HasAnswerForm, IsSomeEntry};
 ghost use Rattle.ov_wire.specs.declared.answer.Answer.TheVariants.{PageOf};
@@ -69,6 +70,23 @@ fn access_page(alloc: Global, state: &Catalogue, number: u32) -> Result<Option<O
     Ok(Some(Octets::from_vec(bytes)))
 }
 
+/// The entry of a file that isn't there. Where its number was given out the file is gone, and its
+/// entry is the byte 0, which is no name's length.
+fn gone_page(alloc: Global, state: &Catalogue, number: u32) -> Result<Option<Octets>, Memory>
+    requires { living_at state.now.catalogue.files number ≡ None }
+    ensures entry { IfOk result (λ page.
+        page ≡ page_of (entry_of state.now.catalogue 5 number)) }
+    ensures form { IfOk result (λ page. IfSome page IsSomeEntry) }
+{
+    let given = state.sizes().files;
+    if given <= number {
+        return Ok(None);
+    }
+    let mut bytes = Vec::new(alloc);
+    bytes.push(0)?;
+    Ok(Some(Octets::from_vec(bytes)))
+}
+
 /// The entry of a file.
 fn file_page(alloc: Global, state: &Catalogue, number: u32) -> Result<Option<Octets>, Memory>
     ensures entry { IfOk result (λ page.
@@ -77,7 +95,7 @@ fn file_page(alloc: Global, state: &Catalogue, number: u32) -> Result<Option<Oct
 {
     state.known();
     let Some(file) = state.file_at(number) else {
-        return Ok(None);
+        return gone_page(alloc, state, number);
     };
     known_name(&file.name);
     known_tag(&file.tag);

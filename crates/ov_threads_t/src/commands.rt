@@ -95,7 +95,8 @@ fn expect_done<N: Abort + AllocGlobal + Net + Copy + Drop>(
 }
 
 /// At the server whose lines these are an owner enrols alice, creates a file and prints her key line,
-/// by which she reads the file. Each command names a server and files that only its hints would show.
+/// by which she reads the file; then the owner removes it. Each command names a server and files that
+/// only its hints would show.
 fn ask_for_all<N: Abort + AllocGlobal + Net + Wait + Copy + Drop>(
     net: &N,
     alloc: Global,
@@ -118,10 +119,11 @@ fn ask_for_all<N: Abort + AllocGlobal + Net + Wait + Copy + Drop>(
     expect_done(net, alloc, &owner, create, b"ok 2\n");
     expect_done(net, alloc, &owner, "key there keys alice", ALICE);
     expect_done(net, alloc, &alice, "read there key f", &report);
+    expect_done(net, alloc, &owner, "remove there keys f", b"ok 3\n");
 }
 
 #[test]
-fn four_commands_over_a_port(rt: HostRuntime) -> Result<(), Fail> {
+fn five_commands_over_a_port(rt: HostRuntime) -> Result<(), Fail> {
     let alloc = rt.alloc();
     let lines = Lines::new();
     let lent = &lines;
@@ -132,6 +134,6 @@ fn four_commands_over_a_port(rt: HostRuntime) -> Result<(), Fail> {
     );
     assert_eq!(rt; status, 0);
     let served = lines.second().ok_or("a second line")?;
-    assert_eq!(rt; served, b"served 4\n".as_slice());
+    assert_eq!(rt; served, b"served 5\n".as_slice());
     Ok(())
 }

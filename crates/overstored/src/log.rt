@@ -46,6 +46,7 @@ fn word_of(update: u8) -> &'static str {
         2 => "create",
         3 => "grant",
         4 => "revoke",
+        6 => "remove",
         _ => "update",
     }
 }

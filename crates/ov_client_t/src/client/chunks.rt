@@ -1,4 +1,4 @@
-//! A file of more than one chunk, whose surface changes while it is read.
+//! A file of more than one chunk, whose surface changes while it is read, or which is removed.
 
 use super::long_vectors::*;
 use super::*;
@@ -49,8 +49,8 @@ fn put_chunks(
     Ok(())
 }
 
-/// Two chunks of the file as it was, and all of it as it is after its surface changed.
-fn replies(alloc: Global) -> Result<Vec<Octets>, Fail> {
+/// Two chunks of the file as it was.
+fn first_replies(alloc: Global) -> Result<Vec<Octets>, Fail> {
     let mut replies = Vec::new(alloc);
     replies.push(Octets::copy(alloc, &CHAINED)?)?;
     put_chunks(
@@ -61,6 +61,12 @@ fn replies(alloc: Global) -> Result<Vec<Octets>, Fail> {
         2,
         &mut replies,
     )?;
+    Ok(replies)
+}
+
+/// Two chunks of the file as it was, and all of it as it is after its surface changed.
+fn replies(alloc: Global) -> Result<Vec<Octets>, Fail> {
+    let mut replies = first_replies(alloc)?;
     replies.push(Octets::copy(alloc, &MOVED)?)?;
     replies.push(Octets::copy(alloc, &CHAINED_AGAIN)?)?;
     put_chunks(
@@ -95,6 +101,57 @@ fn a_file_that_moved_before_its_third_chunk(rt: HostRuntime) -> Result<(), Fail>
     assert_eq!(rt;
         Sha256::digest(sink.written()).as_slice(),
         TRACE_SHA256.as_slice()
+    );
+    Ok(())
+}
+
+/// What a reads of f over these replies, behind one byte that was there before, and all frames.
+fn read_traced(
+    alloc: Global,
+    replies: Vec<Octets>,
+) -> Result<(Result<(), ClientFault>, Vec<u8>, MemSink), Fail> {
+    let peer = FixedPeer::new(replies, Octets::new(alloc));
+    let mut traced = Traced::new(peer, MemSink::new(alloc, Octets::new(alloc)));
+    let mut into = vec![in alloc; b'>'; 1]?;
+    let result = reader_a()?.read(alloc, &mut traced, &name(b"f")?, &mut into);
+    let (_, sink) = traced.into_parts();
+    Ok((result, into, sink))
+}
+
+#[test]
+fn a_file_that_is_removed_before_its_third_chunk(rt: HostRuntime) -> Result<(), Fail> {
+    let alloc = rt.alloc();
+    let mut replies = first_replies(alloc)?;
+    replies.push(Octets::copy(alloc, &GONE)?)?;
+    replies.push(Octets::copy(alloc, &GONE)?)?;
+    let (result, into, sink) = read_traced(alloc, replies)?;
+    let refused = ClientFault::Refused(ov_base::Refusal::NoFile);
+    assert_eq!(rt; result, Err(refused));
+    assert_eq!(rt; into.as_slice(), b">".as_slice());
+    // Five requests, the last of which is for the chains again.
+    assert_eq!(rt; sink.written().len(), 131_241);
+    assert_eq!(rt;
+        Sha256::digest(sink.written()).as_slice(),
+        GONE_TRACE_SHA256.as_slice()
+    );
+    Ok(())
+}
+
+#[test]
+fn a_file_that_is_made_again_before_its_third_chunk(rt: HostRuntime) -> Result<(), Fail> {
+    let alloc = rt.alloc();
+    let mut replies = first_replies(alloc)?;
+    replies.push(Octets::copy(alloc, &GONE)?)?;
+    replies.push(Octets::copy(alloc, &CHAINED_NEW)?)?;
+    replies.push(Octets::copy(alloc, &BYTES_NEW)?)?;
+    let (result, into, sink) = read_traced(alloc, replies)?;
+    assert_eq!(rt; result, Ok(()));
+    assert_eq!(rt; into.as_slice(), b">ten bytes!".as_slice());
+    // Six requests.
+    assert_eq!(rt; sink.written().len(), 131_337);
+    assert_eq!(rt;
+        Sha256::digest(sink.written()).as_slice(),
+        NEW_TRACE_SHA256.as_slice()
     );
     Ok(())
 }

@@ -15,10 +15,11 @@ returns-in-Ok-clause-talk g c = λ r file tries stored size.
     let same : Some (requests.Chunk d.file d.generation (length stored) MAX_CHUNK_BYTES)
     ≡ Some (requests.Chunk d.file d.generation c.args.start MAX_CHUNK_BYTES) =
     ap (λ n. Some (requests.Chunk d.file d.generation n MAX_CHUNK_BYTES)) (sym size) in
-    let is : c.fetched_in.result ≡ fetched_in (chunk_bytes d.length (length stored))
+    let is : c.fetched_in.result ≡ fetched_in d.generation (chunk_bytes d.length (length stored))
     c.in-Ok.answer =
-    c.fetched_in.ensures.told ∙ ap (λ n. fetched_in n c.in-Ok.answer) c.min-count.ensures
-    ∙ ap (λ n. fetched_in (chunk_bytes d.length n) c.in-Ok.answer) size in
+    c.fetched_in.ensures.told
+    ∙ ap (λ n. fetched_in d.generation n c.in-Ok.answer) c.min-count.ensures
+    ∙ ap (λ n. fetched_in d.generation (chunk_bytes d.length n) c.in-Ok.answer) size in
     told g.P.Peer.tells r file c.args.peer.now c.exchange.new.peer
     (AsksChunk tries d stored) (after_fetched r tries d stored) c.fetched_in.result
     (subst

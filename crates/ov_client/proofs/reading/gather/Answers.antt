@@ -4,7 +4,7 @@ use Rattle.ov_client.specs.Talks.{AsksChunk, after_fetched, goes_on}
 use Rattle.ov_client.specs.Telling.{HasSize, chunk_bytes}
 use Rattle.ov_client.specs.Tries.{after_gathered}
 use Rattle.ov_client.specs.declared.telling.Fetched.{Fetched}
-use Rattle.ov_client.specs.declared.telling.Fetched.TheVariants.{Bytes, Moved}
+use Rattle.ov_client.specs.declared.telling.Fetched.TheVariants.{Again, Bytes}
 use Rattle.ov_client.proofs.Gathering.{Gathers, fetched_on, gathers_all, gathers_more, gathers_none}
 use Rattle.ov_client.proofs.Gathering.{longer}
 use Rattle.ov_client.proofs.Gathering.{no_room, size_is}
@@ -100,13 +100,13 @@ returns-in-Err-append-clause-talk g c = λ r file tries same.
     (AsksChunk tries d so_far.stored) (after_fetched r tries d so_far.stored) (Ok f))
     c.in-Ok-Bytes.field-0-is on))
 
-pub returns-in-Ok-Moved-clause-talk : goal.returns-in-Ok-Moved-clause-talk
-returns-in-Ok-Moved-clause-talk g c = λ r file tries same.
+pub returns-in-Ok-Again-clause-talk : goal.returns-in-Ok-Again-clause-talk
+returns-in-Ok-Again-clause-talk g c = λ r file tries same.
     let d = c.args.chained.now in
     let plain = c.loop-alloc.plain.items in
     let so_far = c.loop-alloc.invariant.gathers r file tries in
     let low : length plain < d.length = omega (arith, c.len.ensures, c.loop-alloc-test.true) in
-    let on = c.in-Ok-Moved.ensures.talk r file tries so_far.stored
+    let on = c.in-Ok-Again.ensures.talk r file tries so_far.stored
     (omega (
       arith,
       c.len-in-loop-alloc.ensures,
@@ -116,11 +116,11 @@ returns-in-Ok-Moved-clause-talk g c = λ r file tries same.
     )) in
     fetched_on g.P.Peer.tells r file c.args.peer.now c.loop-alloc.peer
     c.ask_chunk.new.peer tries d c.args.keys.now
-    plain so_far (Ok (Moved c.in-Ok-Moved.now)) low
+    plain so_far (Ok (Again c.in-Ok-Again.next)) low
     (subst (λ (f : Fetched). ReadGoesOn g.P.Peer.tells c.loop-alloc.peer
     c.ask_chunk.new.peer r file
     (AsksChunk tries d so_far.stored) (after_fetched r tries d so_far.stored) (Ok f))
-    c.in-Ok-Moved.field-0-is on)
+    c.in-Ok-Again.field-0-is on)
 
 pub returns-in-Err-clause-talk : goal.returns-in-Err-clause-talk
 returns-in-Err-clause-talk g c = λ r file tries same.

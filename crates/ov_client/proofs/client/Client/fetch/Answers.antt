@@ -103,21 +103,21 @@ loop-n-preserved g c =
     let file = c.args.file.now in
     let all = c.loop-n.generations in
     let before = take c.loop-n.n all in
-    let generation = c.in-Ok-Moved.generation in
+    let generation = c.in-Ok-Again.generation in
     let there : c.loop-n.n < length all = omega
     (arith, c.loop-n-test.true, c.loop-n.invariant.many) in
     let low : length before < TRIES =
     omega (arith, c.loop-n-test.true, c.loop-n.invariant.many, length-take-le c.loop-n.n all) in
     let on = tried_on g.P.Peer.tells r file c.args.peer.now c.loop-n.peer
     c.try_once.new.peer before c.loop-n.least
-    (Ok (tries.Moved generation c.in-Ok-Moved.now)) low c.loop-n.invariant.reaches
+    (Ok (tries.Again generation c.in-Ok-Again.next)) low c.loop-n.invariant.reaches
     (subst (λ (t : Tried). ReadGoesOn g.P.Peer.tells c.loop-n.peer c.try_once.new.peer r
     file
-    (AsksChain before c.loop-n.least) (after_tried before) (Ok t)) c.in-Ok-Moved.field-0-is
-    (c.in-Ok-Moved.ensures.talk before)) in record {
+    (AsksChain before c.loop-n.least) (after_tried before) (Ok t)) c.in-Ok-Again.field-0-is
+    (c.in-Ok-Again.ensures.talk before)) in record {
       reaches = subst (λ (told : List ℕ). Reaches g.P.Peer.tells c.args.peer.now c.try_once.new.peer
           r file (AsksChain [] 0)
-          (again told c.in-Ok-Moved.now)) (sym (take_more_set all c.loop-n.n generation there)) on;
+          (again told c.in-Ok-Again.next)) (sym (take_more_set all c.loop-n.n generation there)) on;
       many = length-set all c.loop-n.n generation ∙ c.loop-n.invariant.many;
       same = c.try_once.ensures.same ∙ c.loop-n.invariant.same;
       later = omega (arith, c.try_once.ensures.cause.later, c.loop-n.invariant.later);

@@ -42,11 +42,11 @@ returns-in-Err-judge-clause-talk g c = λ file tries.
     c.gather.new.peer r file
     (goes_on r tries d []) (Ends x)) judge on)
 
-pub returns-in-Ok-Moved-clause-talk : goal.returns-in-Ok-Moved-clause-talk
-returns-in-Ok-Moved-clause-talk g c = λ file tries.
+pub returns-in-Ok-Again-clause-talk : goal.returns-in-Ok-Again-clause-talk
+returns-in-Ok-Again-clause-talk g c = λ file tries.
     let r = c.args.self.now in
     let d = c.args.chained.now in
     subst (λ (f : Fetched). ReadGoesOn g.P.Peer.tells c.args.peer.now c.gather.new.peer
     r file
-    (goes_on r tries d []) (after_gathered r tries d) (Ok f)) c.in-Ok-Moved.field-0-is
-    (c.in-Ok-Moved.ensures.talk r file tries c.along-keys.ensures)
+    (goes_on r tries d []) (after_gathered r tries d) (Ok f)) c.in-Ok-Again.field-0-is
+    (c.in-Ok-Again.ensures.talk r file tries c.along-keys.ensures)
