@@ -6,13 +6,14 @@ use Rattle.std.proofs.lemmas.List.{length-replicate}
 use Rattle.ov_record.specs.Updates.{SealedUpdate, SealedEnrol, SealedCreate, SealedGrant, SealedRevoke, SealedRemove}
 use Rattle.ov_history.specs.Briefs.{brief, outer}
 use Rattle.ov_history.specs.Fading.{AgreeButGone, faded, faded_all, faded_if, faded_of, is_gone_from, made_by, no_tag}
+use Rattle.ov_history.specs.FadingLaws.{IsRight}
 use Rattle.ov_history.specs.History.{Created, History, Matrix, Update, changed, changed_all, delisted, listed, matrix_of, no_one, start_of, with_update}
 use Rattle.ov_history.specs.Layers.{Layers, layers_of}
 use Rattle.ov_history.specs.Lists.{is_file}
 use Rattle.ov_history.specs.Masters.{Masters}
 use Rattle.ov_history.specs.Places.{gone}
 use Rattle.ov_history.specs.Plain.{PlainHistory, PlainUpdate, history_of, with_plain}
-use Rattle.ov_history.specs.Refusals.{IsLegal, refusal_of}
+use Rattle.ov_history.specs.Refusals.{refusal_of}
 use Rattle.ov_history.specs.Sealed.{AllFit, HasParts, IsSealed, SealedHistory, catalogue_of, outer_all, outer_of, stored_of, with_sealed}
 use Rattle.ov_history.specs.Sealing.{IsSealedAs, sealed, sealed_update}
 use Rattle.ov_history.specs.Words.{HasFile}
@@ -57,7 +58,7 @@ made-faded true (SealedGrant user file token) = refl
 made-faded true (SealedRevoke user file) = refl
 made-faded true (SealedRemove file) = refl
 
--- without parts it is the same update
+-- an update that fades is the same without its parts
 outer-faded : (b : Bool) (u : SealedUpdate) → outer (brief (faded_if b u)) ≡ outer (brief u)
 outer-faded false u = refl
 outer-faded true (SealedEnrol user) = refl
@@ -67,7 +68,7 @@ outer-faded true (SealedGrant user file token) = refl
 outer-faded true (SealedRevoke user file) = refl
 outer-faded true (SealedRemove file) = refl
 
--- where it has its parts once it fades, it had them
+-- an update that has its parts once it fades had them before
 parts_back : (y : Layers) (b : Bool) (u : SealedUpdate) → HasParts y (brief (faded_if b u))
     → HasParts y (brief u)
 parts_back y false u parts = parts
@@ -100,7 +101,8 @@ made_many : (m : Matrix) (updates : List SealedUpdate)
     → length (changed_all m (outer_all updates)).files ≡ length m.files + made_all updates
 made_many m [] = omega arith
 made_many m (u ∷ updates) =
-    omega (arith, made_after m u, made_many (changed m (outer (brief u))) updates)
+    made_many (changed m (outer (brief u))) updates
+    ∙ ap (λ n. n + made_all updates) (made_after m u) ∙ omega arith
 
 module _ (is_out : ℕ → Bool) where
   made_all-faded : (number : ℕ) (updates : List SealedUpdate)
@@ -132,7 +134,7 @@ module _ (is_out : ℕ → Bool) where
       (faded-append (number + made_by first) updates u
       ∙ ap (λ n. rest ++ faded_if (is_out n) u ∷ []) (omega arith))
 
-  -- where all fit once they fade, they fitted
+  -- updates that fit once some of them fade fitted before
   fit_back : (h : History) (number : ℕ) (updates : List SealedUpdate)
       → AllFit h (faded_all is_out number updates) → AllFit h updates
   fit_back h number [] fit = tt
@@ -230,21 +232,24 @@ right_goes_on k p u g right =
     agreement_goes_on g (sealed k p) (sealed_update k (layers_of (history_of p)) u) right
     ∙ ap (λ (it : SealedHistory). faded_of it) (sym (sealing_goes_on k p u))
 
-module _ (k : Masters) (p : PlainHistory) (g : SealedHistory) (legal : IsLegal (history_of p))
-    (right : IsSealedAs k p g) where
-  -- it is a sealed history
-  pub right_is_sealed : IsSealed g
-  right_is_sealed =
-      fit_back (is_gone_from g) (start_of (outer_of g)) 0 g.updates
-      (subst IsSealed (sym right) (faded_is_sealed (sealed k p) (sealed_is_sealed k p legal)))
+-- a history that is right is a sealed one
+pub right_is_sealed : (k : Masters) (p : PlainHistory) (g : SealedHistory) → IsRight k p g
+    → IsSealed g
+right_is_sealed k p g (legal, right) =
+    fit_back (is_gone_from g) (start_of (outer_of g)) 0 g.updates
+    (subst (λ (h : SealedHistory). IsSealed h) (sym right)
+    (faded_is_sealed (sealed k p) (sealed_is_sealed k p legal)))
 
-  -- it shows what its owner's own form shows, and keeps the same bytes
-  pub right_shows : catalogue_of k.surface g ≡ catalogue_of k.surface (sealed k p)
-  right_shows =
-      agreeing_show_the_same k.surface g (sealed k p) right_is_sealed (sealed_is_sealed k p legal)
-      right
+-- what is right shows what the form shows in which its owner seals it
+pub right_shows : (k : Masters) (p : PlainHistory) (g : SealedHistory) → IsRight k p g
+    → catalogue_of k.surface g ≡ catalogue_of k.surface (sealed k p)
+right_shows k p g right =
+    agreeing_show_the_same k.surface g (sealed k p) (right_is_sealed k p g right)
+    (sealed_is_sealed k p right.0) right.1
 
-  pub right_keeps : stored_of k.surface g ≡ stored_of k.surface (sealed k p)
-  right_keeps =
-      agreeing_store_the_same k.surface g (sealed k p) right_is_sealed
-      (sealed_is_sealed k p legal) right
+-- what is right has the same stored bytes as the form in which its owner seals it
+pub right_keeps : (k : Masters) (p : PlainHistory) (g : SealedHistory) → IsRight k p g
+    → stored_of k.surface g ≡ stored_of k.surface (sealed k p)
+right_keeps k p g right =
+    agreeing_store_the_same k.surface g (sealed k p) (right_is_sealed k p g right)
+    (sealed_is_sealed k p right.0) right.1
