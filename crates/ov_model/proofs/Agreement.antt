@@ -8,6 +8,7 @@ use Rattle.ov_base.specs.Sets.{set_of_bytes}
 use Rattle.ov_fields.specs.Reading.{Read, ◌>>=◌, ◌>>◌, made, spanned, rest_of, at_most, bytes_at, number_at, number_that, many_at, counted_at, flag_at, some_at, optional_at, set_at, token_at, token_of, name_at, sized_at}
 use Rattle.ov_record.specs.Reading as record_reading
 use Rattle.ov_record.specs.Forms.{second_form}
+use Rattle.ov_record.specs.Updates.{SealedRemove}
 use Rattle.ov_wire.specs.Updates as wire_reading
 use Rattle.ov_wire.specs.RequestReading.{spelling_at}
 
@@ -138,7 +139,7 @@ updates_alike (suc (suc (suc (suc zero))) ∷ bytes) =
     rest-made wire_reading.revocation (wire_reading.revocation_at bytes) ∙ sym (rest-made record_reading.revocation (record_reading.revocation_at bytes))
 updates_alike (suc (suc (suc (suc (suc zero)))) ∷ bytes) = refl
 updates_alike (suc (suc (suc (suc (suc (suc zero))))) ∷ bytes) =
-    rest-made _ (number_at w32 bytes) ∙ sym (rest-made _ (number_at w32 bytes))
+    rest-made wire_reading.Removal (number_at w32 bytes) ∙ sym (rest-made SealedRemove (number_at w32 bytes))
 updates_alike (suc (suc (suc (suc (suc (suc (suc kind)))))) ∷ bytes) = refl
 
 -- the span depends on what is left alone
