@@ -1,20 +1,25 @@
 -- Sealed histories that agree but for files that are gone go on alike, and each that is right is a
 -- sealed history with the catalogue and the stored bytes of the one that its owner seals.
-use Rattle.std.proofs.Common.{◌≡◌, ◌∙◌, ℕ, ◌+◌, ◌<◌, Bool, true, false, List, [], ◌∷◌, ◌++◌, length, refl, sym, ap, subst, arith, length-append, true≢false}
+use Rattle.std.proofs.Common.{◌≡◌, ◌∙◌, ℕ, ◌+◌, ◌<◌, Bool, true, false, List, [], ◌∷◌, ◌++◌, length}
+use Rattle.std.proofs.Common.{refl, sym, ap, subst, arith, length-append, true≢false}
 use Rattle.std.specs.Prelude.{Some, not, option_map, replicate}
 use Rattle.std.proofs.lemmas.List.{length-replicate}
-use Rattle.ov_record.specs.Updates.{SealedUpdate, SealedEnrol, SealedCreate, SealedGrant, SealedRevoke, SealedRemove}
+use Rattle.ov_record.specs.Updates.{SealedUpdate, SealedEnrol, SealedCreate, SealedGrant}
+use Rattle.ov_record.specs.Updates.{SealedRevoke, SealedRemove}
 use Rattle.ov_history.specs.Briefs.{brief, outer}
-use Rattle.ov_history.specs.Fading.{AgreeButGone, faded, faded_all, faded_if, faded_of, is_gone_from, made_by, no_tag}
+use Rattle.ov_history.specs.Fading.{AgreeButGone, faded, faded_all, faded_if, faded_of}
+use Rattle.ov_history.specs.Fading.{is_gone_from, made_by, no_tag}
 use Rattle.ov_history.specs.FadingLaws.{IsRight}
-use Rattle.ov_history.specs.History.{Created, History, Matrix, Update, changed, changed_all, delisted, listed, matrix_of, no_one, start_of, with_update}
+use Rattle.ov_history.specs.History.{Created, History, Matrix, Update, changed, changed_all}
+use Rattle.ov_history.specs.History.{delisted, listed, matrix_of, no_one, start_of, with_update}
 use Rattle.ov_history.specs.Layers.{Layers, layers_of}
 use Rattle.ov_history.specs.Lists.{is_file}
 use Rattle.ov_history.specs.Masters.{Masters}
 use Rattle.ov_history.specs.Places.{gone}
 use Rattle.ov_history.specs.Plain.{PlainHistory, PlainUpdate, history_of, with_plain}
 use Rattle.ov_history.specs.Refusals.{refusal_of}
-use Rattle.ov_history.specs.Sealed.{AllFit, HasParts, IsSealed, SealedHistory, catalogue_of, outer_all, outer_of, stored_of, with_sealed}
+use Rattle.ov_history.specs.Sealed.{AllFit, HasParts, IsSealed, SealedHistory, catalogue_of}
+use Rattle.ov_history.specs.Sealed.{outer_all, outer_of, stored_of, with_sealed}
 use Rattle.ov_history.specs.Sealing.{IsSealedAs, sealed, sealed_update}
 use Rattle.ov_history.specs.Words.{HasFile}
 use Rattle.ov_history.proofs.ChangeLaws.{length-change_at}

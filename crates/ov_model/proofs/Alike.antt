@@ -1,18 +1,23 @@
 -- The machine answers alike at two plain histories by which one sealed history is right.
-use Rattle.std.proofs.Common.{◌≡◌, ◌∙◌, ℕ, ◌+◌, Bool, true, false, not, List, [], ◌∷◌, ◌++◌, Option, Some, None, refl, sym, ap}
+use Rattle.std.proofs.Common.{◌≡◌, ◌∙◌, ℕ, ◌+◌, Bool, true, false, not, List, [], ◌∷◌, ◌++◌, Option}
+use Rattle.std.proofs.Common.{Some, None, refl, sym, ap}
 use Rattle.ov_base.specs.declared.refusal.Refusal.{Refusal}
 use Rattle.ov_base.specs.declared.refusal.Refusal.TheVariants.{NoFile, NoPath, NoUser}
 use Rattle.ov_script.specs.Lines.{reply_line}
-use Rattle.ov_script.specs.declared.command.Command.TheVariants.{Enrol, Create, Grant, Revoke, Remove, Read, List as ListNames, Epoch as AskEpoch}
+use Rattle.ov_script.specs.declared.command.Command.TheVariants.{Enrol, Create, Grant, Revoke}
+use Rattle.ov_script.specs.declared.command.Command.TheVariants.{Remove, Read, List as ListNames}
+use Rattle.ov_script.specs.declared.command.Command.TheVariants.{Epoch as AskEpoch}
 use Rattle.ov_script.specs.declared.reply.Reply.{Reply}
-use Rattle.ov_script.specs.declared.reply.Reply.TheVariants.{Accepted, Bytes, Epoch as EpochIs, Refused}
+use Rattle.ov_script.specs.declared.reply.Reply.TheVariants.{Accepted, Bytes, Epoch as EpochIs}
+use Rattle.ov_script.specs.declared.reply.Reply.TheVariants.{Refused}
 use Rattle.ov_history.specs.Fading.{AgreeButGone, faded_of}
 use Rattle.ov_history.specs.FadingLaws.{IsRight}
 use Rattle.ov_history.specs.History.{History, Matrix, epoch_of, matrix_of}
 use Rattle.ov_history.specs.Layers.{layers_of}
 use Rattle.ov_history.specs.Lists.{file_number, is_file, is_listed, is_user, set_named, user_number}
 use Rattle.ov_history.specs.Masters.{Masters}
-use Rattle.ov_history.specs.Plain.{PlainCreate, PlainEnrol, PlainGrant, PlainHistory, PlainRemove, PlainRevoke, PlainUpdate, history_of, measured}
+use Rattle.ov_history.specs.Plain.{PlainCreate, PlainEnrol, PlainGrant, PlainHistory, PlainRemove}
+use Rattle.ov_history.specs.Plain.{PlainRevoke, PlainUpdate, history_of, measured}
 use Rattle.ov_history.specs.Refusals.{first_of_tests, list_refusal, read_refusal, refusal_of}
 use Rattle.ov_history.specs.Sealed.{SealedHistory, with_sealed}
 use Rattle.ov_history.specs.Sealing.{IsSealedAs, sealed, sealed_update}
@@ -20,7 +25,8 @@ use Rattle.ov_history.proofs.Fading.{right_histories_read_alike}
 use Rattle.ov_history.proofs.Sealing.{sealing_goes_on}
 use Rattle.ov_model.specs.Alike.{RightHistoriesHaveSameLines, RightHistoriesStepAlike}
 use Rattle.ov_model.specs.Lines.{lines}
-use Rattle.ov_model.specs.Step.{after, bytes_reply, names_reply, reply_or, reply_to, update, update_step}
+use Rattle.ov_model.specs.Step.{after, bytes_reply, names_reply, reply_or, reply_to, update}
+use Rattle.ov_model.specs.Step.{update_step}
 use Rattle.ov_model.proofs.Agreeing.{agreement_goes_on}
 use Rattle.ov_model.proofs.Legality.{legal-after}
 
