@@ -183,7 +183,10 @@ stays_gone : (g : SealedHistory) (u : SealedUpdate) (n : ℕ) → n < 0 + made_a
 stays_gone g u n low gone_now =
     by_test (is_file (matrix_of (outer_of (with_sealed g u))) n) refl where
       below : n < length (matrix_of (outer_of g)).files
-      below = omega (arith, low, made_many no_one g.updates)
+      below =
+          let many : length (matrix_of (outer_of g)).files ≡ 0 + made_all g.updates =
+          made_many no_one g.updates in
+          omega (arith, low, many)
 
       by_test : (b : Bool) → is_file (matrix_of (outer_of (with_sealed g u))) n ≡ b
           → is_gone_from (with_sealed g u) n ≡ true
