@@ -9,7 +9,6 @@ use Rattle.ov_record.specs.Updates.{SealedRevoke, SealedRemove}
 use Rattle.ov_history.specs.Briefs.{brief, outer}
 use Rattle.ov_history.specs.Fading.{AgreeButGone, faded, faded_all, faded_if, faded_of}
 use Rattle.ov_history.specs.Fading.{is_gone_from, made_by, no_tag}
-use Rattle.ov_history.specs.FadingLaws.{IsRight}
 use Rattle.ov_history.specs.History.{Created, History, Matrix, Update, changed, changed_all}
 use Rattle.ov_history.specs.History.{delisted, listed, matrix_of, no_one, start_of, with_update}
 use Rattle.ov_history.specs.Layers.{Layers, layers_of}
@@ -17,7 +16,7 @@ use Rattle.ov_history.specs.Lists.{is_file}
 use Rattle.ov_history.specs.Masters.{Masters}
 use Rattle.ov_history.specs.Places.{gone}
 use Rattle.ov_history.specs.Plain.{PlainHistory, PlainUpdate, history_of, with_plain}
-use Rattle.ov_history.specs.Refusals.{refusal_of}
+use Rattle.ov_history.specs.Refusals.{IsLegal, refusal_of}
 use Rattle.ov_history.specs.Sealed.{AllFit, HasParts, IsSealed, SealedHistory, catalogue_of}
 use Rattle.ov_history.specs.Sealed.{outer_all, outer_of, stored_of, with_sealed}
 use Rattle.ov_history.specs.Sealing.{IsSealedAs, sealed, sealed_update}
@@ -241,23 +240,25 @@ right_goes_on k p u g right =
     ∙ ap (λ (it : SealedHistory). faded_of it) (sym (sealing_goes_on k p u))
 
 -- a history that is right is a sealed one
-pub right_is_sealed : (k : Masters) (p : PlainHistory) (g : SealedHistory) → IsRight k p g
-    → IsSealed g
-right_is_sealed k p g (legal, right) =
+pub right_is_sealed : (k : Masters) (p : PlainHistory) (g : SealedHistory)
+    → IsLegal (history_of p) → IsSealedAs k p g → IsSealed g
+right_is_sealed k p g legal right =
     fit_back (is_gone_from g) (start_of (outer_of g)) 0 g.updates
     (subst (λ (h : SealedHistory). IsSealed h) (sym right)
     (faded_is_sealed (sealed k p) (sealed_is_sealed k p legal)))
 
 -- what is right shows what the form shows in which its owner seals it
-pub right_shows : (k : Masters) (p : PlainHistory) (g : SealedHistory) → IsRight k p g
+pub right_shows : (k : Masters) (p : PlainHistory) (g : SealedHistory)
+    → IsLegal (history_of p) → IsSealedAs k p g
     → catalogue_of k.surface g ≡ catalogue_of k.surface (sealed k p)
-right_shows k p g right =
-    agreeing_show_the_same k.surface g (sealed k p) (right_is_sealed k p g right)
-    (sealed_is_sealed k p right.0) right.1
+right_shows k p g legal right =
+    agreeing_show_the_same k.surface g (sealed k p) (right_is_sealed k p g legal right)
+    (sealed_is_sealed k p legal) right
 
 -- what is right has the same stored bytes as the form in which its owner seals it
-pub right_keeps : (k : Masters) (p : PlainHistory) (g : SealedHistory) → IsRight k p g
+pub right_keeps : (k : Masters) (p : PlainHistory) (g : SealedHistory)
+    → IsLegal (history_of p) → IsSealedAs k p g
     → stored_of k.surface g ≡ stored_of k.surface (sealed k p)
-right_keeps k p g right =
-    agreeing_store_the_same k.surface g (sealed k p) (right_is_sealed k p g right)
-    (sealed_is_sealed k p right.0) right.1
+right_keeps k p g legal right =
+    agreeing_store_the_same k.surface g (sealed k p) (right_is_sealed k p g legal right)
+    (sealed_is_sealed k p legal) right

@@ -28,8 +28,8 @@ module _ (k : Masters) (base_check : List ℕ) (p : PlainHistory) (g : SealedHis
   pub served_alike : served (under k.surface base_check g)
       ≡ served (under k.surface base_check (sealed k p))
   served_alike =
-      λ i. serving_of k.surface base_check (right_shows k p g (legal, right) i)
-      (right_keeps k p g (legal, right) i)
+      λ i. serving_of k.surface base_check (right_shows k p g legal right i)
+      (right_keeps k p g legal right i)
 
   pub answers_alike : (request : Request) (a : Answer)
       → Answers (served (under k.surface base_check g)) request a

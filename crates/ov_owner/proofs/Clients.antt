@@ -66,7 +66,7 @@ module _ (k : Masters) (v : Service) (others : List SealedUpdate) (p : PlainHist
   catalogue_is : c ≡ s
   catalogue_is =
       ap (λ (master : List ℕ). catalogue_of master (later v others).history) same
-      ∙ right_shows k p (later v others).history (legal, right)
+      ∙ right_shows k p (later v others).history legal right
 
   matrix_is : matrix_shown c ≡ matrix_of (history_of p)
   matrix_is = ap matrix_shown catalogue_is ∙ (kept_shows k p s (legal, refl)).matrix

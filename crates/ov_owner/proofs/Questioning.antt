@@ -67,7 +67,7 @@ machines : (v : Service) (others : List SealedUpdate) (k : Masters) (p : PlainHi
     → matrix_shown (catalogue_of v.surface (later v others).history) ≡ matrix_of (history_of p)
 machines v others k p same legal right =
     ap (λ (master : List ℕ). matrix_shown (catalogue_of master (later v others).history)) same
-    ∙ ap matrix_shown (right_shows k p (later v others).history (legal, right))
+    ∙ ap matrix_shown (right_shows k p (later v others).history legal right)
     ∙ (kept_shows k p (catalogue_of k.surface (sealed k p)) (legal, refl)).matrix
 
 listed_there : (Then : Service → Type 0) (v : Service) (file : List ℕ) (names : List (List ℕ))

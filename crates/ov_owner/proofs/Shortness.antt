@@ -123,7 +123,7 @@ module _ (k : Masters) (command : Command) (e : Errand) (d : Does k command e) (
       → IsAnswerAt (here g) (update_request k.surface epoch u) (answers.Stale now) made → ⊥
   never_stale g epoch now u made same at_epoch (inr (disk, may, needs)) = cc disk
   never_stale g epoch now u made same at_epoch (inl ((tagged, other, is), makes_it)) =
-      other (at_epoch ∙ ap (λ (c : Catalogue). c.epoch) (sym (right_shows k p s (legal, right)))
+      other (at_epoch ∙ ap (λ (c : Catalogue). c.epoch) (sym (right_shows k p s legal right))
       ∙ ap (λ (x : SealedHistory). (catalogue_of k.surface x).epoch) (sym same))
 
   by_answer : (g : SealedHistory) (tries : List ℕ) (epoch : ℕ) (u : SealedUpdate) (a : Answer)

@@ -98,7 +98,7 @@ module _ (k : Masters) (command : Command) (e : Errand) (d : Does k command e) (
       → followed g others ≡ t.asked
   still_there g others epoch u t now =
       let epochs : (catalogue_of k.surface t.asked).epoch ≡ epoch =
-      ap (λ (c : Catalogue). c.epoch) (right_shows k t.p t.asked (t.legal, t.right))
+      ap (λ (c : Catalogue). c.epoch) (right_shows k t.p t.asked t.legal t.right)
       ∙ sym t.at_epoch in
       ap (λ (x : SealedHistory). followed x others) t.same
       ∙ same_epoch k.surface t.asked t.between others
@@ -111,7 +111,7 @@ module _ (k : Masters) (command : Command) (e : Errand) (d : Does k command e) (
       → catalogue_of k.surface (followed g others) ≡ catalogue_of k.surface (sealed k t.p)
   shows_there g others epoch u t now =
       ap (catalogue_of k.surface) (still_there g others epoch u t now)
-      ∙ right_shows k t.p t.asked (t.legal, t.right)
+      ∙ right_shows k t.p t.asked t.legal t.right
 
   -- and it is right by the history at which the update was sealed
   right_there : (g : SealedHistory) (others : List SealedUpdate) (epoch : ℕ) (u : SealedUpdate)
