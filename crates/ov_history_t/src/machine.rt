@@ -19,8 +19,12 @@ pub fn only_the_listed_read()
 
 /// A file that is removed is there for nobody, and its name is free.
 pub fn a_removed_file_is_not_there()
-    ensures files { RemovesFiles }
-    ensures once { RemovesOnce }
+    ensures { RemovesFiles }
+{}
+
+/// A file that is gone isn't removed once more.
+pub fn a_file_is_removed_once()
+    ensures { RemovesOnce }
 {}
 
 /// An update is answered with the epoch that it makes.

@@ -13,11 +13,14 @@ pub fn a_revocation_asks_for_its_update_alone()
     ensures { RevocationsAreTwoRequests }
 {}
 
-/// For a removal two things are asked, too: the number that it needs, and the update. Their frames
-/// are short.
+/// For a removal two things are asked: the number of the file, and the update.
 pub fn a_removal_asks_for_its_update_alone()
-    ensures two { RemovalsAreTwoRequests }
-    ensures short { RemovalsAreShort }
+    ensures { RemovalsAreTwoRequests }
+{}
+
+/// What is sent for a removal has few bytes beside the name of the file.
+pub fn the_frames_of_a_removal_are_short()
+    ensures { RemovalsAreShort }
 {}
 
 /// A file is asked for in as many chunks as its bytes need, the last of which may be a short one.
