@@ -55,15 +55,17 @@ SurfacesInOrder =
     (in_delta (two_files (Revoked 1 0 ∷ Granted 2 0 ∷ []))).surface
     ≡ 1 ∷ 2 ∷ 4 ∷ 5 ∷ 3 ∷ []
 
--- The first of two files is removed. Its number isn't given to the next one, which is for the third
--- user alone and so has that user's root for its base node, and the number of the second stays.
+-- The first of two files is removed, and another is created for the third user alone, with that
+-- user's root for its base node. It has the next number. If the number of the first were given
+-- again, it would come before the second file.
 abbrev pub NumbersAreGivenOnce : Type 0
 NumbersAreGivenOnce =
     (in_delta (two_files (Removed 0 ∷ Created (102 ∷ 49 ∷ []) 4 0 ∷ []))).files
     ≡ None ∷ bare 3 5 ∷ bare 2 7 ∷ []
 
 -- The first of two files is granted to the third user, and then removed. The third user holds the
--- base node of both still, so the second file keeps its surface, and the generation that it had.
+-- base node of both still, so the second file keeps its surface and its generation. If the access
+-- went with the file, the second file would be bare.
 pub record AccessesOutliveFiles : Type 0 where
   pub holders : holders (in_delta (two_files (Granted 2 0 ∷ Removed 0 ∷ []))) 3 ≡ 7
   pub files : (in_delta (two_files (Granted 2 0 ∷ Removed 0 ∷ []))).files

@@ -61,7 +61,8 @@ RemovesFiles =
     ++ reply_line (Accepted 4) ++ reply_line (Bytes bob letter (120 ∷ 49 ∷ []))
     ++ reply_line (Accepted 5) ++ reply_line (Refused NoFile) ++ reply_line (Accepted 6)
 
--- a file that is gone isn't removed once more, and the history stays
+-- A file that is gone isn't removed once more, and the history stays. If its name stayed with its
+-- number, it would be removed twice.
 pub record RemovesOnce : Type 0 where
   pub reply : reply_to (history (Create letter [] [] ∷ Remove letter ∷ [])) (Remove letter)
       ≡ Refused NoFile
