@@ -2,8 +2,8 @@
 -- does is the lowest.
 use Rattle.std.proofs.Common.{◌≡◌, ℕ, suc, ◌+◌, ◌<◌, ◌≤◌, Bool, true, false, List, [], ◌∷◌, length, refl}
 use Rattle.std.proofs.Common.{sym, ◌∙◌, ap, subst, arith, inl, inr, ◌⊎◌, true≢false}
-use Rattle.std.specs.Prelude.{◌++◌, zero, Contains, nat_le, nat_lt, not}
-use Rattle.std.specs.Prelude.{Option, Some, None, is_some, option_map}
+use Rattle.std.specs.Prelude.{◌≢◌, zero, Contains, nat_le, nat_lt, not}
+use Rattle.std.specs.Prelude.{Option, Some, None, is_some}
 use Rattle.std.specs.Str.{bytes_eq}
 use Rattle.std.specs.Prelude.{Decides}
 use Rattle.std.proofs.lemmas.Bool.{leb-true, le-leb}
@@ -22,16 +22,16 @@ use Rattle.ov_base.proofs.SetLaws.{Within-within, within-Within}
 use Rattle.ov_base.proofs.Tests.{lt_is_true, lt_of_true}
 use Rattle.ov_graph.proofs.ListLaws.{Contains-cases, Contains-first, Contains-later, Contains-none}
 use Rattle.ov_history.specs.History.{Update, Enrolled, Created, Granted, Revoked, History, Matrix}
-use Rattle.ov_history.specs.History.{File, changed, delisted, epoch_of, listed as listed_in, matrix_of}
+use Rattle.ov_history.specs.History.{File, Removed, epoch_of, matrix_of}
 use Rattle.ov_history.specs.Layers.{Layers, layers_after, layers_of}
 use Rattle.ov_history.specs.Lists.{byte_sum, everyone, file_at, file_names}
-use Rattle.ov_history.specs.Lists.{file_number, is_file}
-use Rattle.ov_history.specs.Places.{change_at, here_or_after, living_at, place_of}
+use Rattle.ov_history.specs.Lists.{is_file, name_left}
+use Rattle.ov_history.specs.Places.{here_or_after, living_at, place_of}
 use Rattle.ov_history.specs.Refusals.{Test, first_of_tests, is_past_nodes, read_tests, tests_of}
 use Rattle.ov_history.proofs.PlaceLaws.{everyone-Has, everyone-below}
-use Rattle.ov_history.proofs.Pushing.{each_history, layers_of-push, matrix_of-push}
+use Rattle.ov_history.proofs.Pushing.{layers_of-push}
 use Rattle.ov_history.proofs.RefusalOrder.{RiseFrom, read_tests_rise, tests_rise}
-use Rattle.ov_history_t.specs.Refusing.{Applies, AppliesToList, AppliesToRead, IsLowest}
+use Rattle.ov_history_t.specs.Refusing.{Applies, AppliesToList, AppliesToRead, IsLowest, IsNamed}
 use Rattle.ov_history_t.specs.Refusing.{ListsAreRefused, PassesNodes, ReadsAreRefused}
 use Rattle.ov_history_t.specs.Refusing.{UpdatesAreRefused}
 
@@ -120,67 +120,90 @@ among name [] = (λ e. absurd (true≢false (sym e)), λ c. absurd (Contains-non
 among name (first ∷ names) =
     among_step (bytes_eq name first) name first names refl (among name names)
 
--- ---- files of a history
+-- ---- files by name
 
--- none of these files is gone
-abbrev AllHere : List (Option File) → Type 0
-AllHere [] = Unit {0}
-AllHere (None ∷ files) = ⊥
-AllHere (Some f ∷ files) = AllHere files
+-- the empty name isn't that of a file behind one that is gone
+gone_first : (files : List (Option File)) (name : List ℕ) (number : ℕ) (f : File) → name ≡ []
+    → living_at (None ∷ files) number ≡ Some f
+    → (name ≡ [] → (n : ℕ) → n < number → living_at (None ∷ files) n ≢ None) → ⊥
+gone_first files name zero f empty there first = cc there
+gone_first files name (suc number) f empty there first = first empty 0 (omega arith) refl
 
-here_below : (files : List (Option File)) (n : ℕ) → AllHere files
-    → Decides (is_some (living_at files n)) (n < length files)
-here_below [] n all = (λ e. absurd (cc), λ low. absurd (omega (arith, low)))
-here_below (None ∷ files) n all = absurd all
-here_below (Some f ∷ files) zero all = (λ e. omega arith, λ low. refl)
-here_below (Some f ∷ files) (suc n) all =
-    let rest = here_below files n all in
-    (λ e. omega (arith, rest.0 e), λ low. rest.1 (omega (arith, low)))
+later_first : (name : List ℕ) (x : Option File) (files : List (Option File))
+    → (name ≡ name_left x → ⊥) → (number : ℕ)
+    → (name ≡ [] → (n : ℕ) → n < number → living_at files n ≢ None)
+    → name ≡ [] → (n : ℕ) → n < suc number → living_at (x ∷ files) n ≢ None
+later_first name x files other number first empty zero low is =
+    other (empty ∙ sym (ap (λ (f : Option File). name_left f) is))
+later_first name x files other number first empty (suc n) low is =
+    first empty n (omega (arith, low)) is
 
-here_more : (files : List (Option File)) (f : File) → AllHere files
-    → AllHere (files ++ Some f ∷ [])
-here_more [] f all = tt
-here_more (None ∷ files) f all = absurd all
-here_more (Some g ∷ files) f all = here_more files f all
+named_later : (name : List ℕ) (x : Option File) (files : List (Option File))
+    → (name ≡ name_left x → ⊥) → (number : ℕ) (f : File)
+    → living_at (x ∷ files) number ≡ Some f → f.name ≡ name
+    → (name ≡ [] → (n : ℕ) → n < number → living_at (x ∷ files) n ≢ None) → IsNamed files name
+named_later name x files other zero f there named first =
+    absurd (other (sym named ∙ sym (ap (λ (g : Option File). name_left g) there)))
+named_later name x files other (suc number) f there named first = record {
+  number = number;
+  file = f;
+  there = there;
+  named = named;
+  first = λ empty n low. first empty (suc n) (omega (arith, low));
+}
 
-here_changed : (change : File → File) (n : ℕ) (files : List (Option File)) → AllHere files
-    → AllHere (change_at (option_map change) n files)
-here_changed change n [] all = tt
-here_changed change n (None ∷ files) all = absurd all
-here_changed change zero (Some f ∷ files) all = all
-here_changed change (suc n) (Some f ∷ files) all = here_changed change n files all
+-- a test for the file at a place
+abbrev is_there : List (Option File) → ℕ → Bool
+is_there files place = is_some (living_at files place)
 
-here_after : (m : Matrix) (u : Update) → AllHere m.files → AllHere (changed m u).files
-here_after m (Enrolled user) all = all
-here_after m (Created file list size) all =
-    here_more m.files (record { name = file; length = size; list = list }) all
-here_after m (Granted user file) all = here_changed (listed_in user) file m.files all
-here_after m (Revoked user file) all = here_changed (delisted user) file m.files all
-
--- no update makes a file gone, so each file of a history is there
-all_here : (h : History) → AllHere (matrix_of h).files
-all_here =
-    each_history (λ (h : History). AllHere (matrix_of h).files) (λ h. tt)
-    (λ h u all. subst (λ (m : Matrix). AllHere m.files) (sym (matrix_of-push h u))
-    (here_after (matrix_of h) u all))
-
-length-names : (files : List (Option File)) → length (file_names files) ≡ length files
-length-names [] = refl
-length-names (file ∷ files) = ap suc (length-names files)
-
--- the name of a file has a number exactly where it is there
-file_among : (m : Matrix) (name : List ℕ) → AllHere m.files
-    → Decides (is_file m (file_number m name)) (Contains (file_names m.files) name)
-file_among m name all =
-    let number : ℕ = file_number m name in
-    let files = here_below m.files number all in
-    let names = among name (file_names m.files) in
-    let many = length-names m.files in (
-      λ e. names.0
-          (lt_is_true number (length (file_names m.files)) (omega (arith, many, files.0 e))),
-      λ c. files.1
-          (omega (arith, many, lt_of_true number (length (file_names m.files)) (names.1 c))),
+named_step : (b : Bool) (name : List ℕ) (x : Option File) (files : List (Option File))
+    → bytes_eq name (name_left x) ≡ b
+    → Decides (is_there files (place_of name (file_names files))) (IsNamed files name)
+    → Decides (is_there (x ∷ files) (here_or_after b (place_of name (file_names files))))
+    (IsNamed (x ∷ files) name)
+named_step true name None files is rest =
+    let empty : name ≡ [] = (bytes_eq-Decides name []).0 is in (
+      λ e. absurd (cc),
+      λ named. absurd
+          (gone_first files name named.number named.file empty named.there named.first),
     )
+named_step true name (Some f) files is rest = (
+  λ e. record {
+    number = 0;
+    file = f;
+    there = refl;
+    named = sym ((bytes_eq-Decides name f.name).0 is);
+    first = λ empty n low. absurd (omega (arith, low));
+  },
+  λ named. refl,
+)
+named_step false name x files is rest = (there, back) where
+  other : name ≡ name_left x → ⊥
+  other same = true≢false (sym ((bytes_eq-Decides name (name_left x)).1 same) ∙ is)
+
+  there : is_there (x ∷ files) (here_or_after false (place_of name (file_names files))) ≡ true
+      → IsNamed (x ∷ files) name
+  there e =
+      let later : IsNamed files name = rest.0 e in record {
+        number = suc later.number;
+        file = later.file;
+        there = later.there;
+        named = later.named;
+        first = later_first name x files other later.number later.first;
+      }
+
+  back : IsNamed (x ∷ files) name
+      → is_there (x ∷ files) (here_or_after false (place_of name (file_names files))) ≡ true
+  back named =
+      rest.1
+      (named_later name x files other named.number named.file named.there named.named named.first)
+
+-- the number of a name is that of a file exactly where one has it
+named_among : (files : List (Option File)) (name : List ℕ)
+    → Decides (is_there files (place_of name (file_names files))) (IsNamed files name)
+named_among [] name = (λ e. absurd (cc), λ named. absurd (cc (named.there)))
+named_among (x ∷ files) name =
+    named_step (bytes_eq name (name_left x)) name x files refl (named_among files name)
 
 -- a file isn't there exactly where there is none of its number
 lacks : (o : Option File) → Decides (not (is_some o)) (o ≡ None)
@@ -234,7 +257,7 @@ decided h (Enrolled name) =
     )
 decided h (Created name list size) =
     let m = matrix_of h in (
-      file_among m name (all_here h),
+      named_among m.files name,
       (
         Decides-not (within list (everyone (length m.users))) (all_users (length m.users) list),
         (
@@ -262,6 +285,9 @@ decided h (Revoked user file) =
         (out_of_list m user file, (nodes h (Revoked user file), (spent h, tt))),
       ),
     )
+decided h (Removed file) =
+    let m = matrix_of h in
+    (no_file_at m file, (nodes h (Removed file), (spent h, tt)))
 
 -- each refusal that applies to an update has a test
 listed : (h : History) (u : Update) (why : Refusal) → Applies h u why
@@ -310,6 +336,17 @@ listed h (Revoked user file) FilesFull p = absurd p
 listed h (Revoked user file) BytesFull p = absurd p
 listed h (Revoked user file) NodesFull p = inr (inr (inr (inl refl)))
 listed h (Revoked user file) Spent p = inr (inr (inr (inr (inl refl))))
+listed h (Removed file) Taken p = absurd p
+listed h (Removed file) NoUser p = absurd p
+listed h (Removed file) NoFile p = inl refl
+listed h (Removed file) NoPath p = absurd p
+listed h (Removed file) Listed p = absurd p
+listed h (Removed file) NotListed p = absurd p
+listed h (Removed file) UsersFull p = absurd p
+listed h (Removed file) FilesFull p = absurd p
+listed h (Removed file) BytesFull p = absurd p
+listed h (Removed file) NodesFull p = inr (inl refl)
+listed h (Removed file) Spent p = inr (inr (inl refl))
 
 pub updates_are_refused : UpdatesAreRefused
 updates_are_refused h u =

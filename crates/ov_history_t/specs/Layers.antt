@@ -4,7 +4,7 @@ use Rattle.ov_base.specs.declared.mode.Mode.TheVariants.{Delta}
 use Rattle.ov_tokens.specs.declared.label.Kind.TheVariants.{Derive, Surface as SurfaceLabels}
 use Rattle.ov_tokens.specs.Keys.{access_key_of, node_key}
 use Rattle.ov_surface.specs.Coats.{stored_under}
-use Rattle.ov_history.specs.History.{Update, Enrolled, Created, Granted, Revoked}
+use Rattle.ov_history.specs.History.{Update, Enrolled, Created, Granted, Revoked, Removed}
 use Rattle.ov_history.specs.Layers.{Layers, Place, holders, layers_of}
 use Rattle.ov_history.specs.Masters.{access_key}
 use Rattle.ov_history.specs.Rewrites.{restored, surface_key}
@@ -54,6 +54,22 @@ abbrev pub SurfacesInOrder : Type 0
 SurfacesInOrder =
     (in_delta (two_files (Revoked 1 0 ∷ Granted 2 0 ∷ []))).surface
     ≡ 1 ∷ 2 ∷ 4 ∷ 5 ∷ 3 ∷ []
+
+-- The first of two files is removed, and another is created for the third user alone, with that
+-- user's root for its base node. It has the next number. If the number of the first were given
+-- again, it would come before the second file.
+abbrev pub NumbersAreGivenOnce : Type 0
+NumbersAreGivenOnce =
+    (in_delta (two_files (Removed 0 ∷ Created (102 ∷ 49 ∷ []) 4 0 ∷ []))).files
+    ≡ None ∷ bare 3 5 ∷ bare 2 7 ∷ []
+
+-- The first of two files is granted to the third user, and then removed. The third user holds the
+-- base node of both still, so the second file keeps its surface and its generation. If the access
+-- went with the file, the second file would be bare.
+pub record AccessesOutliveFiles : Type 0 where
+  pub holders : holders (in_delta (two_files (Granted 2 0 ∷ Removed 0 ∷ []))) 3 ≡ 7
+  pub files : (in_delta (two_files (Granted 2 0 ∷ Removed 0 ∷ []))).files
+      ≡ None ∷ under 3 3 6 ∷ []
 
 -- the key of surface node 3 is that of its number, and not that of node 0
 abbrev pub NodesHaveKeys : Type 0

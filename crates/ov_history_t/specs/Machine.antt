@@ -1,11 +1,13 @@
 -- Rows of the machine: what it answers to short scripts.
 use Rattle.std.specs.Prelude.{◌≡◌, ℕ, List, [], ◌∷◌, ◌++◌}
-use Rattle.ov_base.specs.declared.mode.Mode.TheVariants.{Full}
-use Rattle.ov_base.specs.declared.refusal.Refusal.TheVariants.{NoPath}
+use Rattle.ov_base.specs.declared.mode.Mode.TheVariants.{Delta, Full}
+use Rattle.ov_base.specs.declared.refusal.Refusal.TheVariants.{NoFile, NoPath}
 use Rattle.ov_script.specs.Lines.{reply_line}
 use Rattle.ov_script.specs.declared.command.Command.{Command}
-use Rattle.ov_script.specs.declared.command.Command.TheVariants.{Enrol, Create, Read, Epoch as AskEpoch}
-use Rattle.ov_script.specs.declared.reply.Reply.TheVariants.{Accepted, Epoch as EpochIs, Refused}
+use Rattle.ov_script.specs.declared.command.Command.TheVariants.{Enrol, Create, Grant, Remove, Read}
+use Rattle.ov_script.specs.declared.command.Command.TheVariants.{Epoch as AskEpoch}
+use Rattle.ov_script.specs.declared.reply.Reply.TheVariants.{Accepted, Bytes, Epoch as EpochIs}
+use Rattle.ov_script.specs.declared.reply.Reply.TheVariants.{Refused}
 use Rattle.ov_history.specs.Plain.{PlainHistory, empty_plain}
 use Rattle.ov_model.specs.Lines.{lines}
 use Rattle.ov_model.specs.Step.{after, after_all, reply_to}
@@ -46,3 +48,23 @@ LetsTheListedRead =
 -- the first update is answered with epoch 1, and not with epoch 0, at which it was asked
 abbrev pub AnswersNextEpoch : Type 0
 AnswersNextEpoch = reply_to (history []) (Enrol alice) ≡ Accepted 1
+
+-- A file is read by a user who was granted it, and is then removed: its own reader is told that there
+-- is no such file. Its name is free for another file. If removed files were read, the first user
+-- would have the bytes.
+abbrev pub RemovesFiles : Type 0
+RemovesFiles =
+    lines (empty_plain Delta 0)
+    (Enrol alice ∷ Enrol bob ∷ Create letter (alice ∷ []) (120 ∷ 49 ∷ []) ∷ Grant bob letter
+    ∷ Read bob letter ∷ Remove letter ∷ Read alice letter ∷ Create letter (bob ∷ []) [] ∷ [])
+    ≡ reply_line (Accepted 1) ++ reply_line (Accepted 2) ++ reply_line (Accepted 3)
+    ++ reply_line (Accepted 4) ++ reply_line (Bytes bob letter (120 ∷ 49 ∷ []))
+    ++ reply_line (Accepted 5) ++ reply_line (Refused NoFile) ++ reply_line (Accepted 6)
+
+-- A file that is gone isn't removed once more, and the history stays. If its name stayed with its
+-- number, it would be removed twice.
+pub record RemovesOnce : Type 0 where
+  pub reply : reply_to (history (Create letter [] [] ∷ Remove letter ∷ [])) (Remove letter)
+      ≡ Refused NoFile
+  pub stays : after (history (Create letter [] [] ∷ Remove letter ∷ [])) (Remove letter)
+      ≡ history (Create letter [] [] ∷ Remove letter ∷ [])

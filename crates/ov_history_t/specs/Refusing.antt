@@ -1,7 +1,7 @@
 -- Where each refusal is answered, in the words of the table of refusals; and rows at the edges of
 -- what a store holds.
-use Rattle.std.specs.Prelude.{◌≡◌, ◌⊎◌, ℕ, ◌<◌, ◌≤◌, ◌+◌, List, [], ◌∷◌, length, Contains, Option}
-use Rattle.std.specs.Prelude.{Some, None}
+use Rattle.std.specs.Prelude.{◌≡◌, ◌≢◌, ◌⊎◌, ℕ, ◌<◌, ◌≤◌, ◌+◌, List, [], ◌∷◌, length, Contains}
+use Rattle.std.specs.Prelude.{Option, Some, None}
 use Rattle.ov_base.specs.Refusals.{refusal_number}
 use Rattle.ov_base.specs.Sets.{Has, IsBelow}
 use Rattle.ov_base.specs.declared.limits.TheConstants.{LAST_EPOCH, MAX_FILES, MAX_LAYER_NODES}
@@ -13,20 +13,30 @@ use Rattle.ov_base.specs.declared.refusal.Refusal.TheVariants.{Listed, NotListed
 use Rattle.ov_base.specs.declared.refusal.Refusal.TheVariants.{FilesFull, BytesFull, NodesFull}
 use Rattle.ov_base.specs.declared.refusal.Refusal.TheVariants.{Spent}
 use Rattle.ov_history.specs.History.{Update, Enrolled, Created, Granted, Revoked, History, Matrix}
-use Rattle.ov_history.specs.History.{epoch_of, matrix_of, with_update}
+use Rattle.ov_history.specs.History.{File, Removed, epoch_of, matrix_of, with_update}
 use Rattle.ov_history.specs.Layers.{Layers, layers_of}
-use Rattle.ov_history.specs.Lists.{byte_sum, file_at, file_names}
+use Rattle.ov_history.specs.Lists.{byte_sum, file_at}
 use Rattle.ov_history.specs.Places.{living_at}
 use Rattle.ov_history.specs.Refusals.{list_refusal, read_refusal, refusal_of}
 
 -- ---- an update
 
--- the user that is to be enrolled, or the file that is to be created, is there
+-- A file of this name is there. The empty name is also what is left of a file that is gone, and
+-- isn't taken where one of these comes first.
+pub record IsNamed (files : List (Option File)) (name : List ℕ) : Type 0 where
+  pub number : ℕ
+  pub file : File
+  pub there : living_at files number ≡ Some file
+  pub named : file.name ≡ name
+  pub first : name ≡ [] → (n : ℕ) → n < number → living_at files n ≢ None
+
+-- the user that is to be enrolled, or a file of the name of the one that is to be created, is there
 abbrev pub IsTaken : Matrix → Update → Type 0
 IsTaken m (Enrolled user) = Contains m.users user
-IsTaken m (Created file list size) = Contains (file_names m.files) file
+IsTaken m (Created file list size) = IsNamed m.files file
 IsTaken m (Granted user file) = ⊥
 IsTaken m (Revoked user file) = ⊥
+IsTaken m (Removed file) = ⊥
 
 -- a user that the update names isn't enrolled
 abbrev pub LacksUser : Matrix → Update → Type 0
@@ -34,13 +44,15 @@ LacksUser m (Enrolled user) = ⊥
 LacksUser m (Created file list size) = IsBelow (length m.users) list → ⊥
 LacksUser m (Granted user file) = length m.users ≤ user
 LacksUser m (Revoked user file) = length m.users ≤ user
+LacksUser m (Removed file) = ⊥
 
--- the file that the update names isn't there
+-- the file that the update names isn't there, or is gone
 abbrev pub LacksFile : Matrix → Update → Type 0
 LacksFile m (Enrolled user) = ⊥
 LacksFile m (Created file list size) = ⊥
 LacksFile m (Granted user file) = living_at m.files file ≡ None
 LacksFile m (Revoked user file) = living_at m.files file ≡ None
+LacksFile m (Removed file) = living_at m.files file ≡ None
 
 -- the user who is to be granted the file is in its list
 abbrev pub IsInList : Matrix → Update → Type 0
@@ -48,6 +60,7 @@ IsInList m (Enrolled user) = ⊥
 IsInList m (Created file list size) = ⊥
 IsInList m (Granted user file) = Has (file_at m file).list user
 IsInList m (Revoked user file) = ⊥
+IsInList m (Removed file) = ⊥
 
 -- the user whose access is to be revoked isn't in the file's list
 abbrev pub IsOutOfList : Matrix → Update → Type 0
@@ -55,6 +68,7 @@ IsOutOfList m (Enrolled user) = ⊥
 IsOutOfList m (Created file list size) = ⊥
 IsOutOfList m (Granted user file) = ⊥
 IsOutOfList m (Revoked user file) = Has (file_at m file).list user → ⊥
+IsOutOfList m (Removed file) = ⊥
 
 -- a user is to be enrolled, and there are as many as a store holds
 abbrev pub HasAllUsers : Matrix → Update → Type 0
@@ -62,21 +76,25 @@ HasAllUsers m (Enrolled user) = MAX_USERS ≤ length m.users
 HasAllUsers m (Created file list size) = ⊥
 HasAllUsers m (Granted user file) = ⊥
 HasAllUsers m (Revoked user file) = ⊥
+HasAllUsers m (Removed file) = ⊥
 
--- a file is to be created, and there are as many as a store holds
+-- a file is to be created, and as many were created as a store has numbers for; the number of one
+-- that is gone isn't given again
 abbrev pub HasAllFiles : Matrix → Update → Type 0
 HasAllFiles m (Enrolled user) = ⊥
 HasAllFiles m (Created file list size) = MAX_FILES ≤ length m.files
 HasAllFiles m (Granted user file) = ⊥
 HasAllFiles m (Revoked user file) = ⊥
+HasAllFiles m (Removed file) = ⊥
 
--- A file is to be created, and with it all files have more bytes than a store holds. A store that
--- is then exactly full has no more.
+-- A file is to be created, and with it all files that are there have more bytes than a store holds.
+-- A store that is then exactly full has no more.
 abbrev pub PassesBytes : Matrix → Update → Type 0
 PassesBytes m (Enrolled user) = ⊥
 PassesBytes m (Created file list size) = MAX_STORE_BYTES < byte_sum m.files + size
 PassesBytes m (Granted user file) = ⊥
 PassesBytes m (Revoked user file) = ⊥
+PassesBytes m (Removed file) = ⊥
 
 -- a layer has more nodes than a layer holds
 abbrev pub PassesNodes : Layers → Type 0
@@ -158,3 +176,15 @@ pub record LastEpochIsSpent : Type 0 where
       ≡ Some Spent
   pub lower : refusal_of (begun 4294967294 (Enrolled (97 ∷ []) ∷ [])) (Enrolled (97 ∷ []))
       ≡ Some Taken
+
+-- A file that fills a store is removed. Its bytes are free, and so is its name, and it isn't removed
+-- twice. If its bytes still counted, no other of as many would fit.
+pub record RemovalsFreeBytes : Type 0 where
+  pub fits : refusal_of (begun 0 (Created (102 ∷ []) 0 67108864 ∷ Removed 0 ∷ []))
+      (Created (102 ∷ []) 0 67108864)
+      ≡ None
+  pub passes : refusal_of (begun 0 (Created (102 ∷ []) 0 67108864 ∷ []))
+      (Created (103 ∷ []) 0 67108864)
+      ≡ Some BytesFull
+  pub twice : refusal_of (begun 0 (Created (102 ∷ []) 0 67108864 ∷ Removed 0 ∷ [])) (Removed 0)
+      ≡ Some NoFile

@@ -1,7 +1,7 @@
 //! Rows of layers, and of the keys and the coats that rest on them.
-ghost use Rattle.ov_history_t.specs.Layers.{AccessesCount, CoatsAreTakenOff, CoatsAreUnderAccessKeys};
-ghost use Rattle.ov_history_t.specs.Layers.{HoldersDecide, ListsHaveNodes, NodesHaveKeys};
-ghost use Rattle.ov_history_t.specs.Layers.{SurfacesInOrder};
+ghost use Rattle.ov_history_t.specs.Layers.{AccessesCount, AccessesOutliveFiles, CoatsAreTakenOff};
+ghost use Rattle.ov_history_t.specs.Layers.{CoatsAreUnderAccessKeys, HoldersDecide, ListsHaveNodes};
+ghost use Rattle.ov_history_t.specs.Layers.{NodesHaveKeys, NumbersAreGivenOnce, SurfacesInOrder};
 
 /// A user who was granted access to a base node holds it.
 pub fn holders_have_accesses()
@@ -22,6 +22,16 @@ pub fn a_surface_for_the_holders_is_wanted()
 /// Of two surface nodes that one update adds, that of the file with the lower number comes first.
 pub fn new_surfaces_come_in_the_order_of_files()
     ensures { SurfacesInOrder }
+{}
+
+/// The number of a file that is removed isn't given to another, and other files keep theirs.
+pub fn a_number_is_given_once()
+    ensures { NumbersAreGivenOnce }
+{}
+
+/// A user who was granted access to a base node holds it after the file is removed.
+pub fn accesses_outlive_files()
+    ensures { AccessesOutliveFiles }
 {}
 
 /// Two surface nodes have keys of their own numbers.

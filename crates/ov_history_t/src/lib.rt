@@ -13,15 +13,16 @@ mod refusing;
 
 pub use layers::{
     a_base_coat_is_under_the_access_key, a_new_file_has_a_node_of_its_own_list,
-    a_surface_for_the_holders_is_wanted, an_old_coat_is_taken_off, holders_have_accesses,
-    new_surfaces_come_in_the_order_of_files, surfaces_have_their_own_keys,
+    a_number_is_given_once, a_surface_for_the_holders_is_wanted, accesses_outlive_files,
+    an_old_coat_is_taken_off, holders_have_accesses, new_surfaces_come_in_the_order_of_files,
+    surfaces_have_their_own_keys,
 };
 pub use machine::{
-    a_line_is_of_the_history_before, a_refused_update_changes_nothing, only_the_listed_read,
-    the_next_epoch_is_answered,
+    a_file_is_removed_once, a_line_is_of_the_history_before, a_refused_update_changes_nothing,
+    a_removed_file_is_not_there, only_the_listed_read, the_next_epoch_is_answered,
 };
 pub use ordering::new_surfaces_are_in_the_order_of_files;
 pub use refusing::{
-    a_question_has_the_lowest_refusal, an_update_has_the_lowest_refusal, bytes_fill_a_store,
-    the_last_epoch_is_spent,
+    a_question_has_the_lowest_refusal, a_removal_frees_bytes_and_name,
+    an_update_has_the_lowest_refusal, bytes_fill_a_store, the_last_epoch_is_spent,
 };

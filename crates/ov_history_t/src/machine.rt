@@ -1,6 +1,6 @@
 //! Rows of the access-matrix machine.
 ghost use Rattle.ov_history_t.specs.Machine.{AnswersNextEpoch, KeepsNoRefused, LetsTheListedRead};
-ghost use Rattle.ov_history_t.specs.Machine.{RepliesBefore};
+ghost use Rattle.ov_history_t.specs.Machine.{RemovesFiles, RemovesOnce, RepliesBefore};
 
 /// A reply line is of the history before its command.
 pub fn a_line_is_of_the_history_before()
@@ -15,6 +15,16 @@ pub fn a_refused_update_changes_nothing()
 /// A user who isn't in a file's list is refused to read it.
 pub fn only_the_listed_read()
     ensures { LetsTheListedRead }
+{}
+
+/// A file that is removed is there for nobody, and its name is free.
+pub fn a_removed_file_is_not_there()
+    ensures { RemovesFiles }
+{}
+
+/// A file that is gone isn't removed once more.
+pub fn a_file_is_removed_once()
+    ensures { RemovesOnce }
 {}
 
 /// An update is answered with the epoch that it makes.

@@ -1,6 +1,6 @@
 //! Laws of refusals, in the words of the table of refusals, and rows at the edges.
 ghost use Rattle.ov_history_t.specs.Refusing.{BytesFillStores, LastEpochIsSpent, ListsAreRefused};
-ghost use Rattle.ov_history_t.specs.Refusing.{ReadsAreRefused, UpdatesAreRefused};
+ghost use Rattle.ov_history_t.specs.Refusing.{ReadsAreRefused, RemovalsFreeBytes, UpdatesAreRefused};
 
 /// To an update is answered the refusal of the lowest number among those that apply, each by its
 /// words, and none where none applies.
@@ -18,6 +18,11 @@ pub fn a_question_has_the_lowest_refusal()
 /// A file that makes a store exactly full fits, and one byte more doesn't.
 pub fn bytes_fill_a_store()
     ensures { BytesFillStores }
+{}
+
+/// The bytes and the name of a file that is removed are free.
+pub fn a_removal_frees_bytes_and_name()
+    ensures { RemovalsFreeBytes }
 {}
 
 /// At the last epoch no update is taken.

@@ -1,13 +1,14 @@
 -- The two readers leave the same bytes, or fail at the same one.
 use Rattle.std.proofs.Common.{◌≡◌, ℕ, zero, suc, ◌+◌, ◌-◌, ◌*◌, ◌<◌, ◌≤◌, Bool, true, false, cond, ltb, List, [], ◌∷◌, length, take, drop, Some, Result, Ok, Err, lt-ltb, refl, sym, ap, ◌∙◌, length-drop, drop-drop, arith}
-use Rattle.std.specs.Int.{w16}
+use Rattle.std.specs.Int.{w16, w32}
 use Rattle.std.proofs.lemmas.Bool.{ltb-true, ltb-false, le-ltb}
 use Rattle.std.proofs.lemmas.Bool.Decides.{nat_tests}
 use Rattle.ov_base.specs.declared.limits.TheConstants.{MAX_USERS, MAX_FILE_BYTES, SET_BYTES}
 use Rattle.ov_base.specs.Sets.{set_of_bytes}
-use Rattle.ov_fields.specs.Reading.{Read, ◌>>=◌, ◌>>◌, made, spanned, rest_of, at_most, bytes_at, number_that, many_at, counted_at, flag_at, some_at, optional_at, set_at, token_at, token_of, name_at, sized_at}
+use Rattle.ov_fields.specs.Reading.{Read, ◌>>=◌, ◌>>◌, made, spanned, rest_of, at_most, bytes_at, number_at, number_that, many_at, counted_at, flag_at, some_at, optional_at, set_at, token_at, token_of, name_at, sized_at}
 use Rattle.ov_record.specs.Reading as record_reading
 use Rattle.ov_record.specs.Forms.{second_form}
+use Rattle.ov_record.specs.Updates.{SealedRemove}
 use Rattle.ov_wire.specs.Updates as wire_reading
 use Rattle.ov_wire.specs.RequestReading.{spelling_at}
 
@@ -136,7 +137,10 @@ updates_alike (suc (suc (suc zero)) ∷ bytes) =
     rest-made wire_reading.grant (wire_reading.grant_at bytes) ∙ grant_alike bytes ∙ sym (rest-made record_reading.grant (record_reading.grant_at bytes))
 updates_alike (suc (suc (suc (suc zero))) ∷ bytes) =
     rest-made wire_reading.revocation (wire_reading.revocation_at bytes) ∙ sym (rest-made record_reading.revocation (record_reading.revocation_at bytes))
-updates_alike (suc (suc (suc (suc (suc kind)))) ∷ bytes) = refl
+updates_alike (suc (suc (suc (suc (suc zero)))) ∷ bytes) = refl
+updates_alike (suc (suc (suc (suc (suc (suc zero))))) ∷ bytes) =
+    rest-made wire_reading.Removal (number_at w32 bytes) ∙ sym (rest-made SealedRemove (number_at w32 bytes))
+updates_alike (suc (suc (suc (suc (suc (suc (suc kind)))))) ∷ bytes) = refl
 
 -- the span depends on what is left alone
 abbrev span_to : List ℕ → Rest → Read (List ℕ)

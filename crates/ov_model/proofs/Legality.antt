@@ -2,9 +2,9 @@
 use Rattle.std.proofs.Common.{◌≡◌, List, [], ◌∷◌, refl, sym, ◌∙◌, subst, Option, Some, None}
 use Rattle.ov_base.specs.declared.refusal.Refusal.{Refusal}
 use Rattle.ov_script.specs.declared.command.Command.{Command}
-use Rattle.ov_script.specs.declared.command.Command.TheVariants.{Enrol, Create, Grant, Revoke, Read, List as ListNames, Epoch as AskEpoch}
+use Rattle.ov_script.specs.declared.command.Command.TheVariants.{Enrol, Create, Grant, Revoke, Remove, Read, List as ListNames, Epoch as AskEpoch}
 use Rattle.ov_history.specs.History.{History, matrix_of}
-use Rattle.ov_history.specs.Plain.{PlainUpdate, PlainEnrol, PlainCreate, PlainGrant, PlainRevoke, PlainHistory, history_of, measured}
+use Rattle.ov_history.specs.Plain.{PlainUpdate, PlainEnrol, PlainCreate, PlainGrant, PlainRevoke, PlainRemove, PlainHistory, history_of, measured}
 use Rattle.ov_history.specs.Lists.{user_number, file_number, set_named}
 use Rattle.ov_history.specs.Refusals.{IsLegal, refusal_of}
 use Rattle.ov_history.proofs.Keeping.{legal-push}
@@ -34,6 +34,9 @@ legal-after h (Grant user file) legal =
     legal-update h u (refusal_of (history_of h) (measured u)) refl legal
 legal-after h (Revoke user file) legal =
     let u : PlainUpdate = PlainRevoke (user_number (matrix_of (history_of h)) user) (file_number (matrix_of (history_of h)) file) in
+    legal-update h u (refusal_of (history_of h) (measured u)) refl legal
+legal-after h (Remove file) legal =
+    let u : PlainUpdate = PlainRemove (file_number (matrix_of (history_of h)) file) in
     legal-update h u (refusal_of (history_of h) (measured u)) refl legal
 legal-after h (Read user file) legal = (legal, refl)
 legal-after h (ListNames file) legal = (legal, refl)

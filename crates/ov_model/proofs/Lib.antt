@@ -1,4 +1,6 @@
+pub mod Agreeing
 pub mod Agreement
+pub mod Alike
 pub mod Legality
 mod Rows
 pub mod Runs

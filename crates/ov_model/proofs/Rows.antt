@@ -4,7 +4,7 @@ use Rattle.std.specs.Prelude.{codes}
 use Rattle.std.specs.Fmt.{digits}
 use Rattle.ov_base.specs.declared.mode.Mode.TheVariants.{Full, Delta}
 use Rattle.ov_script.specs.declared.command.Command.{Command}
-use Rattle.ov_script.specs.declared.command.Command.TheVariants.{Enrol, Create, Grant, Revoke, Read, List as ListNames, Epoch as AskEpoch}
+use Rattle.ov_script.specs.declared.command.Command.TheVariants.{Enrol, Create, Grant, Revoke, Remove, Read, List as ListNames, Epoch as AskEpoch}
 use Rattle.ov_history.specs.History.{epoch_of}
 use Rattle.ov_history.specs.Plain.{empty_plain, history_of}
 use Rattle.ov_model.specs.Lines.{lines}
@@ -73,3 +73,26 @@ refused_in_full = refl
 refused_in_delta : lines (empty_plain Delta 0) refusals ≡ refusal_lines
 unfolding digits
 refused_in_delta = refl
+
+-- a file that is removed, which nobody reads, and another of its name
+abbrev removal : List Command
+removal =
+    Enrol (codes "a") ∷ Enrol (codes "b") ∷ Create (codes "f") (codes "a" ∷ []) (codes "x1")
+    ∷ Grant (codes "b") (codes "f") ∷ Read (codes "b") (codes "f") ∷ Remove (codes "f")
+    ∷ Read (codes "a") (codes "f") ∷ Remove (codes "f") ∷ Create (codes "f") (codes "b" ∷ []) []
+    ∷ AskEpoch ∷ []
+
+abbrev removal_lines : List ℕ
+removal_lines =
+    line (codes "ok 1") ++ line (codes "ok 2") ++ line (codes "ok 3") ++ line (codes "ok 4")
+    ++ line (codes "data b f 2") ++ line (codes "x1") ++ line (codes "ok 5")
+    ++ line (codes "refused 3 NoFile") ++ line (codes "refused 3 NoFile") ++ line (codes "ok 6")
+    ++ line (codes "epoch 6")
+
+removed_in_full : lines (empty_plain Full 0) removal ≡ removal_lines
+unfolding digits
+removed_in_full = refl
+
+removed_in_delta : lines (empty_plain Delta 0) removal ≡ removal_lines
+unfolding digits
+removed_in_delta = refl

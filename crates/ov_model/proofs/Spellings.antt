@@ -6,10 +6,10 @@ use Rattle.ov_base.proofs.SetBytes.{length-bytes_of}
 use Rattle.ov_base.specs.declared.limits.TheConstants.{SET_BYTES}
 use Rattle.ov_tokens.specs.declared.token.Token.{Token}
 use Rattle.ov_fields.specs.Spelling.{u16, name_field, token_field, sized, IsToken}
-use Rattle.ov_record.specs.Updates.{SealedUpdate, SealedEnrol, SealedCreate, SealedGrant, SealedRevoke}
+use Rattle.ov_record.specs.Updates.{SealedUpdate, SealedEnrol, SealedCreate, SealedGrant, SealedRevoke, SealedRemove}
 use Rattle.ov_record.specs.Spelling.{spelling, HasForm}
 use Rattle.ov_record.specs.Forms.{second_form}
-use Rattle.ov_wire.specs.Updates.{Enrolment, Creation, Grant, Revocation, IsSpelling}
+use Rattle.ov_wire.specs.Updates.{Enrolment, Creation, Grant, Revocation, Removal, IsSpelling}
 
 tokens_len : (tokens : List Token) → AllByRecursion IsToken tokens → length (flat_map token_field tokens) ≡ 32 * length tokens
 tokens_len [] all = refl
@@ -34,3 +34,4 @@ is_spelling (SealedCreate name list tokens tag bytes) fits =
 is_spelling (SealedGrant user file None) fits = record { fields = Grant user file None; form = fits; spelled = refl }
 is_spelling (SealedGrant user file (Some token)) fits = record { fields = Grant user file (Some token.bytes); form = fits; spelled = refl }
 is_spelling (SealedRevoke user file) fits = record { fields = Revocation user file; form = fits; spelled = refl }
+is_spelling (SealedRemove file) fits = record { fields = Removal file; form = fits.1; spelled = refl }

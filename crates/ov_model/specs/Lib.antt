@@ -1,4 +1,5 @@
 pub mod Agreement
+pub mod Alike
 pub mod Lines
 pub mod Step
 pub mod Streams

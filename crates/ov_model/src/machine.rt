@@ -6,6 +6,7 @@ ghost use Rattle.ov_script.specs.declared.reply.Reply.TheVariants.{Accepted, Ref
 ghost use Rattle.ov_history.specs.History.{epoch_of};
 ghost use Rattle.ov_history.specs.Plain.{PlainHistory, history_of};
 ghost use Rattle.ov_history.specs.Refusals.{IsLegal};
+ghost use Rattle.ov_model.specs.Alike.{RightHistoriesHaveSameLines, RightHistoriesStepAlike};
 ghost use Rattle.ov_model.specs.Step.{reply_to, after, after_all};
 
 /// A command that is refused changes nothing.
@@ -26,4 +27,11 @@ pub fn an_update_raises_the_epoch()
 pub fn legal_histories_go_on()
     ensures { (h : PlainHistory) (commands : List Command) → IsLegal (history_of h)
         → IsLegal (history_of (after_all h commands)) × ((after_all h commands).mode ≡ h.mode) }
+{}
+
+/// Two histories by which one sealed history is right are answered alike, whatever is asked, and go
+/// on alike. Nobody is answered the bytes of a file that is gone, in which alone they may differ.
+pub fn right_histories_answer_alike()
+    ensures step { RightHistoriesStepAlike }
+    ensures lines { RightHistoriesHaveSameLines }
 {}

@@ -1,5 +1,5 @@
 -- A question to a server that nobody else updates is answered as the machine does, or cut off.
-use Rattle.std.proofs.Common.{◌≡◌, ◌∙◌, ℕ, List, [], Result, Err, refl, sym, ap, subst, inl, inr}
+use Rattle.std.proofs.Common.{◌≡◌, ◌∙◌, ℕ, List, [], Result, Err, refl, sym, subst, inl, inr}
 use Rattle.ov_base.specs.Causes.{Rose}
 use Rattle.ov_base.specs.declared.refusal.Refusal.{Refusal}
 use Rattle.ov_base.specs.declared.refusal.Refusal.TheVariants.{NoUser}
@@ -110,7 +110,8 @@ module _ {P : Type 0} (peer : PeerTells P) (alone : IsAlone peer) (k : Masters) 
   -- the history that is told is this one
   told_here : (others : List SealedUpdate) → later v others ≡ v
       → IsSealedAs k h (later v others).history
-  told_here others same = ap (λ (w : Service). w.history) same ∙ store.history
+  told_here others same =
+      subst (λ (w : Service). IsSealedAs k h w.history) (sym same) store.history
 
   replies_here : (command : Command) (reply : Reply) → RepliesThere v Here command reply
       → reply_to h command ≡ reply

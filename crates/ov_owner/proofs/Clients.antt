@@ -14,8 +14,9 @@ use Rattle.ov_history.specs.Masters.{Masters}
 use Rattle.ov_history.specs.Plain.{PlainHistory, history_of}
 use Rattle.ov_history.specs.Refusals.{IsLegal, first_of_tests}
 use Rattle.ov_history.specs.Sealed.{catalogue_of}
-use Rattle.ov_history.specs.Sealing.{sealed}
+use Rattle.ov_history.specs.Sealing.{IsSealedAs, sealed}
 use Rattle.ov_history.proofs.Keeping.{kept_shows}
+use Rattle.ov_model.proofs.Agreeing.{right_shows}
 use Rattle.ov_wire.specs.declared.answer.Answer.{Answer}
 use Rattle.ov_wire.specs.declared.answer.Answer.TheVariants as answers
 use Rattle.ov_wire.specs.declared.answer.Known.{Known}
@@ -55,7 +56,7 @@ a_refusal false why e = (cc, refl)
 
 module _ (k : Masters) (v : Service) (others : List SealedUpdate) (p : PlainHistory)
     (same : v.surface ≡ k.surface) (legal : IsLegal (history_of p))
-    (right : (later v others).history ≡ sealed k p) where
+    (right : IsSealedAs k p (later v others).history) where
   abbrev c : Catalogue
   c = catalogue_of v.surface (later v others).history
 
@@ -63,7 +64,9 @@ module _ (k : Masters) (v : Service) (others : List SealedUpdate) (p : PlainHist
   s = catalogue_of k.surface (sealed k p)
 
   catalogue_is : c ≡ s
-  catalogue_is = λ i. catalogue_of (same i) (right i)
+  catalogue_is =
+      ap (λ (master : List ℕ). catalogue_of master (later v others).history) same
+      ∙ right_shows k p (later v others).history legal right
 
   matrix_is : matrix_shown c ≡ matrix_of (history_of p)
   matrix_is = ap matrix_shown catalogue_is ∙ (kept_shows k p s (legal, refl)).matrix

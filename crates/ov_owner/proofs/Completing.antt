@@ -11,19 +11,18 @@ use Rattle.ov_history.specs.Masters.{Masters}
 use Rattle.ov_history.specs.Plain.{PlainHistory, history_of, measured}
 use Rattle.ov_history.specs.Refusals.{IsLegal, refusal_of}
 use Rattle.ov_history.specs.Sealed.{SealedHistory}
-use Rattle.ov_history.specs.Sealing.{sealed}
+use Rattle.ov_history.specs.Sealing.{IsSealedAs}
 use Rattle.ov_history.proofs.Keeping.{legal-push}
 use Rattle.ov_history.proofs.PlainLaws.{history_of-push}
-use Rattle.ov_history.proofs.Sealing.{sealed_comes_of_one}
 use Rattle.ov_model.specs.Step.{after, reply_to, update_step}
+use Rattle.ov_model.proofs.Alike.{right_histories_step_alike}
 use Rattle.ov_protocol.specs.Serving.{Service, followed, later}
 use Rattle.ov_protocol.proofs.Leaving.{later-nil}
 use Rattle.ov_peer.specs.Alone.{IsAlone}
-use Rattle.ov_peer.specs.Asks.{Along, Ask, EndsAt}
+use Rattle.ov_peer.specs.Asks.{Along, AreRight, Ask, EndsAt}
 use Rattle.ov_peer.specs.Tells.{IsReplyAt, PeerTells}
 use Rattle.ov_client.specs.Completeness.{FailsDisk, IsStoreUnder}
 use Rattle.ov_client.specs.Laws.{AllAre}
-use Rattle.ov_client.proofs.Alone.{all_right}
 use Rattle.ov_owner.specs.Alone.{AnsweredAlone, MakesOneOrNone}
 use Rattle.ov_owner.specs.Calls.{Runs}
 use Rattle.ov_owner.specs.Changes.{command_of, errand_of}
@@ -63,18 +62,17 @@ module _ (k : Masters) (command : Command) (e : Errand) (d : Does k command e) (
 
   -- ---- the histories of the asks
 
-  module _ (base_check : List ℕ) where
+  module _ (base_check : List ℕ) (s : SealedHistory) (right : IsSealedAs k p s) where
     abbrev now : SealedHistory → Service
     now g = under k.surface base_check g
 
     -- the asks were answered along histories each of which is this one
     abbrev AreHere : SealedHistory → List Ask → Service → Type 0
     AreHere g asks m =
-        (histories : List SealedHistory) × Along (now g) asks histories m
-        × AllAre (sealed k p) histories
+        (histories : List SealedHistory) × Along (now g) asks histories m × AllAre s histories
 
     one_more : (a : Ask) (asks : List Ask) (g : SealedHistory) (made : List SealedUpdate)
-        (m : Service) → g ≡ sealed k p → IsReplyAt (now g) a.request a.reply made
+        (m : Service) → g ≡ s → IsReplyAt (now g) a.request a.reply made
         → AreHere (followed g made) asks m → AreHere g (a ∷ asks) m
     one_more a asks g made m same replied (histories, along, are) =
         let nothing : later (now g) [] ≡ now g = later-nil (now g) in (
@@ -90,7 +88,8 @@ module _ (k : Masters) (command : Command) (e : Errand) (d : Does k command e) (
         )
 
     all_here : (stage final : Stage) (asks : List Ask) (g : SealedHistory) (m : Service)
-        → Serves k command e d base_check p legal stage g → Goes k.surface e stage asks final
+        → Serves k command e d base_check p legal s right stage g
+        → Goes k.surface e stage asks final
         → AnsweredAlone (now g) asks m → AreHere g asks m
     all_here stage final [] g m serves goes alone = ([], alone, tt)
     all_here (Ends r) final (a ∷ asks) g m serves (next, moves, goes) alone =
@@ -99,27 +98,35 @@ module _ (k : Masters) (command : Command) (e : Errand) (d : Does k command e) (
         (made, replied, alone) =
         one_more a asks g made m same replied
         (all_here next final asks (followed g made) m
-        (one_ask k command e d base_check p legal (Asks tries least) next a g made moves same
-        replied moves.then) goes alone)
+        (one_ask k command e d base_check p legal s right (Asks tries least) next a g made moves
+        same replied moves.then) goes alone)
     all_here (Sends tries epoch u) final (a ∷ asks) g m (same, ready) (next, moves, goes)
         (made, replied, alone) =
         one_more a asks g made m same replied
         (all_here next final asks (followed g made) m
-        (one_ask k command e d base_check p legal (Sends tries epoch u) next a g made moves
-        (same, ready) replied moves.then) goes alone)
+        (one_ask k command e d base_check p legal s right (Sends tries epoch u) next a g made
+        moves (same, ready) replied moves.then) goes alone)
 
-  -- a step at the last of such histories is one of this history
-  last_is : (reply : Reply) (histories : List SealedHistory) (last : SealedHistory)
-      → AllAre (sealed k p) histories → IsLastStep k command reply histories last
-      → (reply_to p command ≡ reply) × (last ≡ sealed k (after p command))
-  last_is reply [] last same is = absurd is
-  last_is reply (g ∷ []) last (same, none) is =
-      let one : is.before ≡ p = sealed_comes_of_one k is.before p (sym is.same ∙ same) in (
-        subst (λ (x : PlainHistory). reply_to x command ≡ reply) one is.replied,
-        subst (λ (x : PlainHistory). last ≡ sealed k (after x command)) one is.next,
-      )
-  last_is reply (g ∷ (h ∷ more)) last (same, others) is =
-      last_is reply (h ∷ more) last others is
+  module _ (s : SealedHistory) (right : IsSealedAs k p s) where
+    -- each of such histories is right
+    all_right : (histories : List SealedHistory) → AllAre s histories → AreRight k histories
+    all_right [] are = tt
+    all_right (g ∷ more) (same, are) =
+        ((p, legal, subst (IsSealedAs k p) (sym same) right), all_right more are)
+
+    -- a step at the last of them is one of this history: it may be that of another one by which they
+    -- are right too, and that is answered alike
+    last_is : (reply : Reply) (histories : List SealedHistory) (last : SealedHistory)
+        → AllAre s histories → IsLastStep k command reply histories last
+        → (reply_to p command ≡ reply) × IsSealedAs k (after p command) last
+    last_is reply [] last same is = absurd is
+    last_is reply (g ∷ []) last (same, none) is =
+        let here : IsSealedAs k p g = subst (IsSealedAs k p) (sym same) right in
+        let (replies_so, goes_so) =
+        right_histories_step_alike k is.before p g last command (is.legal, is.same) (legal, here) in
+        (sym replies_so ∙ is.replied, goes_so is.next)
+    last_is reply (g ∷ (h ∷ more)) last (same, others) is =
+        last_is reply (h ∷ more) last others is
 
 -- ---- calls
 
@@ -155,16 +162,16 @@ module _ {P : Type 0} (peer : PeerTells P) (alone : IsAlone peer) (k : Masters) 
         let (final, goes, closes) = runs.talks in
         let (last, at_it, then) = leads_alone peer alone runs.asks p m v leads serving in
         let (histories, along, are) =
-        all_here k command e d h store.legal v.base_check start final runs.asks v.history last
-        store.history goes
+        all_here k command e d h store.legal v.base_check v.history store.history start final
+        runs.asks v.history last refl goes
         (subst (λ (s : List ℕ). AnsweredAlone (under s v.base_check v.history) runs.asks last)
         store.surface at_it) in
         let steps =
         talks_are_steps k command e runs.asks runs.unanswered result
         (under k.surface v.base_check v.history) last histories is runs.talks refl along
-        (all_right k h histories store.legal are) in
+        (all_right k command e d h store.legal v.history store.history histories are) in
         let (replied, left) =
-        last_is k command e d h store.legal reply histories last.history are
+        last_is k command e d h store.legal v.history store.history reply histories last.history are
         (machine histories last.history steps) in (
           replied,
           (

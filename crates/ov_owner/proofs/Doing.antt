@@ -10,7 +10,7 @@ use Rattle.ov_history.specs.Catalogue.{Catalogue}
 use Rattle.ov_history.specs.History.{Matrix, matrix_of}
 use Rattle.ov_history.specs.Lists.{file_number, set_named, user_number}
 use Rattle.ov_history.specs.Masters.{Masters}
-use Rattle.ov_history.specs.Plain.{PlainCreate, PlainEnrol, PlainGrant, PlainHistory, PlainRevoke, PlainUpdate, history_of, measured}
+use Rattle.ov_history.specs.Plain.{PlainCreate, PlainEnrol, PlainGrant, PlainHistory, PlainRemove, PlainRevoke, PlainUpdate, history_of, measured}
 use Rattle.ov_history.specs.Sealed.{catalogue_of}
 use Rattle.ov_history.specs.Sealing.{sealed}
 use Rattle.ov_wire.specs.declared.answer.Known.{Known}
@@ -20,12 +20,12 @@ use Rattle.ov_wire.specs.declared.answer.Answer.TheVariants as answers
 use Rattle.ov_wire.specs.declared.request.Question.{Question}
 use Rattle.ov_wire.specs.declared.request.Question.TheVariants as questions
 use Rattle.ov_protocol.specs.Asking.{AnswersAsk, AnswersCover, known_at, numbers_for, refusal_to}
-use Rattle.ov_owner.specs.Errands.{Errand, created, creating, enrolling, granting, known_of, revoking, sealed_by}
+use Rattle.ov_owner.specs.Errands.{Errand, created, creating, enrolling, granting, known_of, removing, revoking, sealed_by}
 use Rattle.ov_owner.specs.Steps.{IsErrandFor}
 use Rattle.ov_owner.specs.declared.fault.OwnerFault.TheVariants as faults
 use Rattle.ov_owner.proofs.Telling.{Makes, created_as, granted_as, known_by, known_refused, plan_by, plan_refused, refused_as, sealed_as}
 
--- ---- the four errands
+-- ---- the five errands
 
 abbrev pub enrol_named : List ℕ → Matrix → PlainUpdate
 enrol_named user m = PlainEnrol user
@@ -38,6 +38,9 @@ grant_named user file m = PlainGrant (user_number m user) (file_number m file)
 
 abbrev pub revoke_named : List ℕ → List ℕ → Matrix → PlainUpdate
 revoke_named user file m = PlainRevoke (user_number m user) (file_number m file)
+
+abbrev pub remove_named : List ℕ → Matrix → PlainUpdate
+remove_named file m = PlainRemove (file_number m file)
 
 abbrev pub named_at : (Matrix → PlainUpdate) → PlainHistory → PlainUpdate
 named_at named p = named (matrix_of (history_of p))
@@ -118,6 +121,23 @@ revoking_makes k user file = record {
   no_update = refl;
 }
 
+pub removing_makes : (k : Masters) (file : List ℕ) → Makes k (removing file) (named_at (remove_named file))
+removing_makes k file = record {
+  told = λ base_check p a epoch u legal answered is.
+      let c = catalogue_of k.surface (sealed k p) in
+      let (same, none) = asked_known c (questions.Remove file) a _ (epoch, u) answered is in (
+        ap first same,
+        ap second same ∙ sealed_as k p legal (remove_named file),
+        sym (refused_as k p legal (λ m. measured (remove_named file m))) ∙ none,
+      );
+  refused = λ base_check p a why legal answered is.
+      let c = catalogue_of k.surface (sealed k p) in
+      let (same, so) = asked_refused c (questions.Remove file) a _ why answered is in
+      (same, sym (refused_as k p legal (λ m. measured (remove_named file m))) ∙ so);
+  no_disk = refl;
+  no_update = refl;
+}
+
 pub creating_makes : (k : Masters) (file : List ℕ) (names : List (List ℕ)) (bytes : List ℕ)
     → Makes k (creating k.base file names bytes) (named_at (create_named file names bytes))
 creating_makes k file names bytes = record {
@@ -182,6 +202,13 @@ revoke_does k user file = record {
   as_update = λ p. refl;
 }
 
+abbrev pub remove_does : (k : Masters) (file : List ℕ) → Does k (commands.Remove file) (removing file)
+remove_does k file = record {
+  plain = named_at (remove_named file);
+  makes = removing_makes k file;
+  as_update = λ p. refl;
+}
+
 pub does : (k : Masters) (command : Command) (e : Errand) → IsErrandFor k.base command e
     → Does k command e
 does k (commands.Enrol user) e is = subst (Does k (commands.Enrol user)) (sym is) (enrol_does k user)
@@ -191,4 +218,5 @@ does k (commands.Grant user file) e is =
     subst (Does k (commands.Grant user file)) (sym is) (grant_does k user file)
 does k (commands.Revoke user file) e is =
     subst (Does k (commands.Revoke user file)) (sym is) (revoke_does k user file)
+does k (commands.Remove file) e is = subst (Does k (commands.Remove file)) (sym is) (remove_does k file)
 does k command e is = absurd is

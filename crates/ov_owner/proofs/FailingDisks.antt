@@ -72,6 +72,8 @@ errand_other (commands.Grant user file) base e a is =
     subst (λ (x : Errand). IsOtherSealed (x.sealed a)) (sym is) (known_other _ a)
 errand_other (commands.Revoke user file) base e a is =
     subst (λ (x : Errand). IsOtherSealed (x.sealed a)) (sym is) (known_other _ a)
+errand_other (commands.Remove file) base e a is =
+    subst (λ (x : Errand). IsOtherSealed (x.sealed a)) (sym is) (known_other _ a)
 errand_other (commands.Create file names bytes) base e a is =
     subst (λ (x : Errand). IsOtherSealed (x.sealed a)) (sym is) (plan_other _ a)
 errand_other command base e a is = absurd is

@@ -9,7 +9,7 @@ use Rattle.ov_fields.proofs.TagLaws.{each_flag}
 use Rattle.ov_record.specs.Updates.{SealedUpdate}
 use Rattle.ov_history.specs.Catalogue.{Catalogue, matrix_shown, outline}
 use Rattle.ov_history.specs.Asking.{file_named, user_named}
-use Rattle.ov_history.specs.History.{Created, Enrolled, Granted, Revoked, Update}
+use Rattle.ov_history.specs.History.{Created, Enrolled, Granted, Removed, Revoked, Update}
 use Rattle.ov_history.specs.Lists.{is_user}
 use Rattle.ov_history.specs.Refusals.{Test, first_of_tests, tests_of}
 use Rattle.ov_wire.specs.declared.request.Question.{Question}
@@ -67,6 +67,12 @@ known_fits c (questions.Grant user file) known is form =
 known_fits c (questions.Revoke user file) known is form =
     let wants : known.wants ≡ false = ap (λ (x : Known). x.wants) is in
     (form.0, form.1, form.2, form.3, form.4, form.5, inl wants)
+known_fits c (questions.Remove file) known is form =
+    let user : known.user ≡ 0 = ap (λ (x : Known). x.user) is in
+    let base : known.base_root ≡ 0 = ap (λ (x : Known). x.base_root) is in
+    let surface : known.surface_root ≡ 0 = ap (λ (x : Known). x.surface_root) is in
+    let wants : known.wants ≡ false = ap (λ (x : Known). x.wants) is in
+    (form.0, omega arith, omega arith, omega arith, form.4, form.5, inl wants)
 known_fits c (questions.Key user) known is form =
     let file : known.file ≡ 0 = ap (λ (x : Known). x.file) is in
     let node : known.node ≡ 0 = ap (λ (x : Known). x.node) is in
@@ -81,6 +87,8 @@ refused_fits c (questions.Grant user file) why is =
     one_of (tests_at c (Granted (user_named c user) (file_named c file))) why is
 refused_fits c (questions.Revoke user file) why is =
     one_of (tests_at c (Revoked (user_named c user) (file_named c file))) why is
+refused_fits c (questions.Remove file) why is =
+    one_of (tests_at c (Removed (file_named c file))) why is
 refused_fits c (questions.Key user) why is =
     one_of ((NoUser, not (is_user (matrix_shown c) (user_named c user))) ∷ []) why is
 

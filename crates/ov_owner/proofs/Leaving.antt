@@ -10,9 +10,9 @@ use Rattle.ov_history.specs.Masters.{Masters}
 use Rattle.ov_history.specs.Plain.{PlainHistory, history_of, measured, with_plain}
 use Rattle.ov_history.specs.Refusals.{IsLegal, refusal_of}
 use Rattle.ov_history.specs.Sealed.{SealedHistory, catalogue_of, with_sealed}
-use Rattle.ov_history.specs.Sealing.{sealed, sealed_update}
-use Rattle.ov_history.proofs.Sealing.{sealing_goes_on}
+use Rattle.ov_history.specs.Sealing.{IsSealedAs, sealed, sealed_update}
 use Rattle.ov_model.specs.Step.{step, update_step}
+use Rattle.ov_model.proofs.Agreeing.{right_goes_on}
 use Rattle.ov_wire.specs.declared.answer.Answer.{Answer}
 use Rattle.ov_protocol.specs.Serving.{Service, followed, later, served}
 use Rattle.ov_protocol.specs.Answers.{Answers}
@@ -24,6 +24,7 @@ use Rattle.ov_owner.specs.Laws.{OneUpdateAtMost}
 use Rattle.ov_owner.specs.Steps.{IsErrandFor}
 use Rattle.ov_owner.specs.Talks.{Asks, Ends, IsAfter, IsDue, Moves, Sends, Stage, Talks, update_request}
 use Rattle.ov_owner.specs.declared.fault.OwnerFault.{OwnerFault}
+use Rattle.ov_owner.proofs.Agreeing.{answers_alike}
 use Rattle.ov_owner.proofs.Doing.{Does, does}
 use Rattle.ov_owner.proofs.Making.{Stands, first_due, leaves_so, none_due, one_ask as any_ask, update_due}
 use Rattle.ov_owner.proofs.Telling.{under}
@@ -54,56 +55,9 @@ module _ (k : Masters) (command : Command) (e : Errand) (d : Does k command e) (
     pub is_sealed : u ≡ sealed_update k (layers_of (history_of p)) (d.plain p)
     pub free : refusal_of (history_of p) (measured (d.plain p)) ≡ None
 
-  -- what is left is that history, or that with the command's update
+  -- what is left is right by that history, or by that with the command's update
   abbrev Left : Service → Type 0
   Left w = IsOneOrNone k p command w.history
-
-  sealed_ready : (a : Answer) (epoch : ℕ) (u : SealedUpdate)
-      → Answers (served (serving (sealed k p))) e.first a → e.sealed a ≡ Ok (epoch, u)
-      → IsReady epoch u
-  sealed_ready a epoch u answered is =
-      let (at_epoch, is_sealed, free) = d.makes.told base_check p a epoch u legal answered is in
-      record { at_epoch = at_epoch; is_sealed = is_sealed; free = free }
-
-  ready_left : (epoch : ℕ) (u : SealedUpdate) → IsReady epoch u
-      → Left (later (serving (sealed k p)) (u ∷ []))
-  ready_left epoch u ready =
-      let next : step p command ≡ (replies.Accepted (epoch_of (history_of p) + 1), with_plain p (d.plain p)) =
-      d.as_update p ∙ ap (update_step p (d.plain p)) ready.free in
-      inr (ap (with_sealed (sealed k p)) ready.is_sealed ∙ sym (sealing_goes_on k p (d.plain p))
-      ∙ ap (λ (x : Reply × PlainHistory). sealed k x.1) (sym next))
-
-  -- what is served at a stage
-  abbrev pub Serves : Stage → SealedHistory → Type 0
-  Serves (Asks tries least) g = g ≡ sealed k p
-  Serves (Sends tries epoch u) g = (g ≡ sealed k p) × IsReady epoch u
-  Serves (Ends result) g = IsOneOrNone k p command g
-
-  abbrev StandsHere : Stage → SealedHistory → Type 0
-  StandsHere stage g =
-      Stands k.surface e d.makes.no_update d.makes.no_disk (serving (sealed k p)) IsReady
-      sealed_ready Left (inl refl) ready_left stage (serving g)
-
-  to_stands : (stage : Stage) (g : SealedHistory) → Serves stage g → StandsHere stage g
-  to_stands (Asks tries least) g same = ap serving same
-  to_stands (Sends tries epoch u) g (same, ready) = (ap serving same, ready)
-  to_stands (Ends result) g left = left
-
-  from_stands : (stage : Stage) (g : SealedHistory) → StandsHere stage g → Serves stage g
-  from_stands (Asks tries least) g same = ap (λ (w : Service). w.history) same
-  from_stands (Sends tries epoch u) g (same, ready) =
-      (ap (λ (w : Service). w.history) same, ready)
-  from_stands (Ends result) g left = left
-
-  pub one_ask : (stage next : Stage) (a : Ask) (g : SealedHistory) (made : List SealedUpdate)
-      (moves : Moves k.surface e stage a next) → Serves stage g
-      → IsReplyAt (serving g) a.request a.reply made
-      → IsAfter e stage moves.asked.request a.reply next → Serves next (followed g made)
-  one_ask stage next a g made moves serves replied then =
-      from_stands next (followed g made)
-      (any_ask k.surface e d.makes.no_update d.makes.no_disk (serving (sealed k p)) IsReady
-      sealed_ready Left (inl refl) ready_left stage next a (serving g) made moves
-      (to_stands stage g serves) replied then)
 
   pub is_first : (tries : List ℕ) (least : ℕ) (frame : List ℕ)
       (due : IsDue k.surface e (Asks tries least) frame) → e.first ≡ due.request
@@ -117,19 +71,69 @@ module _ (k : Masters) (command : Command) (e : Errand) (d : Does k command e) (
   pub nothing_due : (r : Result ℕ OwnerFault) (frame : List ℕ) → IsDue k.surface e (Ends r) frame → ⊥
   nothing_due r frame due = none_due k.surface e r frame due
 
-  leaves_right : (asks : List Ask) (unanswered : Option (List ℕ)) (result : Result ℕ OwnerFault)
-      (last : Service)
-      → Talks k.surface e asks unanswered result
-      → AskedAlone (serving (sealed k p)) asks unanswered last → Left last
-  leaves_right asks unanswered result last talks alone =
-      leaves_so k.surface e d.makes.no_update d.makes.no_disk (serving (sealed k p)) IsReady
-      sealed_ready Left (inl refl) ready_left asks unanswered result last talks alone
+  -- ---- what is served before the call
+
+  module _ (s : SealedHistory) (right : IsSealedAs k p s) where
+    sealed_ready : (a : Answer) (epoch : ℕ) (u : SealedUpdate)
+        → Answers (served (serving s)) e.first a → e.sealed a ≡ Ok (epoch, u)
+        → IsReady epoch u
+    sealed_ready a epoch u answered is =
+        let at_p = answers_alike k base_check p s legal right e.first a answered in
+        let (at_epoch, is_sealed, free) = d.makes.told base_check p a epoch u legal at_p is in
+        record { at_epoch = at_epoch; is_sealed = is_sealed; free = free }
+
+    ready_left : (epoch : ℕ) (u : SealedUpdate) → IsReady epoch u
+        → Left (later (serving s) (u ∷ []))
+    ready_left epoch u ready =
+        let next : step p command ≡ (replies.Accepted (epoch_of (history_of p) + 1), with_plain p (d.plain p)) =
+        d.as_update p ∙ ap (update_step p (d.plain p)) ready.free in
+        inr (subst (λ (x : Reply × PlainHistory). IsSealedAs k x.1 (with_sealed s u)) (sym next)
+        (subst (λ (v : SealedUpdate). IsSealedAs k (with_plain p (d.plain p)) (with_sealed s v))
+        (sym ready.is_sealed) (right_goes_on k p (d.plain p) s right)))
+
+    -- what is served at a stage
+    abbrev pub Serves : Stage → SealedHistory → Type 0
+    Serves (Asks tries least) g = g ≡ s
+    Serves (Sends tries epoch u) g = (g ≡ s) × IsReady epoch u
+    Serves (Ends result) g = IsOneOrNone k p command g
+
+    abbrev StandsHere : Stage → SealedHistory → Type 0
+    StandsHere stage g =
+        Stands k.surface e d.makes.no_update d.makes.no_disk (serving s) IsReady
+        sealed_ready Left (inl right) ready_left stage (serving g)
+
+    to_stands : (stage : Stage) (g : SealedHistory) → Serves stage g → StandsHere stage g
+    to_stands (Asks tries least) g same = ap serving same
+    to_stands (Sends tries epoch u) g (same, ready) = (ap serving same, ready)
+    to_stands (Ends result) g left = left
+
+    from_stands : (stage : Stage) (g : SealedHistory) → StandsHere stage g → Serves stage g
+    from_stands (Asks tries least) g same = ap (λ (w : Service). w.history) same
+    from_stands (Sends tries epoch u) g (same, ready) =
+        (ap (λ (w : Service). w.history) same, ready)
+    from_stands (Ends result) g left = left
+
+    pub one_ask : (stage next : Stage) (a : Ask) (g : SealedHistory) (made : List SealedUpdate)
+        (moves : Moves k.surface e stage a next) → Serves stage g
+        → IsReplyAt (serving g) a.request a.reply made
+        → IsAfter e stage moves.asked.request a.reply next → Serves next (followed g made)
+    one_ask stage next a g made moves serves replied then =
+        from_stands next (followed g made)
+        (any_ask k.surface e d.makes.no_update d.makes.no_disk (serving s) IsReady
+        sealed_ready Left (inl right) ready_left stage next a (serving g) made moves
+        (to_stands stage g serves) replied then)
+
+    leaves_right : (asks : List Ask) (unanswered : Option (List ℕ)) (result : Result ℕ OwnerFault)
+        (last : Service)
+        → Talks k.surface e asks unanswered result
+        → AskedAlone (serving s) asks unanswered last → Left last
+    leaves_right asks unanswered result last talks alone =
+        leaves_so k.surface e d.makes.no_update d.makes.no_disk (serving s) IsReady
+        sealed_ready Left (inl right) ready_left asks unanswered result last talks alone
 
 pub one_update_at_most : OneUpdateAtMost
 one_update_at_most k command e asks unanswered result v last p is talks same legal right alone =
-    leaves_right k command e (does k command e is) v.base_check p legal asks unanswered result last
-    talks
-    (subst (λ (g : SealedHistory). AskedAlone (under k.surface v.base_check g) asks unanswered last)
-    right
+    leaves_right k command e (does k command e is) v.base_check p legal v.history right asks
+    unanswered result last talks
     (subst (λ (s : List ℕ). AskedAlone (under s v.base_check v.history) asks unanswered last) same
-    alone))
+    alone)

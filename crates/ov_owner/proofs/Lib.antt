@@ -6,6 +6,7 @@ pub mod Talking
 pub mod Trying
 pub mod Histories
 pub mod Telling
+pub mod Agreeing
 pub mod Doing
 pub mod Stepping
 pub mod Replying

@@ -13,7 +13,7 @@ use Rattle.ov_history.specs.Masters.{Masters}
 use Rattle.ov_history.specs.Plain.{PlainHistory, history_of}
 use Rattle.ov_history.specs.Refusals.{IsLegal}
 use Rattle.ov_history.specs.Sealed.{HasParts, SealedHistory, catalogue_of, refusal_shown}
-use Rattle.ov_history.specs.Sealing.{sealed}
+use Rattle.ov_history.specs.Sealing.{IsSealedAs, sealed}
 use Rattle.ov_history.proofs.Keeping.{kept_refusals}
 use Rattle.ov_wire.specs.declared.request.Question.TheVariants as questions
 use Rattle.ov_wire.specs.declared.request.Request.{Request}
@@ -34,11 +34,12 @@ use Rattle.ov_peer.specs.Tells.{IsReplyAt}
 use Rattle.ov_peer.specs.Disks.{MayNeedDisk}
 use Rattle.ov_peer.proofs.Needing.{needs_disk}
 use Rattle.ov_owner.specs.Alone.{AnsweredAlone, AskedAlone}
-use Rattle.ov_owner.specs.Errands.{Errand, creating, enrolling, granting, revoking}
+use Rattle.ov_owner.specs.Errands.{Errand, creating, enrolling, granting, removing, revoking}
 use Rattle.ov_owner.specs.Laws.{IsProper, TalksAreProper}
 use Rattle.ov_owner.specs.Talks.{Asks, Closes, Ends, Goes, IsAfter, Moves, Sends, Stage, Talks, after as stage_after, after_first, sends_if, start, update_request}
 use Rattle.ov_owner.specs.declared.fault.OwnerFault.{OwnerFault}
-use Rattle.ov_owner.proofs.Doing.{Does, create_does, enrol_does, grant_does, revoke_does}
+use Rattle.ov_owner.proofs.Agreeing.{answers_alike}
+use Rattle.ov_owner.proofs.Doing.{Does, create_does, enrol_does, grant_does, remove_does, revoke_does}
 use Rattle.ov_owner.proofs.Leaving.{IsReady, Serves, is_first, is_update, nothing_due, one_ask}
 use Rattle.ov_owner.proofs.Stepping.{read_back}
 use Rattle.ov_owner.proofs.Telling.{under}
@@ -52,9 +53,9 @@ module _ (k : Masters) (command : Command) (e : Errand) (d : Does k command e) (
     → HasAnswerForm a → IsAnswer e.first a)
     (proper : (a : Answer) → Answers (served (under k.surface base_check (sealed k p))) e.first a
     → IsProperTold (e.sealed a))
-    (no_disk : MayNeedDisk e.first → ⊥) where
+    (no_disk : MayNeedDisk e.first → ⊥) (s : SealedHistory) (right : IsSealedAs k p s) where
   abbrev At : Stage → SealedHistory → Type 0
-  At stage g = Serves k command e d base_check p legal stage g
+  At stage g = Serves k command e d base_check p legal s right stage g
 
   abbrev Ready : ℕ → SealedUpdate → Type 0
   Ready epoch u = IsReady k command e d base_check p legal epoch u
@@ -108,7 +109,7 @@ module _ (k : Masters) (command : Command) (e : Errand) (d : Does k command e) (
   told_fine (Ok (epoch, u)) is = sends_fine (nat_lt epoch 0) [] epoch u (lt_is_false epoch 0 (omega arith))
 
   first_fine : (next : Stage) (a : Ask) (g : SealedHistory) (made : List SealedUpdate)
-      (moves : Moves k.surface e start a next) → g ≡ sealed k p
+      (moves : Moves k.surface e start a next) → g ≡ s
       → IsReplyAt (here g) a.request a.reply made → Fine next
   first_fine next a g made moves same replied = by_then moves.then where
     ours : e.first ≡ moves.asked.request
@@ -129,7 +130,8 @@ module _ (k : Masters) (command : Command) (e : Errand) (d : Does k command e) (
         let at_g : Answers (served (here g)) e.first x =
         subst (λ (r : Result Request ℕ). AnswersRead (served (here g)) r x) (request_back e.first moves.asked.form) replies.answers in
         let at_p : Answers (served (here (sealed k p))) e.first x =
-        subst (λ (h : SealedHistory). Answers (served (here h)) e.first x) same at_g in
+        answers_alike k base_check p s legal right e.first x
+        (subst (λ (h : SealedHistory). Answers (served (here h)) e.first x) same at_g) in
         let read = reads_back e.first x a.reply (fits x at_p replies.form) replies.form replies.spelled in
         subst Fine (sym (is ∙ ap (stage_after e start) read)) (told_fine (e.sealed x) (proper x at_p))
 
@@ -141,7 +143,7 @@ module _ (k : Masters) (command : Command) (e : Errand) (d : Does k command e) (
 
   update_fine : (tries : List ℕ) (epoch : ℕ) (u : SealedUpdate) (next : Stage) (a : Ask)
       (g : SealedHistory) (made : List SealedUpdate)
-      (moves : Moves k.surface e (Sends tries epoch u) a next) → g ≡ sealed k p → Ready epoch u
+      (moves : Moves k.surface e (Sends tries epoch u) a next) → g ≡ s → Ready epoch u
       → IsReplyAt (here g) a.request a.reply made → Fine next
   update_fine tries epoch u next a g made moves same ready replied = by_then moves.then where
     request : Request
@@ -164,7 +166,8 @@ module _ (k : Masters) (command : Command) (e : Errand) (d : Does k command e) (
         subst (λ (r : Result Request ℕ). AnswersRead (served (here g)) r x)
         (request_back (update_request k.surface epoch u) moves.asked.form.1) replies.answers in
         let at_p : Answers (served (here (sealed k p))) (update_request k.surface epoch u) x =
-        subst (λ (h : SealedHistory). Answers (served (here h)) (update_request k.surface epoch u) x) same at_g in
+        answers_alike k base_check p s legal right (update_request k.surface epoch u) x
+        (subst (λ (h : SealedHistory). Answers (served (here h)) (update_request k.surface epoch u) x) same at_g) in
         let (n, accepted, next_epoch, low) = update_taken epoch u x ready moves.asked.form.0 at_p replies.form in
         let read = reads_back (update_request k.surface epoch u) (answers.Accepted n) a.reply (next_epoch, low) low
         (replies.spelled ∙ ap answer_bytes accepted) in
@@ -188,7 +191,7 @@ module _ (k : Masters) (command : Command) (e : Errand) (d : Does k command e) (
   goes_fine (Sends tries epoch u) final (a ∷ asks) g m fine (same, ready) (next, moves, goes) (made, replied, alone) =
       goes_fine next final asks (followed g made) m
       (update_fine tries epoch u next a g made moves same ready replied)
-      (one_ask k command e d base_check p legal (Sends tries epoch u) next a g made moves (same, ready) replied moves.then)
+      (one_ask k command e d base_check p legal s right (Sends tries epoch u) next a g made moves (same, ready) replied moves.then)
       goes alone
 
   closes_fine : (stage : Stage) (o : Option (List ℕ)) (result : Result ℕ OwnerFault) → Fine stage
@@ -208,16 +211,17 @@ module _ (k : Masters) (command : Command) (e : Errand) (d : Does k command e) (
   none_asked (Some frame) result (due, inr memory) = subst IsProper (sym memory) tt
 
   pub talk_proper : (asks : List Ask) (unanswered : Option (List ℕ)) (result : Result ℕ OwnerFault)
-      (g : SealedHistory) (last : Service)
-      → g ≡ sealed k p → Talks k.surface e asks unanswered result
-      → AskedAlone (here g) asks unanswered last → IsProper result
-  talk_proper [] unanswered result g last same (final, goes, closes) alone =
-      none_asked unanswered result (subst (λ (s : Stage). Closes k.surface e s unanswered result) (sym goes) closes)
-  talk_proper (a ∷ asks) unanswered result g last same (final, (next, moves, goes), closes)
+      (last : Service)
+      → Talks k.surface e asks unanswered result
+      → AskedAlone (here s) asks unanswered last → IsProper result
+  talk_proper [] unanswered result last (final, goes, closes) alone =
+      none_asked unanswered result
+      (subst (λ (at : Stage). Closes k.surface e at unanswered result) (sym goes) closes)
+  talk_proper (a ∷ asks) unanswered result last (final, (next, moves, goes), closes)
       (m, (made, replied, alone), left) =
       closes_fine final unanswered result
-      (goes_fine next final asks (followed g made) m (first_fine next a g made moves same replied)
-      (one_ask k command e d base_check p legal start next a g made moves same replied moves.then) goes alone)
+      (goes_fine next final asks (followed s made) m (first_fine next a s made moves refl replied)
+      (one_ask k command e d base_check p legal s right start next a s made moves refl replied moves.then) goes alone)
       closes
 
 -- ---- by the commands
@@ -227,7 +231,7 @@ talks_are_proper k (commands.Enrol user) e asks unanswered result v last p is ta
     let c = catalogue_of k.surface (sealed k p) in
     talk_proper k (commands.Enrol user) (enrolling user) (enrol_does k user) v.base_check p legal
     (ask_fits c (questions.Enrol user)) (λ a. ask_proper c (questions.Enrol user) a _) (λ disk. disk)
-    asks unanswered result v.history last right
+    v.history right asks unanswered result last
     (subst (λ (x : Errand). Talks k.surface x asks unanswered result) is talks)
     (subst (λ (s : List ℕ). AskedAlone (under s v.base_check v.history) asks unanswered last) same alone)
 talks_are_proper k (commands.Create file names bytes) e asks unanswered result v last p is talks same legal right alone =
@@ -236,7 +240,7 @@ talks_are_proper k (commands.Create file names bytes) e asks unanswered result v
     v.base_check p legal
     (cover_fits c file (length bytes) names _) (λ a. cover_proper c file (length bytes) _ a _)
     (λ disk. disk)
-    asks unanswered result v.history last right
+    v.history right asks unanswered result last
     (subst (λ (x : Errand). Talks k.surface x asks unanswered result) is talks)
     (subst (λ (s : List ℕ). AskedAlone (under s v.base_check v.history) asks unanswered last) same alone)
 talks_are_proper k (commands.Grant user file) e asks unanswered result v last p is talks same legal right alone =
@@ -244,7 +248,7 @@ talks_are_proper k (commands.Grant user file) e asks unanswered result v last p 
     talk_proper k (commands.Grant user file) (granting k.base user file) (grant_does k user file) v.base_check p legal
     (ask_fits c (questions.Grant user file)) (λ a. ask_proper c (questions.Grant user file) a _)
     (λ disk. disk)
-    asks unanswered result v.history last right
+    v.history right asks unanswered result last
     (subst (λ (x : Errand). Talks k.surface x asks unanswered result) is talks)
     (subst (λ (s : List ℕ). AskedAlone (under s v.base_check v.history) asks unanswered last) same alone)
 talks_are_proper k (commands.Revoke user file) e asks unanswered result v last p is talks same legal right alone =
@@ -252,7 +256,15 @@ talks_are_proper k (commands.Revoke user file) e asks unanswered result v last p
     talk_proper k (commands.Revoke user file) (revoking user file) (revoke_does k user file) v.base_check p legal
     (ask_fits c (questions.Revoke user file)) (λ a. ask_proper c (questions.Revoke user file) a _)
     (λ disk. disk)
-    asks unanswered result v.history last right
+    v.history right asks unanswered result last
+    (subst (λ (x : Errand). Talks k.surface x asks unanswered result) is talks)
+    (subst (λ (s : List ℕ). AskedAlone (under s v.base_check v.history) asks unanswered last) same alone)
+talks_are_proper k (commands.Remove file) e asks unanswered result v last p is talks same legal right alone =
+    let c = catalogue_of k.surface (sealed k p) in
+    talk_proper k (commands.Remove file) (removing file) (remove_does k file) v.base_check p legal
+    (ask_fits c (questions.Remove file)) (λ a. ask_proper c (questions.Remove file) a _)
+    (λ disk. disk)
+    v.history right asks unanswered result last
     (subst (λ (x : Errand). Talks k.surface x asks unanswered result) is talks)
     (subst (λ (s : List ℕ). AskedAlone (under s v.base_check v.history) asks unanswered last) same alone)
 talks_are_proper k command e asks unanswered result v last p is talks same legal right alone = absurd is

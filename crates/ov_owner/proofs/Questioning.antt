@@ -9,8 +9,9 @@ use Rattle.ov_history.specs.Masters.{Masters}
 use Rattle.ov_history.specs.Plain.{PlainHistory, history_of}
 use Rattle.ov_history.specs.Refusals.{IsLegal, list_refusal}
 use Rattle.ov_history.specs.Sealed.{catalogue_of}
-use Rattle.ov_history.specs.Sealing.{sealed}
+use Rattle.ov_history.specs.Sealing.{IsSealedAs, sealed}
 use Rattle.ov_history.proofs.Keeping.{kept_shows}
+use Rattle.ov_model.proofs.Agreeing.{right_shows}
 use Rattle.ov_model.specs.Step.{names_reply, reply_or}
 use Rattle.ov_script.specs.declared.command.Command.TheVariants.{List as ListNames}
 use Rattle.ov_script.specs.declared.reply.Reply.TheVariants as replies
@@ -62,10 +63,11 @@ welcome_told Then v a tells = tt
 
 -- the machine's reply at a history that is right
 machines : (v : Service) (others : List SealedUpdate) (k : Masters) (p : PlainHistory)
-    → v.surface ≡ k.surface → IsLegal (history_of p) → (later v others).history ≡ sealed k p
+    → v.surface ≡ k.surface → IsLegal (history_of p) → IsSealedAs k p (later v others).history
     → matrix_shown (catalogue_of v.surface (later v others).history) ≡ matrix_of (history_of p)
 machines v others k p same legal right =
-    (λ i. matrix_shown (catalogue_of (same i) (right i)))
+    ap (λ (master : List ℕ). matrix_shown (catalogue_of master (later v others).history)) same
+    ∙ ap matrix_shown (right_shows k p (later v others).history legal right)
     ∙ (kept_shows k p (catalogue_of k.surface (sealed k p)) (legal, refl)).matrix
 
 listed_there : (Then : Service → Type 0) (v : Service) (file : List ℕ) (names : List (List ℕ))

@@ -11,7 +11,7 @@ use Rattle.ov_history.specs.Masters.{Masters}
 use Rattle.ov_history.specs.Plain.{PlainHistory, history_of}
 use Rattle.ov_history.specs.Refusals.{IsLegal}
 use Rattle.ov_history.specs.Sealed.{SealedHistory}
-use Rattle.ov_history.specs.Sealing.{sealed}
+use Rattle.ov_history.specs.Sealing.{IsSealedAs, sealed}
 use Rattle.ov_model.specs.Step.{step}
 use Rattle.ov_wire.specs.declared.request.Request.{Request}
 use Rattle.ov_wire.specs.declared.answer.Answer.{Answer}
@@ -31,6 +31,7 @@ use Rattle.ov_owner.specs.Talks.{Asks, Closes, Ends, Goes, IsAfter, IsDue, Sends
 use Rattle.ov_owner.specs.declared.limits.TheConstants.{MAX_TRIES}
 use Rattle.ov_owner.specs.declared.fault.OwnerFault.{OwnerFault}
 use Rattle.ov_owner.specs.declared.fault.OwnerFault.TheVariants as faults
+use Rattle.ov_owner.proofs.Agreeing.{answers_alike}
 use Rattle.ov_owner.proofs.Answering.{refusal_makes}
 use Rattle.ov_peer.proofs.Following.{followed-nil}
 use Rattle.ov_owner.proofs.Stepping.{IsSealedAt, refused_step, update_accepted, update_refused}
@@ -126,7 +127,7 @@ module _ (k : Masters) (command : Command) (e : Errand) (d : Does k command e) (
           (λ same. step (ap (λ (v : Service). v.history) same))
 
       -- ---- after the first ask
-      module _ (p : PlainHistory) (legal : IsLegal (history_of p)) (right : h ≡ sealed k p) where
+      module _ (p : PlainHistory) (legal : IsLegal (history_of p)) (right : IsSealedAs k p h) where
         first_sends : (b : Bool) (tries : List ℕ) (epoch : ℕ) (u : SealedUpdate)
             → IsSealedAt k command e d base_check (followed h made) epoch u
             → Goes k.surface e (sends_if b tries epoch u) rest final
@@ -140,7 +141,7 @@ module _ (k : Masters) (command : Command) (e : Errand) (d : Does k command e) (
             → IsMachines k command (h ∷ []) last.history (Err fault)
         refused_first (faults.Refused why) answer is (inl (answered, makes_it)) same =
             let at_p : Answers (served (here (sealed k p))) e.first answer =
-            subst (λ (x : SealedHistory). Answers (served (here x)) e.first answer) right answered in
+            answers_alike k base_check p h legal right e.first answer answered in
             let (refused, some) = d.makes.refused base_check p answer why legal at_p is in
             let none : made ≡ [] = makes_it ∙ ap (made_by e.first) refused ∙ refusal_makes e.first why in
             refused_step k command e d base_check p why h last.history legal right some
@@ -162,14 +163,16 @@ module _ (k : Masters) (command : Command) (e : Errand) (d : Does k command e) (
             absurd cc
         first_told (Ok (epoch, u)) tries least answer is (inl (answered, makes_it)) goes =
             let at_p : Answers (served (here (sealed k p))) e.first answer =
-            subst (λ (x : SealedHistory). Answers (served (here x)) e.first answer) right answered in
+            answers_alike k base_check p h legal right e.first answer answered in
             let (at_epoch, is_sealed, free) = d.makes.told base_check p answer epoch u legal at_p is in
             first_sends (nat_lt epoch least) tries epoch u
             (record {
               p = p;
               legal = legal;
+              asked = h;
+              right = right;
               between = made;
-              same = ap (λ (x : SealedHistory). followed x made) right;
+              same = refl;
               at_epoch = at_epoch;
               is_sealed = is_sealed;
             }) goes

@@ -52,6 +52,8 @@ errand_other base (commands.Grant user file) e is a =
     subst (λ (x : Errand). IsOther (x.sealed a)) (sym is) (known_other a _)
 errand_other base (commands.Revoke user file) e is a =
     subst (λ (x : Errand). IsOther (x.sealed a)) (sym is) (known_other a _)
+errand_other base (commands.Remove file) e is a =
+    subst (λ (x : Errand). IsOther (x.sealed a)) (sym is) (known_other a _)
 errand_other base command e is a = absurd is
 
 abbrev AllRise : List ℕ → Type 0

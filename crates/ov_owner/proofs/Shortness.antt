@@ -15,10 +15,11 @@ use Rattle.ov_history.specs.Layers.{layers_of}
 use Rattle.ov_history.specs.Lists.{file_number, set_named, user_number}
 use Rattle.ov_history.specs.History.{matrix_of}
 use Rattle.ov_history.specs.Masters.{Masters}
-use Rattle.ov_history.specs.Plain.{PlainEnrol, PlainGrant, PlainHistory, PlainRevoke, history_of}
+use Rattle.ov_history.specs.Plain.{PlainEnrol, PlainGrant, PlainHistory, PlainRemove, PlainRevoke, history_of}
 use Rattle.ov_history.specs.Refusals.{IsLegal}
 use Rattle.ov_history.specs.Sealed.{SealedHistory, catalogue_of}
-use Rattle.ov_history.specs.Sealing.{sealed, sealed_update}
+use Rattle.ov_history.specs.Sealing.{IsSealedAs, sealed, sealed_update}
+use Rattle.ov_model.proofs.Agreeing.{right_shows}
 use Rattle.ov_wire.specs.declared.request.Question.TheVariants as questions
 use Rattle.ov_wire.specs.declared.request.Request.{Request}
 use Rattle.ov_wire.specs.declared.answer.Answer.{Answer}
@@ -36,13 +37,14 @@ use Rattle.ov_peer.specs.Tells.{IsReplyAt}
 use Rattle.ov_peer.specs.Exchanges.{IsAnswerAt}
 use Rattle.ov_peer.proofs.Telling.{answer_at}
 use Rattle.ov_owner.specs.Alone.{AnsweredAlone, AskedAlone}
-use Rattle.ov_owner.specs.Errands.{Errand, creating, enrolling, granting, revoking}
+use Rattle.ov_owner.specs.Errands.{Errand, creating, enrolling, granting, removing, revoking}
 use Rattle.ov_owner.specs.Laws.{TalksAreShort, frame_bytes}
 use Rattle.ov_owner.specs.Talks.{Asks, Ends, Goes, IsAfter, Moves, Sends, Stage, Talks, after as stage_after, after_first, after_update, sends_if, start, update_request}
 use Rattle.ov_owner.specs.declared.fault.OwnerFault.{OwnerFault}
+use Rattle.ov_owner.proofs.Agreeing.{answers_alike}
 use Rattle.ov_owner.proofs.Leaving.{Serves, is_first, is_update, nothing_due, one_ask}
 use Rattle.ov_owner.proofs.Sizes.{ask_answer_short, cover_answer_short, cover_short, creation_short, list_few, question_short, short_update, spelled_answer_short}
-use Rattle.ov_owner.proofs.Doing.{Does, create_does, enrol_does, grant_does, revoke_does}
+use Rattle.ov_owner.proofs.Doing.{Does, create_does, enrol_does, grant_does, remove_does, revoke_does}
 use Rattle.ov_owner.proofs.Telling.{under}
 
 -- a reply to a request that was sent is an answer to it, or says that the disk failed
@@ -79,9 +81,10 @@ module _ (k : Masters) (command : Command) (e : Errand) (d : Does k command e) (
     (told_short : (a : Answer) → Answers (served (under k.surface base_check (sealed k p))) e.first a
     → length (answer_bytes a) ≤ told)
     (sent_short : let u = sealed_update k (layers_of (history_of p)) (d.plain p) in
-    HasForm second_form u → length (spelling second_form u) ≤ sent) where
+    HasForm second_form u → length (spelling second_form u) ≤ sent)
+    (s : SealedHistory) (right : IsSealedAs k p s) where
   abbrev At : Stage → SealedHistory → Type 0
-  At stage g = Serves k command e d base_check p legal stage g
+  At stage g = Serves k command e d base_check p legal s right stage g
 
   abbrev here : SealedHistory → Service
   here g = under k.surface base_check g
@@ -116,15 +119,16 @@ module _ (k : Masters) (command : Command) (e : Errand) (d : Does k command e) (
 
   -- the server is still at the epoch of the update, so that it isn't stale
   never_stale : (g : SealedHistory) (epoch now : ℕ) (u : SealedUpdate) (made : List SealedUpdate)
-      → g ≡ sealed k p → epoch ≡ (catalogue_of k.surface (sealed k p)).epoch
+      → g ≡ s → epoch ≡ (catalogue_of k.surface (sealed k p)).epoch
       → IsAnswerAt (here g) (update_request k.surface epoch u) (answers.Stale now) made → ⊥
   never_stale g epoch now u made same at_epoch (inr (disk, may, needs)) = cc disk
   never_stale g epoch now u made same at_epoch (inl ((tagged, other, is), makes_it)) =
-      other (at_epoch ∙ ap (λ (x : SealedHistory). (catalogue_of k.surface x).epoch) (sym same))
+      other (at_epoch ∙ ap (λ (c : Catalogue). c.epoch) (sym (right_shows k p s legal right))
+      ∙ ap (λ (x : SealedHistory). (catalogue_of k.surface x).epoch) (sym same))
 
   by_answer : (g : SealedHistory) (tries : List ℕ) (epoch : ℕ) (u : SealedUpdate) (a : Answer)
       (made : List SealedUpdate)
-      → g ≡ sealed k p → epoch ≡ (catalogue_of k.surface (sealed k p)).epoch
+      → g ≡ s → epoch ≡ (catalogue_of k.surface (sealed k p)).epoch
       → IsAnswerAt (here g) (update_request k.surface epoch u) a made
       → most (after_update tries epoch a) ≡ 0
   by_answer g tries epoch u (answers.Accepted now) made same at_epoch is = refl
@@ -138,7 +142,7 @@ module _ (k : Masters) (command : Command) (e : Errand) (d : Does k command e) (
 
   by_sent : (g : SealedHistory) (tries : List ℕ) (epoch : ℕ) (u : SealedUpdate)
       (read : Result Answer ℕ) (reply : List ℕ) (made : List SealedUpdate)
-      → g ≡ sealed k p → epoch ≡ (catalogue_of k.surface (sealed k p)).epoch
+      → g ≡ s → epoch ≡ (catalogue_of k.surface (sealed k p)).epoch
       → HasRequestForm (update_request k.surface epoch u) → AreAllBytes reply
       → answer_of (update_request k.surface epoch u) reply ≡ read
       → IsReplyAt (here g) (request_bytes (update_request k.surface epoch u)) reply made
@@ -164,7 +168,8 @@ module _ (k : Masters) (command : Command) (e : Errand) (d : Does k command e) (
       let two = first_short moves.asked.form in
       let three : length a.reply ≤ told =
       reply_short (here g) e.first a.reply made told moves.asked.form some
-      (λ x is. told_short x (subst (λ (h : SealedHistory). Answers (served (here h)) e.first x) same is))
+      (λ x is. told_short x (answers_alike k base_check p s legal right e.first x
+      (subst (λ (h : SealedHistory). Answers (served (here h)) e.first x) same is)))
       (subst (λ (x : List ℕ). IsReplyAt (here g) x a.reply made) frame replied) in
       let four = after_asking tries least moves.asked.request a.reply next then in
       omega (arith, one, two, three, four)
@@ -204,22 +209,22 @@ module _ (k : Masters) (command : Command) (e : Errand) (d : Does k command e) (
   all_short stage final (a ∷ asks) g m ready (next, moves, goes) (made, replied, alone) =
       let one = one_short stage next a g made moves ready replied moves.then in
       let rest = all_short next final asks (followed g made) m
-      (one_ask k command e d base_check p legal stage next a g made moves ready replied moves.then)
+      (one_ask k command e d base_check p legal s right stage next a g made moves ready replied moves.then)
       goes alone in
       omega (arith, one, rest)
 
   pub talk_short : (asks : List Ask) (unanswered : Option (List ℕ)) (result : Result ℕ OwnerFault)
-      (g : SealedHistory) (last : Service)
-      → g ≡ sealed k p → Talks k.surface e asks unanswered result
-      → AskedAlone (here g) asks unanswered last → frame_bytes asks ≤ first + told + sent + 58
-  talk_short asks unanswered result g last same (final, goes, closes) (m, alone, left) =
-      let k = all_short start final asks g m same goes alone in omega (arith, k)
+      (last : Service)
+      → Talks k.surface e asks unanswered result
+      → AskedAlone (here s) asks unanswered last → frame_bytes asks ≤ first + told + sent + 58
+  talk_short asks unanswered result last (final, goes, closes) (m, alone, left) =
+      let k = all_short start final asks s m refl goes alone in omega (arith, k)
 
 by_sizes : (k : Masters) (command : Command) (e : Errand) (d : Does k command e)
     (asks : List Ask) (unanswered : Option (List ℕ)) (result : Result ℕ OwnerFault)
     (v last : Service) (p : PlainHistory) (first told sent : ℕ)
     → Talks k.surface e asks unanswered result → v.surface ≡ k.surface → IsLegal (history_of p)
-    → v.history ≡ sealed k p → AskedAlone v asks unanswered last
+    → IsSealedAs k p v.history → AskedAlone v asks unanswered last
     → 1 ≤ told → (HasRequestForm e.first → length (request_bytes e.first) ≤ first)
     → ((a : Answer) → Answers (served (under k.surface v.base_check (sealed k p))) e.first a
     → length (answer_bytes a) ≤ told)
@@ -229,7 +234,7 @@ by_sizes : (k : Masters) (command : Command) (e : Errand) (d : Does k command e)
 by_sizes k command e d asks unanswered result v last p first told sent talks same legal right
     alone some first_short told_short sent_short =
     talk_short k command e d v.base_check p legal first told sent some first_short told_short
-    sent_short asks unanswered result v.history last right talks
+    sent_short v.history right asks unanswered result last talks
     (subst (λ (s : List ℕ). AskedAlone (under s v.base_check v.history) asks unanswered last) same alone)
 
 pub talks_are_short : TalksAreShort
@@ -272,5 +277,14 @@ talks_are_short k (commands.Revoke user file) e asks unanswered result v last p 
     (subst (λ (x : Errand). Talks k.surface x asks unanswered result) is talks) same legal right alone (omega arith)
     (question_short (questions.Revoke user file)) (ask_answer_short c (questions.Revoke user file))
     (λ form. short_update (sealed_update k (layers_of (history_of p)) (PlainRevoke (user_number m user) (file_number m file))) form (λ name list tokens tag bytes wrong. cc wrong)) in
+    omega (arith, n)
+talks_are_short k (commands.Remove file) e asks unanswered result v last p is talks same legal right alone =
+    let m = matrix_of (history_of p) in
+    let c = catalogue_of k.surface (sealed k p) in
+    let n = by_sizes k (commands.Remove file) (removing file) (remove_does k file)
+    asks unanswered result v last p 132 26 66
+    (subst (λ (x : Errand). Talks k.surface x asks unanswered result) is talks) same legal right alone (omega arith)
+    (question_short (questions.Remove file)) (ask_answer_short c (questions.Remove file))
+    (λ form. short_update (sealed_update k (layers_of (history_of p)) (PlainRemove (file_number m file))) form (λ name list tokens tag bytes wrong. cc wrong)) in
     omega (arith, n)
 talks_are_short k command e asks unanswered result v last p is talks same legal right alone = absurd is

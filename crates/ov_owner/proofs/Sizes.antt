@@ -16,7 +16,7 @@ use Rattle.ov_graph.specs.Contents.{plan_of}
 use Rattle.ov_graph.proofs.GraphLaws.{plan-few}
 use Rattle.ov_base_layer.specs.Seals.{cover_tokens}
 use Rattle.ov_record.specs.Spelling.{HasForm, spelling}
-use Rattle.ov_record.specs.Updates.{SealedCreate, SealedEnrol, SealedGrant, SealedRevoke, SealedUpdate}
+use Rattle.ov_record.specs.Updates.{SealedCreate, SealedEnrol, SealedGrant, SealedRemove, SealedRevoke, SealedUpdate}
 use Rattle.ov_record.specs.Forms.{second_form}
 use Rattle.ov_surface.specs.Coats.{base_text}
 use Rattle.ov_surface.specs.Tags.{tag_of_file}
@@ -76,6 +76,7 @@ question_short (questions.Revoke user file) form =
     let two = name_short file form.is_request.1 in
     omega (arith, one, two, length-append (name_field user) (name_field file))
 question_short (questions.Key user) form = omega (arith, name_short user form.is_request)
+question_short (questions.Remove file) form = omega (arith, name_short file form.is_request)
 
 pub ask_answer_short : (c : Catalogue) (question : Question) (a : Answer) → AnswersAsk c question a
     → length (answer_bytes a) ≤ 26
@@ -122,6 +123,7 @@ short_update (SealedEnrol name) form other = omega (arith, name_short name form)
 short_update (SealedCreate name list tokens tag bytes) form other = absurd (other name list tokens tag bytes refl)
 short_update (SealedGrant user file token) form other = grant_short user file token form
 short_update (SealedRevoke user file) form other = omega arith
+short_update (SealedRemove file) form other = omega arith
 
 creation_length : (name : List ℕ) (list : ℕ) (tokens : List _) (tag bytes : List ℕ)
     → HasForm second_form (SealedCreate name list tokens tag bytes)

@@ -13,16 +13,17 @@ use Rattle.ov_script.specs.declared.command.Command.{Command}
 use Rattle.ov_script.specs.declared.reply.Reply.{Reply}
 use Rattle.ov_script.specs.declared.reply.Reply.TheVariants as replies
 use Rattle.ov_history.specs.Briefs.{brief}
+use Rattle.ov_history.specs.Catalogue.{Catalogue}
 use Rattle.ov_history.specs.History.{epoch_of}
 use Rattle.ov_history.specs.Layers.{layers_of}
 use Rattle.ov_history.specs.Masters.{Masters}
 use Rattle.ov_history.specs.Plain.{PlainHistory, history_of, measured, with_plain}
 use Rattle.ov_history.specs.Refusals.{IsLegal, refusal_of}
 use Rattle.ov_history.specs.Sealed.{SealedHistory, catalogue_of, refusal_shown, with_sealed}
-use Rattle.ov_history.specs.Sealing.{sealed, sealed_update}
+use Rattle.ov_history.specs.Sealing.{IsSealedAs, sealed, sealed_update}
 use Rattle.ov_history.proofs.Keeping.{kept_refusals, kept_shows}
-use Rattle.ov_history.proofs.Sealing.{sealing_goes_on}
 use Rattle.ov_model.specs.Step.{step, update_step}
+use Rattle.ov_model.proofs.Agreeing.{right_goes_on, right_shows}
 use Rattle.ov_wire.specs.declared.answer.Answer.TheVariants as answers
 use Rattle.ov_protocol.specs.Serving.{Service, followed, served}
 use Rattle.ov_protocol.specs.Answers.{Answers, made_by}
@@ -46,10 +47,10 @@ module _ (k : Masters) (command : Command) (e : Errand) (d : Does k command e) (
   -- ---- steps
 
   accepted_step : (p : PlainHistory) (n : ℕ) (answered last : SealedHistory)
-      → IsLegal (history_of p) → answered ≡ sealed k p
+      → IsLegal (history_of p) → IsSealedAs k p answered
       → refusal_of (history_of p) (measured (d.plain p)) ≡ None
       → n ≡ epoch_of (history_of p) + 1
-      → last ≡ sealed k (with_plain p (d.plain p))
+      → IsSealedAs k (with_plain p (d.plain p)) last
       → IsStep k command (replies.Accepted n) answered last
   accepted_step p n answered last legal same none epoch is =
       let so : step p command ≡ (replies.Accepted (epoch_of (history_of p) + 1), with_plain p (d.plain p)) =
@@ -58,11 +59,11 @@ module _ (k : Masters) (command : Command) (e : Errand) (d : Does k command e) (
         legal = legal;
         same = same;
         replied = ap (λ (x : Reply × PlainHistory). x.0) so ∙ ap replies.Accepted (sym epoch);
-        next = is ∙ ap (λ (x : Reply × PlainHistory). sealed k x.1) (sym so);
+        next = subst (λ (x : Reply × PlainHistory). IsSealedAs k x.1 last) (sym so) is;
       }
 
   pub refused_step : (p : PlainHistory) (why : Refusal) (answered last : SealedHistory)
-      → IsLegal (history_of p) → answered ≡ sealed k p
+      → IsLegal (history_of p) → IsSealedAs k p answered
       → refusal_of (history_of p) (measured (d.plain p)) ≡ Some why
       → last ≡ answered
       → IsStep k command (replies.Refused why) answered last
@@ -73,7 +74,8 @@ module _ (k : Masters) (command : Command) (e : Errand) (d : Does k command e) (
         legal = legal;
         same = same;
         replied = ap (λ (x : Reply × PlainHistory). x.0) so;
-        next = is ∙ same ∙ ap (λ (x : Reply × PlainHistory). sealed k x.1) (sym so);
+        next = subst (λ (x : Reply × PlainHistory). IsSealedAs k x.1 last) (sym so)
+            (subst (IsSealedAs k p) (sym is) same);
       }
 
   -- ---- what is known of what is served at a stage
@@ -82,8 +84,10 @@ module _ (k : Masters) (command : Command) (e : Errand) (d : Does k command e) (
   pub record IsSealedAt (g : SealedHistory) (epoch : ℕ) (u : SealedUpdate) : Type 0 where
     pub p : PlainHistory
     pub legal : IsLegal (history_of p)
+    pub asked : SealedHistory
+    pub right : IsSealedAs k p asked
     pub between : List SealedUpdate
-    pub same : g ≡ followed (sealed k p) between
+    pub same : g ≡ followed asked between
     pub at_epoch : epoch ≡ (catalogue_of k.surface (sealed k p)).epoch
     pub is_sealed : u ≡ sealed_update k (layers_of (history_of p)) (d.plain p)
 
@@ -91,11 +95,31 @@ module _ (k : Masters) (command : Command) (e : Errand) (d : Does k command e) (
   still_there : (g : SealedHistory) (others : List SealedUpdate) (epoch : ℕ) (u : SealedUpdate)
       (t : IsSealedAt g epoch u)
       → epoch ≡ (catalogue_of k.surface (followed g others)).epoch
-      → followed g others ≡ sealed k t.p
+      → followed g others ≡ t.asked
   still_there g others epoch u t now =
+      let epochs : (catalogue_of k.surface t.asked).epoch ≡ epoch =
+      ap (λ (c : Catalogue). c.epoch) (right_shows k t.p t.asked t.legal t.right)
+      ∙ sym t.at_epoch in
       ap (λ (x : SealedHistory). followed x others) t.same
-      ∙ same_epoch k.surface (sealed k t.p) t.between others
-      (sym t.at_epoch ∙ now ∙ ap (λ (x : SealedHistory). (catalogue_of k.surface (followed x others)).epoch) t.same)
+      ∙ same_epoch k.surface t.asked t.between others
+      (epochs ∙ now ∙ ap (λ (x : SealedHistory). (catalogue_of k.surface (followed x others)).epoch) t.same)
+
+  -- there what is served shows what the owner's own form shows
+  shows_there : (g : SealedHistory) (others : List SealedUpdate) (epoch : ℕ) (u : SealedUpdate)
+      (t : IsSealedAt g epoch u)
+      → epoch ≡ (catalogue_of k.surface (followed g others)).epoch
+      → catalogue_of k.surface (followed g others) ≡ catalogue_of k.surface (sealed k t.p)
+  shows_there g others epoch u t now =
+      ap (catalogue_of k.surface) (still_there g others epoch u t now)
+      ∙ right_shows k t.p t.asked t.legal t.right
+
+  -- and it is right by the history at which the update was sealed
+  right_there : (g : SealedHistory) (others : List SealedUpdate) (epoch : ℕ) (u : SealedUpdate)
+      (t : IsSealedAt g epoch u)
+      → epoch ≡ (catalogue_of k.surface (followed g others)).epoch
+      → IsSealedAs k t.p (followed g others)
+  right_there g others epoch u t now =
+      subst (IsSealedAs k t.p) (sym (still_there g others epoch u t now)) t.right
 
   pub update_accepted : (g : SealedHistory) (others made : List SealedUpdate) (epoch n : ℕ)
       (u : SealedUpdate)
@@ -104,19 +128,25 @@ module _ (k : Masters) (command : Command) (e : Errand) (d : Does k command e) (
       → made ≡ made_by (update_request k.surface epoch u) (answers.Accepted n)
       → IsStep k command (replies.Accepted n) (followed g others) (followed (followed g others) made)
   update_accepted g others made epoch n u t form (tagged, now, taken) makes_it =
-      let here = still_there g others epoch u t now in
+      let here : SealedHistory = followed g others in
+      let sent : SealedUpdate = sealed_update k (layers_of (history_of t.p)) (d.plain t.p) in
+      let right = right_there g others epoch u t now in
       let read = read_back u form in
       let c = catalogue_of k.surface (sealed k t.p) in
       let (none, parts, next) : AnswersSpelled c (Ok u) (answers.Accepted n) =
-      subst (λ (x : SealedHistory). AnswersSpelled (catalogue_of k.surface x) (Ok u) (answers.Accepted n)) here
-      (subst (λ (r : Result SealedUpdate ℕ). AnswersSpelled (catalogue_of k.surface (followed g others)) r (answers.Accepted n)) read taken) in
+      subst (λ (x : Catalogue). AnswersSpelled x (Ok u) (answers.Accepted n))
+      (shows_there g others epoch u t now)
+      (subst (λ (r : Result SealedUpdate ℕ). AnswersSpelled (catalogue_of k.surface here) r (answers.Accepted n)) read taken) in
       let refusals = kept_refusals k t.p c (d.plain t.p) (t.legal, refl) in
       let shows = kept_shows k t.p c (t.legal, refl) in
-      accepted_step t.p n (followed g others) (followed (followed g others) made) t.legal here
+      let left : with_sealed here sent ≡ followed here made =
+      ap (with_sealed here) (sym t.is_sealed)
+      ∙ sym (ap (λ (us : List SealedUpdate). followed here us) (makes_it ∙ ap spelled_by read)) in
+      accepted_step t.p n here (followed here made) t.legal right
       (sym refusals.0 ∙ ap (λ (x : SealedUpdate). refusal_shown c (brief x)) (sym t.is_sealed) ∙ none)
       (next ∙ ap (λ x. x + 1) shows.epoch)
-      ((λ i. followed (here i) ((makes_it ∙ ap spelled_by read) i))
-      ∙ ap (with_sealed (sealed k t.p)) t.is_sealed ∙ sym (sealing_goes_on k t.p (d.plain t.p)))
+      (subst (IsSealedAs k (with_plain t.p (d.plain t.p))) left
+      (right_goes_on k t.p (d.plain t.p) here right))
 
   pub update_refused : (g : SealedHistory) (others made : List SealedUpdate) (epoch : ℕ)
       (why : Refusal) (u : SealedUpdate)
@@ -125,13 +155,14 @@ module _ (k : Masters) (command : Command) (e : Errand) (d : Does k command e) (
       → made ≡ made_by (update_request k.surface epoch u) (answers.Refused why)
       → IsStep k command (replies.Refused why) (followed g others) (followed (followed g others) made)
   update_refused g others made epoch why u t form (tagged, now, taken) makes_it =
-      let here = still_there g others epoch u t now in
+      let right = right_there g others epoch u t now in
       let read = read_back u form in
       let c = catalogue_of k.surface (sealed k t.p) in
       let some : AnswersSpelled c (Ok u) (answers.Refused why) =
-      subst (λ (x : SealedHistory). AnswersSpelled (catalogue_of k.surface x) (Ok u) (answers.Refused why)) here
+      subst (λ (x : Catalogue). AnswersSpelled x (Ok u) (answers.Refused why))
+      (shows_there g others epoch u t now)
       (subst (λ (r : Result SealedUpdate ℕ). AnswersSpelled (catalogue_of k.surface (followed g others)) r (answers.Refused why)) read taken) in
       let refusals = kept_refusals k t.p c (d.plain t.p) (t.legal, refl) in
-      refused_step t.p why (followed g others) (followed (followed g others) made) t.legal here
+      refused_step t.p why (followed g others) (followed (followed g others) made) t.legal right
       (sym refusals.0 ∙ ap (λ (x : SealedUpdate). refusal_shown c (brief x)) (sym t.is_sealed) ∙ some)
       (ap (λ (us : List SealedUpdate). followed (followed g others) us) makes_it ∙ followed-nil (followed g others))

@@ -34,7 +34,7 @@ abbrev pub AskedAlone : Service → List Ask → Option (List ℕ) → Service �
 AskedAlone v asks unanswered last =
     (m : Service) × AnsweredAlone v asks m × LeftAlone m unanswered last
 
--- the history is the one of before, or it with the update of this command
+-- the history is right by the one of before, or by that with the update of this command
 abbrev pub IsOneOrNone : Masters → PlainHistory → Command → SealedHistory → Type 0
 IsOneOrNone k p command now = IsSealedAs k p now ⊎ IsSealedAs k (after p command) now
 

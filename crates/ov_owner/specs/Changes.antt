@@ -2,7 +2,8 @@
 use Rattle.std.specs.Prelude.{ℕ, List}
 use Rattle.ov_script.specs.declared.command.Command.{Command}
 use Rattle.ov_script.specs.declared.command.Command.TheVariants as commands
-use Rattle.ov_owner.specs.Errands.{Errand, IsCreation, creating, enrolling, granting, revoking}
+use Rattle.ov_owner.specs.Errands.{Errand, IsCreation, creating, enrolling, granting, removing}
+use Rattle.ov_owner.specs.Errands.{revoking}
 use Rattle.ov_owner.specs.declared.change.Change.{Change}
 use Rattle.ov_owner.specs.declared.change.Change.TheVariants as changes
 
@@ -12,6 +13,7 @@ errand_of base (changes.Enrol user) = enrolling user.now
 errand_of base (changes.Create file list bytes) = creating base file.now list.now bytes.now
 errand_of base (changes.Grant user file) = granting base user.now file.now
 errand_of base (changes.Revoke user file) = revoking user.now file.now
+errand_of base (changes.Remove file) = removing file.now
 
 -- the command of a change
 abbrev pub command_of : Change → Command
@@ -19,6 +21,7 @@ command_of (changes.Enrol user) = commands.Enrol user.now
 command_of (changes.Create file list bytes) = commands.Create file.now list.now bytes.now
 command_of (changes.Grant user file) = commands.Grant user.now file.now
 command_of (changes.Revoke user file) = commands.Revoke user.now file.now
+command_of (changes.Remove file) = commands.Remove file.now
 
 -- the limits of a creation
 abbrev pub HasChangeLimits : Change → Type 0

@@ -9,7 +9,7 @@ use Rattle.ov_surface.specs.Coats.{base_text}
 use Rattle.ov_surface.specs.Tags.{tag_of_file}
 use Rattle.ov_fields.specs.Spelling.{name_field}
 use Rattle.ov_record.specs.Updates.{SealedUpdate, SealedEnrol, SealedCreate, SealedGrant}
-use Rattle.ov_record.specs.Updates.{SealedRevoke}
+use Rattle.ov_record.specs.Updates.{SealedRevoke, SealedRemove}
 use Rattle.ov_history.specs.Masters.{access_key}
 use Rattle.ov_history.specs.Sealing.{token_unless}
 use Rattle.ov_wire.specs.declared.request.Question.TheVariants as questions
@@ -53,7 +53,7 @@ abbrev pub sealed_by : {T : Type 0} → (T → ℕ × SealedUpdate) → Result T
 sealed_by seal (Ok told) = Ok (seal told)
 sealed_by seal (Err fault) = Err fault
 
--- ---- the four commands
+-- ---- the five commands
 
 -- the errand that enrols a user
 abbrev pub enrolling : List ℕ → Errand
@@ -100,6 +100,13 @@ revoking user file = record {
   first = requests.Ask (questions.Revoke user file);
   sealed = λ answer.
       sealed_by (λ (k : Known). (k.epoch, SealedRevoke k.user k.file)) (known_of answer);
+}
+
+-- the errand that removes a file
+abbrev pub removing : List ℕ → Errand
+removing file = record {
+  first = requests.Ask (questions.Remove file);
+  sealed = λ answer. sealed_by (λ (k : Known). (k.epoch, SealedRemove k.file)) (known_of answer);
 }
 
 -- what a caller sees to before a creation: the bytes are a file's, and the names are few and have

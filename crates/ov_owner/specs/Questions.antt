@@ -62,7 +62,7 @@ IsWelcomeOf v Then (Ok welcome) =
 IsWelcomeOf v Then (Err fault) = Unit {0}
 
 -- what is served is this history, with what others made of it, and there the machine replies so to
--- the command, where the history is the sealed form of a legal one
+-- the command, at each legal history by which it is right
 abbrev pub RepliesThere : Service → (Service → Type 0) → Command → Reply → Type 0
 RepliesThere v Then command reply =
     (others : List SealedUpdate) × Then (later v others)

@@ -1,7 +1,7 @@
 -- What a result of an owner is at the histories by which its asks were answered.
 use Rattle.std.specs.Prelude.{◌≡◌, ℕ, List, [], ◌∷◌, Result, Ok, Err}
 use Rattle.ov_script.specs.declared.command.Command.{Command}
-use Rattle.ov_script.specs.declared.command.Command.TheVariants.{Enrol, Create, Grant, Revoke}
+use Rattle.ov_script.specs.declared.command.Command.TheVariants.{Enrol, Create, Grant, Revoke, Remove}
 use Rattle.ov_script.specs.declared.reply.Reply.{Reply}
 use Rattle.ov_script.specs.declared.reply.Reply.TheVariants as replies
 use Rattle.ov_history.specs.Masters.{Masters}
@@ -12,7 +12,7 @@ use Rattle.ov_history.specs.Sealing.{IsSealedAs}
 use Rattle.ov_model.specs.Step.{after, reply_to}
 use Rattle.ov_protocol.specs.Serving.{Service}
 use Rattle.ov_peer.specs.Asks.{Along, AreRight, Ask}
-use Rattle.ov_owner.specs.Errands.{Errand, creating, enrolling, granting, revoking}
+use Rattle.ov_owner.specs.Errands.{Errand, creating, enrolling, granting, removing, revoking}
 use Rattle.ov_owner.specs.declared.fault.OwnerFault.{OwnerFault}
 use Rattle.ov_owner.specs.declared.fault.OwnerFault.TheVariants as faults
 
@@ -22,10 +22,11 @@ IsErrandFor base (Enrol user) e = e ≡ enrolling user
 IsErrandFor base (Create file names bytes) e = e ≡ creating base file names bytes
 IsErrandFor base (Grant user file) e = e ≡ granting base user file
 IsErrandFor base (Revoke user file) e = e ≡ revoking user file
+IsErrandFor base (Remove file) e = e ≡ removing file
 IsErrandFor base command e = ⊥
 
--- The machine replies so to the command at a legal history, of which the one by which an ask was
--- answered is the sealed form, and what is served then is that of the history after it.
+-- The machine replies so to the command at a legal history by which the one that answered an ask is
+-- right, and what is served then is right by the history after it.
 pub record IsStep (k : Masters) (command : Command) (reply : Reply)
     (answered last : SealedHistory) : Type 0 where
   pub before : PlainHistory

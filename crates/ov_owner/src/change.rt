@@ -31,6 +31,10 @@ pub enum Change<'a> {
         user: &'a Name,
         file: &'a Name,
     },
+    /// To take the file away.
+    Remove {
+        file: &'a Name,
+    },
 }
 
 /// What is asked first.
@@ -60,6 +64,9 @@ pub fn first_request(alloc: Global, change: &Change<'_>) -> Result<Request, Memo
                 user: user.copy(),
                 file: file.copy(),
             },
+        }),
+        Change::Remove { file } => Ok(Request::Ask {
+            question: Question::Remove { file: file.copy() },
         }),
     }
 }

@@ -2,12 +2,13 @@
 ghost use Rattle.std.specs.Prelude.{◌≡◌};
 ghost use Rattle.ov_protocol.specs.Serving.{Service};
 ghost use Rattle.ov_script.specs.declared.command.Command.TheVariants.{Create, Enrol};
-ghost use Rattle.ov_script.specs.declared.command.Command.TheVariants.{Grant, Revoke};
+ghost use Rattle.ov_script.specs.declared.command.Command.TheVariants.{Grant, Remove, Revoke};
 ghost use Rattle.ov_owner.specs.Alone.{MakesOneOrNone};
 ghost use Rattle.ov_owner.specs.Calls.{Runs};
 ghost use Rattle.ov_owner.specs.Causes.{HasOwnerCause};
 ghost use Rattle.ov_owner.specs.Completeness.{IsCompleteCall, SaysUpdate};
-ghost use Rattle.ov_owner.specs.Errands.{IsCreation, creating, enrolling, granting, revoking};
+ghost use Rattle.ov_owner.specs.Errands.{IsCreation, creating, enrolling, granting, removing};
+ghost use Rattle.ov_owner.specs.Errands.{revoking};
 ghost use Rattle.ov_owner.specs.Steps.{IsOwnersReply};
 ghost use Rattle.ov_owner.specs.Changes.{HasChangeLimits, command_of, errand_of};
 
@@ -157,5 +158,24 @@ impl Owner {
         ensures cause { HasOwnerCause (P.tells.faults peer.old) (P.tells.faults peer.new) result }
     {
         self.change(alloc, peer, &Change::Revoke { user, file })
+    }
+
+    /// Takes a file away. Gives the new epoch.
+    pub fn remove<P: Peer>(
+        &self,
+        alloc: Global,
+        peer: &mut P,
+        file: &Name,
+    ) -> Result<u32, OwnerFault>
+        ensures runs { Runs P.tells self.now.surface (removing file.now) peer.old peer.new result }
+        ensures told { (v : Service) → P.tells.serves peer.old v → v.surface ≡ self.now.surface
+            → IsOwnersReply self.now (Remove file.now) v (P.tells.serves peer.new) result }
+        ensures alone { MakesOneOrNone P.tells (removing file.now) peer.old peer.new }
+        ensures complete { IsCompleteCall P.tells self.now peer.old peer.new
+            (SaysUpdate self.now (Remove file.now)) result }
+        ensures same { P.tells.borrow peer.new ≡ P.tells.borrow peer.old }
+        ensures cause { HasOwnerCause (P.tells.faults peer.old) (P.tells.faults peer.new) result }
+    {
+        self.change(alloc, peer, &Change::Remove { file })
     }
 }

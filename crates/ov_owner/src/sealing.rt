@@ -144,15 +144,18 @@ pub fn seal(
         }
         Change::Grant { .. } => {
             let known = known_of(answer)?;
-            Ok(Sealed {
-                epoch: known.epoch,
-                update: seal_grant(base, &known),
-            })
+            let (epoch, update) = (known.epoch, seal_grant(base, &known));
+            Ok(Sealed { epoch, update })
         }
         Change::Revoke { .. } => {
             let known = known_of(answer)?;
             let (epoch, user, file) = (known.epoch, known.user, known.file);
             let update = Update::Revoke { user, file };
+            Ok(Sealed { epoch, update })
+        }
+        Change::Remove { .. } => {
+            let Known { epoch, file, .. } = known_of(answer)?;
+            let update = Update::Remove { file };
             Ok(Sealed { epoch, update })
         }
     }

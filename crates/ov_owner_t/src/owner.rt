@@ -10,7 +10,7 @@ use std::test::Fail;
 
 mod frames;
 
-use frames::{CREATION, GRANT, REVOCATION};
+use frames::{CREATION, GRANT, REMOVAL, REVOCATION};
 
 fn owner() -> Owner {
     let base = Key { bytes: [0x11; 32] };
@@ -57,6 +57,12 @@ fn grant<P: Peer>(alloc: Global, peer: &mut P) -> Result<Result<u32, OwnerFault>
 fn revoke<P: Peer>(alloc: Global, peer: &mut P) -> Result<Result<u32, OwnerFault>, Fail> {
     let (user, file) = (name(b"c")?, name(b"f1")?);
     Ok(owner().revoke(alloc, peer, &user, &file))
+}
+
+/// Removes `f1`.
+fn remove<P: Peer>(alloc: Global, peer: &mut P) -> Result<Result<u32, OwnerFault>, Fail> {
+    let file = name(b"f1")?;
+    Ok(owner().remove(alloc, peer, &file))
 }
 
 /// Asks for the list of `f1`.
@@ -215,6 +221,61 @@ fn a_revocation_is_sent_as_another_program_does(rt: HostRuntime) -> Result<(), F
     let mut peer = tracing(rt.alloc(), REVOCATION)?;
     assert_eq!(rt; revoke(rt.alloc(), &mut peer)?, Ok(7));
     assert_eq!(rt; peer.sink.written(), REVOCATION);
+    Ok(())
+}
+
+#[test]
+fn a_removal_is_sent_as_another_program_does(rt: HostRuntime) -> Result<(), Fail> {
+    let mut peer = tracing(rt.alloc(), REMOVAL)?;
+    assert_eq!(rt; remove(rt.alloc(), &mut peer)?, Ok(8));
+    assert_eq!(rt; peer.sink.written(), REMOVAL);
+    Ok(())
+}
+
+/// What comes of a removal of which this is told at epoch 7.
+fn removed(alloc: Global, told: &[u8]) -> Result<Result<u32, OwnerFault>, Fail> {
+    remove(alloc, &mut replying(alloc, &[told, ACCEPTED_8])?)
+}
+
+/// Whether the reply was no answer to the request.
+fn is_bad_reply(result: Result<u32, OwnerFault>) -> bool {
+    match result {
+        Err(OwnerFault::BadReply { .. }) => true,
+        _ => false,
+    }
+}
+
+/// What is told of a removal: file 0 of base node 3. All that is told of users is 0.
+const TOLD_FILE: &[u8] = b"\x82\0\0\0\x07\0\0\0\0\0\0\0\0\0\0\0\0\0\0\0\0\0\0\0\x03\0";
+
+/// A removal names no user, and this is told of user 2.
+const TOLD_USER: &[u8] = b"\x82\0\0\0\x07\0\0\0\x02\0\0\0\0\0\0\0\0\0\0\0\0\0\0\0\x03\0";
+
+/// A removal names no user, and this is told of a root in the base layer.
+const TOLD_BASE: &[u8] = b"\x82\0\0\0\x07\0\0\0\0\0\0\0\x02\0\0\0\0\0\0\0\0\0\0\0\x03\0";
+
+/// A removal names no user, and this is told of a root in the surface layer.
+const TOLD_SURFACE: &[u8] = b"\x82\0\0\0\x07\0\0\0\0\0\0\0\0\0\0\0\x02\0\0\0\0\0\0\0\x03\0";
+
+/// A removal has no token, and this is told that one is wanted.
+const TOLD_TOKEN: &[u8] = b"\x82\0\0\0\x07\0\0\0\0\0\0\0\0\0\0\0\0\0\0\0\0\0\0\0\x03\x01";
+
+#[test]
+fn a_removal_is_told_no_user(rt: HostRuntime) -> Result<(), Fail> {
+    assert_eq!(rt; removed(rt.alloc(), TOLD_FILE)?, Ok(8));
+    assert_eq!(rt; is_bad_reply(removed(rt.alloc(), TOLD_USER)?), true);
+    assert_eq!(rt; is_bad_reply(removed(rt.alloc(), TOLD_BASE)?), true);
+    assert_eq!(rt; is_bad_reply(removed(rt.alloc(), TOLD_SURFACE)?), true);
+    assert_eq!(rt; is_bad_reply(removed(rt.alloc(), TOLD_TOKEN)?), true);
+    Ok(())
+}
+
+#[test]
+fn a_removal_is_refused(rt: HostRuntime) -> Result<(), Fail> {
+    let refused = Err(OwnerFault::Refused(Refusal::NoFile));
+    assert_eq!(rt; removed(rt.alloc(), &[0x88, 3])?, refused);
+    // It is never Taken, so that the owner takes no such reply.
+    assert_eq!(rt; is_bad_reply(removed(rt.alloc(), &[0x88, 1])?), true);
     Ok(())
 }
 

@@ -4,15 +4,15 @@ use Rattle.std.proofs.Common.{sym, ap}
 use Rattle.std.specs.Prelude.{nat_lt, Option, None, Some, is_some, option_map, unwrap_or}
 use Rattle.std.proofs.Math.ListN.{get_or-map}
 use Rattle.ov_base.specs.Sets.{empty as nobody, has}
-use Rattle.ov_history.specs.History.{File, Granted, Matrix, Revoked, changed, changed_all, delisted}
-use Rattle.ov_history.specs.History.{epoch_of, listed, matrix_of, no_one}
+use Rattle.ov_history.specs.History.{File, Granted, Matrix, Removed, Revoked, changed, changed_all}
+use Rattle.ov_history.specs.History.{delisted, epoch_of, listed, matrix_of, no_one}
 use Rattle.ov_history.specs.Layers.{Layers, layers_after, layers_all, layers_of, lists_after}
 use Rattle.ov_history.specs.Layers.{no_layers}
 use Rattle.ov_history.specs.Lists.{file_names, file_number, is_file, is_listed, is_user, name_left}
 use Rattle.ov_history.specs.Lists.{user_number}
-use Rattle.ov_history.specs.Places.{change_at, living_at, place_of}
+use Rattle.ov_history.specs.Places.{change_at, gone, living_at, place_of}
 use Rattle.ov_history.specs.Plain.{PlainCreate, PlainEnrol, PlainGrant, PlainHistory, PlainRevoke}
-use Rattle.ov_history.specs.Plain.{PlainUpdate, history_of, measured, measured_all}
+use Rattle.ov_history.specs.Plain.{PlainRemove, PlainUpdate, history_of, measured, measured_all}
 use Rattle.ov_base.specs.declared.refusal.Refusal.TheVariants.{Listed, NoFile, NoUser, NotListed}
 use Rattle.ov_history.specs.Refusals.{tests_of, tests_of_room}
 use Rattle.ov_history.proofs.MatrixLaws.{file_lists, file_lists-changed, is_listed-list}
@@ -45,6 +45,17 @@ names-listed user file files = names-changed (listed user) file files (λ f. ref
 names-delisted : (user file : ℕ) (files : List (Option File))
     → file_names (change_at (option_map (delisted user)) file files) ≡ file_names files
 names-delisted user file files = names-changed (delisted user) file files (λ f. refl)
+
+-- what is left of a name when its file is gone
+abbrev unnamed : List ℕ → List ℕ
+unnamed name = []
+
+names-gone : (file : ℕ) (files : List (Option File))
+    → file_names (change_at gone file files) ≡ change_at unnamed file (file_names files)
+names-gone file [] = refl
+names-gone zero (f ∷ files) = refl
+names-gone (suc file) (f ∷ files) =
+    ap (λ (l : List (List ℕ)). name_left f ∷ l) (names-gone file files)
 
 -- ---- lists of files
 
@@ -90,6 +101,14 @@ matches_on m n (PlainRevoke user file) (PlainRevoke other item) ms (same, one) =
       ∙ (λ i. lists_after (ms.lists i) (Revoked (same i) (one i)))
       ∙ sym (file_lists-changed n (Revoked other item));
 }
+matches_on m n (PlainRemove file) (PlainRemove item) ms one = record {
+  users = ms.users;
+  names = names-gone file m.files ∙ (λ i. change_at unnamed (one i) (ms.names i))
+      ∙ sym (names-gone item n.files);
+  lists = file_lists-changed m (Removed file)
+      ∙ (λ i. lists_after (ms.lists i) (Removed (one i)))
+      ∙ sym (file_lists-changed n (Removed item));
+}
 matches_on m n u v ms is = absurd is
 
 matches_all : (m n : Matrix) (us vs : List PlainUpdate) → Matches m n → AreAlike us vs
@@ -111,6 +130,7 @@ layers_on y (PlainGrant user file) (PlainGrant other item) (same, one) =
     λ i. layers_after y (Granted (same i) (one i))
 layers_on y (PlainRevoke user file) (PlainRevoke other item) (same, one) =
     λ i. layers_after y (Revoked (same i) (one i))
+layers_on y (PlainRemove file) (PlainRemove item) one = λ i. layers_after y (Removed (one i))
 layers_on y u v is = absurd is
 
 layers_alike : (y : Layers) (us vs : List PlainUpdate) → AreAlike us vs
@@ -169,7 +189,8 @@ module _ (p q : PlainHistory) (d : DifferInBytes p q) where
       is_listed-list m user file ∙ ap (λ (l : List (Option ℕ)). has (unwrap_or (living_at l file) nobody) user) matches.lists
       ∙ sym (is_listed-list n user file)
 
-  -- a grant and a revocation are refused alike at two histories that differ in bytes alone
+  -- a grant, a revocation and a removal are refused alike at two histories that differ in bytes
+  -- alone
   pub same_grant : (y : Layers) (epoch user file : ℕ)
       → tests_of m y epoch (Granted user file) ≡ tests_of n y epoch (Granted user file)
   same_grant y epoch user file =
@@ -181,3 +202,8 @@ module _ (p q : PlainHistory) (d : DifferInBytes p q) where
   same_revocation y epoch user file =
       λ i. (NoUser, not (is_user_too user i)) ∷ (NoFile, not (is_file_too file i))
       ∷ (NotListed, not (is_listed_too user file i)) ∷ tests_of_room y epoch (Revoked user file)
+
+  pub same_removal : (y : Layers) (epoch file : ℕ)
+      → tests_of m y epoch (Removed file) ≡ tests_of n y epoch (Removed file)
+  same_removal y epoch file =
+      λ i. (NoFile, not (is_file_too file i)) ∷ tests_of_room y epoch (Removed file)

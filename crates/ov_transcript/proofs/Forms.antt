@@ -30,7 +30,7 @@ use Rattle.ov_history.specs.Layers.{Layers, holders, layers_of, node_for, node_o
 use Rattle.ov_history.specs.Lists.{file_number, set_named, user_number}
 use Rattle.ov_history.specs.Masters.{Masters, access_key}
 use Rattle.ov_history.specs.Plain.{PlainCreate, PlainEnrol, PlainGrant, PlainHistory, PlainRevoke}
-use Rattle.ov_history.specs.Plain.{history_of}
+use Rattle.ov_history.specs.Plain.{PlainRemove, history_of}
 use Rattle.ov_history.specs.Refusals.{IsLegal}
 use Rattle.ov_history.specs.Sealed.{catalogue_of}
 use Rattle.ov_history.specs.Sealing.{sealed, sealed_update, token_unless}
@@ -163,6 +163,15 @@ module _ (k : Masters) (p : PlainHistory) (legal : IsLegal (history_of p)) where
       low_user known.user user (ap (λ (x : Known). x.user) is) (omega (arith, form.1)),
       low_file known.file file (ap (λ (x : Known). x.file) is) (omega (arith, form.4)),
     );
+    low = low_epoch known.epoch (ap (λ (x : Known). x.epoch) is) form.0;
+  }
+
+  pub remove_fits : (file : List ℕ) (known : Known)
+      → AnswersAsk c (questions.Remove file) (answers.Known known) → HasKnownForm known
+      → Fits (sealed_update k y (PlainRemove (file_number m file)))
+  remove_fits file known (none, is) form = record {
+    form =
+        (refl, low_file known.file file (ap (λ (x : Known). x.file) is) (omega (arith, form.4)));
     low = low_epoch known.epoch (ap (λ (x : Known). x.epoch) is) form.0;
   }
 

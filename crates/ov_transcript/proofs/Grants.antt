@@ -1,4 +1,4 @@
--- What is sent for a grant and a revocation doesn't depend on the files' bytes.
+-- What is sent for a grant, a revocation and a removal doesn't depend on the files' bytes.
 use Rattle.std.proofs.Common.{◌≡◌, ◌∙◌, ℕ, ◌+◌, Bool, false, not, List, [], ◌∷◌, Result, Ok, refl}
 use Rattle.std.proofs.Common.{sym, ap, subst, inl, inr}
 use Rattle.std.specs.Prelude.{◌⊎◌, ◌≢◌}
@@ -11,12 +11,13 @@ use Rattle.ov_script.specs.declared.command.Command.TheVariants as commands
 use Rattle.ov_history.specs.Asking.{file_named, user_named}
 use Rattle.ov_history.specs.Briefs.{brief}
 use Rattle.ov_history.specs.Catalogue.{Catalogue, outline}
-use Rattle.ov_history.specs.History.{Granted, Matrix, Revoked, Update, epoch_of, matrix_of}
+use Rattle.ov_history.specs.History.{Granted, Matrix, Removed, Revoked, Update, epoch_of}
+use Rattle.ov_history.specs.History.{matrix_of}
 use Rattle.ov_history.specs.Layers.{Layers, holders, layers_of, node_of, root_of}
 use Rattle.ov_history.specs.Lists.{file_number, user_number}
 use Rattle.ov_history.specs.Masters.{Masters}
 use Rattle.ov_history.specs.Plain.{PlainGrant, PlainHistory, PlainRevoke, PlainUpdate, history_of}
-use Rattle.ov_history.specs.Plain.{measured}
+use Rattle.ov_history.specs.Plain.{PlainRemove, measured}
 use Rattle.ov_history.specs.Refusals.{IsLegal, first_of_tests, refusal_of, tests_of}
 use Rattle.ov_history.specs.Sealed.{HasParts, catalogue_of, refusal_shown}
 use Rattle.ov_history.specs.Sealing.{sealed, sealed_update}
@@ -47,13 +48,13 @@ use Rattle.ov_transcript.specs.Bytes.{DifferInBytes}
 use Rattle.ov_transcript.specs.Laws.{GrantsSendNoBytes}
 use Rattle.ov_transcript.specs.Transcripts.{Begins, left_unless, says_refused, service_of}
 use Rattle.ov_transcript.proofs.Alike.{same_epoch, same_file, same_grant, same_layers}
-use Rattle.ov_transcript.proofs.Alike.{same_revocation, same_user}
+use Rattle.ov_transcript.proofs.Alike.{same_removal, same_revocation, same_user}
 use Rattle.ov_transcript.proofs.Cutting.{AreTwoAsks, IsRefusedAsk, one_or_two}
-use Rattle.ov_transcript.proofs.Forms.{Fits, fits_form, grant_fits, revoke_fits}
+use Rattle.ov_transcript.proofs.Forms.{Fits, fits_form, grant_fits, remove_fits, revoke_fits}
 use Rattle.ov_transcript.proofs.Refusing.{left_none, still_served}
 use Rattle.ov_transcript.proofs.Sizes.{answers_so}
 
--- the numbers that are told for a grant and a revocation, from the layers
+-- the numbers that are told for a grant, a revocation and a removal, from the layers
 abbrev numbers_of_grant : Layers → ℕ → ℕ → Known
 numbers_of_grant y user file = record {
   epoch = y.epoch;
@@ -67,6 +68,17 @@ numbers_of_grant y user file = record {
 
 abbrev numbers_of_both : Layers → ℕ → ℕ → Known
 numbers_of_both y user file = record (numbers_of_grant y user file) { wants = false }
+
+abbrev numbers_of_removal : Layers → ℕ → Known
+numbers_of_removal y file = record {
+  epoch = y.epoch;
+  user = 0;
+  base_root = 0;
+  surface_root = 0;
+  file = file;
+  node = node_of y file;
+  wants = false;
+}
 
 -- a reply at one serving is one at another, where the answer is one there
 replies_too : (v w : Service) (request : Request) (frame reply : List ℕ) (made : List SealedUpdate)
@@ -121,7 +133,7 @@ module _ (k : Masters) (p q : PlainHistory) (legal : IsLegal (history_of p))
   epoch_too : c.epoch ≡ e.epoch
   epoch_too = ap (λ (y : Layers). y.epoch) same_outline
 
-  -- ---- an update of a list, by the names of a user and a file
+  -- ---- an update of a file that is there, by names
 
   module _ (question : Question) (named : Matrix → PlainUpdate) (u : Matrix → Update)
       (is : (x : Matrix) → measured (named x) ≡ u x)
@@ -298,7 +310,7 @@ module _ (k : Masters) (p q : PlainHistory) (legal : IsLegal (history_of p))
         by_case (inl r) = refused_there asks r
         by_case (inr t) = two_there asks t
 
-  -- ---- both commands
+  -- ---- the three commands
 
   pub grant_there : (user file : List ℕ) (asks : List Ask)
       → HasRequestForm (requests.Ask (questions.Grant user file))
@@ -342,9 +354,29 @@ module _ (k : Masters) (p q : PlainHistory) (legal : IsLegal (history_of p))
       (λ i. numbers_of_both (same_outline i) (user_too user i) (file_too file i))
       form (λ known is told. revoke_fits k p legal user file known is told) asks begins
 
+  pub remove_there : (file : List ℕ) (asks : List Ask)
+      → HasRequestForm (requests.Ask (questions.Remove file))
+      → Begins (service_of k p) (requests.Ask (questions.Remove file)
+      ∷ update_request k.surface (epoch_of (history_of p))
+      (sealed_update k (layers_of (history_of p)) (PlainRemove (file_number m file))) ∷ []) asks []
+      → Begins (service_of k q) (requests.Ask (questions.Remove file)
+      ∷ update_request k.surface (epoch_of (history_of q))
+      (sealed_update k (layers_of (history_of q)) (PlainRemove (file_number n file))) ∷ []) asks []
+  remove_there file asks form begins =
+      begins_there (questions.Remove file)
+      (λ x. PlainRemove (file_number x file))
+      (λ x. Removed (file_number x file)) (λ x. refl)
+      (same_removal p q d (layers_of (history_of p)) (epoch_of (history_of p)) (file_number m file))
+      (λ i. PlainRemove (same_file p q d file i))
+      (λ x right. refused_as k x right (λ y. Removed (file_number y file)))
+      (λ i. numbers_of_removal (same_outline i) (file_too file i))
+      form (λ known is told. remove_fits k p legal file known is told) asks begins
+
 pub grants_send_no_bytes : GrantsSendNoBytes
 grants_send_no_bytes k p q (commands.Grant user file) asks is form legal also d begins =
     grant_there k p q legal also d user file asks form begins
 grants_send_no_bytes k p q (commands.Revoke user file) asks is form legal also d begins =
     revoke_there k p q legal also d user file asks form begins
+grants_send_no_bytes k p q (commands.Remove file) asks is form legal also d begins =
+    remove_there k p q legal also d file asks form begins
 grants_send_no_bytes k p q command asks is form legal also d begins = absurd is

@@ -3,24 +3,26 @@ use Rattle.std.proofs.Common.{◌≡◌, ◌∙◌, ◌<◌, ◌+◌, ℕ, Bool,
 use Rattle.std.proofs.Common.{Option, Some, None, Result, Ok, Err, refl, sym, ap, subst, inl, inr}
 use Rattle.std.proofs.Common.{arith, length-append}
 use Rattle.std.specs.Prelude.{◌⊎◌, ◌==◌, ◌-◌, bytes_eq, min, nat_lt, slice_index_or}
-use Rattle.std.specs.Prelude.{if◌then◌else◌}
+use Rattle.std.specs.Prelude.{if◌then◌else◌, is_some}
+use Rattle.std.proofs.Common.{true≢false}
 use Rattle.std.proofs.lemmas.Bool.Decides.{nat_tests}
 use Rattle.ov_base.specs.declared.limits.TheConstants.{MAX_CHUNK_BYTES}
 use Rattle.ov_fields.specs.Fronts.{AreAllBytes}
 use Rattle.ov_record.specs.Updates.{SealedUpdate}
 use Rattle.ov_history.specs.Asking.{file_named, user_named}
-use Rattle.ov_history.specs.Catalogue.{Catalogue, Filed, filed_at}
+use Rattle.ov_history.specs.Catalogue.{Catalogue, Filed, filed_at, matrix_shown}
 use Rattle.ov_history.specs.History.{Matrix, matrix_of}
 use Rattle.ov_history.specs.Layers.{layers_of}
 use Rattle.ov_history.specs.Lists.{file_at, file_number}
 use Rattle.ov_history.specs.Places.{living_at}
 use Rattle.ov_history.specs.Masters.{Masters}
 use Rattle.ov_history.specs.Plain.{PlainHistory, history_of}
-use Rattle.ov_history.specs.Refusals.{IsLegal}
+use Rattle.ov_history.specs.Refusals.{IsLegal, read_tests}
 use Rattle.ov_history.specs.Sealed.{catalogue_of, stored_of}
 use Rattle.ov_history.specs.Sealing.{sealed}
 use Rattle.ov_history.specs.Laws.{ShowsHistory}
 use Rattle.ov_history.proofs.Keeping.{kept_shows}
+use Rattle.ov_history.proofs.SoundTests.{file_is, none_applies}
 use Rattle.ov_surface.specs.Tags.{tag_of_file}
 use Rattle.ov_wire.specs.declared.request.Request.{Request}
 use Rattle.ov_wire.specs.declared.request.Request.TheVariants as requests
@@ -76,6 +78,7 @@ module _ (k : Masters) (r : Reader) (file : List ℕ) (p : PlainHistory)
   pub record IsTold (c : Chained) : Type 0 where
     pub file_is : c.file ≡ file_named s file
     pub generation : c.generation ≡ (filed_at s (file_named s file)).generation
+    pub there : is_some (living_at s.files c.file) ≡ true
 
   abbrev chunk : Chained → List ℕ → Request
   chunk c stored = requests.Chunk c.file c.generation (length stored) MAX_CHUNK_BYTES
@@ -140,8 +143,17 @@ module _ (k : Masters) (r : Reader) (file : List ℕ) (p : PlainHistory)
         (λ i. (file_at (sym shows.matrix i) (number i)).length)
         ∙ sym (length-shown s c.file) ∙ ap (λ n. (filed_at s n).length) told.file
         ∙ sym told.length in
-        let whole : c.length ≡ c.length - 0 = omega arith in (
-          record { file_is = told.file; generation = told.generation },
+        let whole : c.length ≡ c.length - 0 = omega arith in
+        let tests =
+        none_applies (read_tests (matrix_shown s) (user_named s r.name) (file_named s file)) allowed
+        in
+        let there : is_some (living_at s.files (file_named s file)) ≡ true =
+        file_is (file_named s file) s tests.1.0 in (
+          record {
+            file_is = told.file;
+            generation = told.generation;
+            there = subst (λ n. is_some (living_at s.files n) ≡ true) (sym told.file) there;
+          },
           (λ i. chunks_from (number i) (generation i) 0 (chunk_count (size i)))
               ∙ ap (λ n. chunks_from c.file c.generation 0 (chunk_count n)) whole,
         )
@@ -214,9 +226,8 @@ module _ (k : Masters) (r : Reader) (file : List ℕ) (p : PlainHistory)
           → later here made ≡ here → a.reply ≡ answer_bytes x
           → Due (after r (AsksChunk tries c stored) (Ok x)) (later here made) rest
       found_due None x found is same spelled =
-          subst (λ (y : Answer). Due (after r (AsksChunk tries c stored) (Ok y))
-          (later here made) rest) (sym is)
-          (ap (λ (l : List ℕ). left_unless (says_refused l) tail) (spelled ∙ ap answer_bytes is))
+          absurd (true≢false
+          (sym told.there ∙ ap (λ (o : Option Filed). is_some o) found))
       found_due (Some f) (answers.Bytes bytes) found is same spelled =
           sized_due (length bytes == got) bytes refl same spelled
       found_due (Some f) (answers.Moved now) found is same spelled =

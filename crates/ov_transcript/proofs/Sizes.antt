@@ -14,7 +14,7 @@ use Rattle.ov_history.specs.Layers.{Layers, layers_of}
 use Rattle.ov_history.specs.Lists.{file_number, set_named, user_number}
 use Rattle.ov_history.specs.Masters.{Masters}
 use Rattle.ov_history.specs.Plain.{PlainCreate, PlainEnrol, PlainGrant, PlainHistory, PlainRevoke}
-use Rattle.ov_history.specs.Plain.{history_of}
+use Rattle.ov_history.specs.Plain.{PlainRemove, history_of}
 use Rattle.ov_history.specs.Refusals.{IsLegal}
 use Rattle.ov_history.specs.Sealed.{catalogue_of}
 use Rattle.ov_history.specs.Sealing.{sealed, sealed_update}
@@ -44,7 +44,7 @@ use Rattle.ov_transcript.specs.Laws.{TranscriptsAreShort}
 use Rattle.ov_transcript.specs.Transcripts.{Begins, frames, frames_of, says_refused, service_of}
 use Rattle.ov_transcript.proofs.Cutting.{AreTwoAsks, IsRefusedAsk, one_or_two}
 use Rattle.ov_transcript.proofs.Forms.{Fits, create_fits, enrol_fits, fits_form, grant_fits}
-use Rattle.ov_transcript.proofs.Forms.{revoke_fits, update_length}
+use Rattle.ov_transcript.proofs.Forms.{remove_fits, revoke_fits, update_length}
 
 -- the answer in a reply to a request that can be sent
 pub answers_so : (v : Service) (request : Request) (frame reply : List ℕ) (made : List SealedUpdate)
@@ -233,6 +233,22 @@ module _ (k : Masters) (p : PlainHistory) (legal : IsLegal (history_of p)) where
       (λ f. short_update u f (λ name list tokens tag bytes wrong. cc wrong)) asks begins in
       omega (arith, n)
 
+  pub remove_short : (file : List ℕ) (asks : List Ask)
+      → HasRequestForm (requests.Ask (questions.Remove file))
+      → let u = sealed_update k y (PlainRemove (file_number m file)) in
+      Begins here (requests.Ask (questions.Remove file) ∷ update_request k.surface
+      (epoch_of (history_of p)) u ∷ []) asks []
+      → length (frames asks) ≤ 512
+  remove_short file asks form begins =
+      let u = sealed_update k y (PlainRemove (file_number m file)) in
+      let n = all_short (requests.Ask (questions.Remove file)) form u
+      (known_fits (questions.Remove file) u
+      (λ known is told. remove_fits k p legal file known is told))
+      132 26 66 (question_short (questions.Remove file) form)
+      (ask_answer_short c (questions.Remove file))
+      (λ f. short_update u f (λ name list tokens tag bytes wrong. cc wrong)) asks begins in
+      omega (arith, n)
+
   pub create_short : (file : List ℕ) (names : List (List ℕ)) (bytes : List ℕ) (asks : List Ask)
       → HasRequestForm (requests.Cover file (length bytes) names)
       → let u = sealed_update k y (PlainCreate file (set_named m.users names) bytes) in
@@ -262,4 +278,6 @@ transcripts_are_short k p (commands.Grant user file) asks is form legal begins =
     grant_short k p legal user file asks form begins
 transcripts_are_short k p (commands.Revoke user file) asks is form legal begins =
     revoke_short k p legal user file asks form begins
+transcripts_are_short k p (commands.Remove file) asks is form legal begins =
+    remove_short k p legal file asks form begins
 transcripts_are_short k p command asks is form legal begins = absurd is

@@ -1,9 +1,9 @@
 -- Histories that differ in the bytes of their files alone, and commands that send no file.
 use Rattle.std.specs.Prelude.{◌≡◌, List, [], ◌∷◌}
 use Rattle.ov_script.specs.declared.command.Command.{Command}
-use Rattle.ov_script.specs.declared.command.Command.TheVariants.{Create, Enrol, Grant, Revoke}
+use Rattle.ov_script.specs.declared.command.Command.TheVariants.{Create, Enrol, Grant, Remove, Revoke}
 use Rattle.ov_history.specs.Plain.{PlainCreate, PlainEnrol, PlainGrant, PlainHistory, PlainRevoke}
-use Rattle.ov_history.specs.Plain.{PlainUpdate}
+use Rattle.ov_history.specs.Plain.{PlainRemove, PlainUpdate}
 
 -- two updates that are the same but for the bytes of a file, which may also be more or fewer
 abbrev pub IsAlike : PlainUpdate → PlainUpdate → Type 0
@@ -12,6 +12,7 @@ IsAlike (PlainCreate file list bytes) (PlainCreate other set text) =
     (file ≡ other) × (list ≡ set)
 IsAlike (PlainGrant user file) (PlainGrant other item) = (user ≡ other) × (file ≡ item)
 IsAlike (PlainRevoke user file) (PlainRevoke other item) = (user ≡ other) × (file ≡ item)
+IsAlike (PlainRemove file) (PlainRemove item) = file ≡ item
 IsAlike one other = ⊥
 
 -- two lists of as many updates, which in order are the same but for the bytes of files
@@ -26,11 +27,12 @@ pub record DifferInBytes (p q : PlainHistory) : Type 0 where
   pub first : p.first ≡ q.first
   pub updates : AreAlike p.updates q.updates
 
--- the command is a grant or a revocation
-abbrev pub IsOfList : Command → Type 0
-IsOfList (Grant user file) = Unit {0}
-IsOfList (Revoke user file) = Unit {0}
-IsOfList command = ⊥
+-- the command changes a file that is there: it is a grant, a revocation or a removal
+abbrev pub IsOfFile : Command → Type 0
+IsOfFile (Grant user file) = Unit {0}
+IsOfFile (Revoke user file) = Unit {0}
+IsOfFile (Remove file) = Unit {0}
+IsOfFile command = ⊥
 
 -- the command is an update
 abbrev pub IsOfUpdate : Command → Type 0
@@ -38,4 +40,5 @@ IsOfUpdate (Enrol user) = Unit {0}
 IsOfUpdate (Create file names bytes) = Unit {0}
 IsOfUpdate (Grant user file) = Unit {0}
 IsOfUpdate (Revoke user file) = Unit {0}
+IsOfUpdate (Remove file) = Unit {0}
 IsOfUpdate command = ⊥

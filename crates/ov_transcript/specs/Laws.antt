@@ -20,7 +20,7 @@ use Rattle.ov_owner.specs.Laws.{most_bytes}
 use Rattle.ov_owner.specs.Steps.{IsErrandFor}
 use Rattle.ov_owner.specs.Talks.{Talks}
 use Rattle.ov_owner.specs.declared.fault.OwnerFault.{OwnerFault}
-use Rattle.ov_transcript.specs.Bytes.{DifferInBytes, IsOfList, IsOfUpdate}
+use Rattle.ov_transcript.specs.Bytes.{DifferInBytes, IsOfFile, IsOfUpdate}
 use Rattle.ov_transcript.specs.Talking.{ArePut, IsAnswered, IsFirstAsk, IsOneQuestion, IsPut}
 use Rattle.ov_transcript.specs.Talking.{IsReadAnswered, ReadsAs}
 use Rattle.ov_transcript.specs.Transcripts.{IsTranscript, IsTranscriptFront, first_request, frames}
@@ -119,12 +119,12 @@ RunsHaveOneTranscript =
     → IsLegal (history_of p) → Transcripts k p commands one → Transcripts k p commands other
     → one ≡ other
 
--- the transcript of a grant or a revocation is the same at histories that differ in their files'
--- bytes alone
+-- the transcript of a grant, a revocation or a removal is the same at histories that differ in
+-- their files' bytes alone
 abbrev pub GrantsSendNoBytes : Type 0
 GrantsSendNoBytes =
     (k : Masters) (p q : PlainHistory) (command : Command) (asks : List Ask)
-    → IsOfList command → HasRequestForm (first_request command) → IsLegal (history_of p)
+    → IsOfFile command → HasRequestForm (first_request command) → IsLegal (history_of p)
     → IsLegal (history_of q) → DifferInBytes p q → IsTranscript k p command asks
     → IsTranscript k q command asks
 

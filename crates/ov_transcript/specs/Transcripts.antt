@@ -12,7 +12,7 @@ use Rattle.ov_history.specs.Lists.{file_at, file_number, set_named, user_number}
 use Rattle.ov_history.specs.Masters.{Masters}
 use Rattle.ov_history.specs.Places.{living_at}
 use Rattle.ov_history.specs.Plain.{PlainUpdate, PlainEnrol, PlainCreate, PlainGrant, PlainRevoke}
-use Rattle.ov_history.specs.Plain.{PlainHistory, history_of}
+use Rattle.ov_history.specs.Plain.{PlainRemove, PlainHistory, history_of}
 use Rattle.ov_history.specs.Sealing.{sealed, sealed_update}
 use Rattle.ov_model.specs.Step.{after}
 use Rattle.ov_wire.specs.declared.request.Question.TheVariants as questions
@@ -72,6 +72,7 @@ first_request (commands.Enrol user) = requests.Ask (questions.Enrol user)
 first_request (commands.Create file names bytes) = requests.Cover file (length bytes) names
 first_request (commands.Grant user file) = requests.Ask (questions.Grant user file)
 first_request (commands.Revoke user file) = requests.Ask (questions.Revoke user file)
+first_request (commands.Remove file) = requests.Ask (questions.Remove file)
 first_request (commands.Read user file) = requests.Ask (questions.Key user)
 first_request (commands.List file) = requests.List file
 first_request commands.Epoch = requests.Hello
@@ -86,6 +87,7 @@ later_requests k h m (commands.Grant user file) =
     update_at k h (PlainGrant (user_number m user) (file_number m file))
 later_requests k h m (commands.Revoke user file) =
     update_at k h (PlainRevoke (user_number m user) (file_number m file))
+later_requests k h m (commands.Remove file) = update_at k h (PlainRemove (file_number m file))
 later_requests k h m (commands.Read user file) =
     requests.Chain user file ∷ chunks_at h (file_number m file)
 later_requests k h m (commands.List file) = []

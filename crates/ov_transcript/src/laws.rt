@@ -35,8 +35,8 @@ pub fn transcripts_are_unique()
     ensures runs { RunsHaveOneTranscript }
 {}
 
-/// The transcript of a grant or a revocation is the same whatever the files' bytes are, and that of
-/// an update is short: only a creation's is as long as its list and its file.
+/// The transcript of a grant, a revocation or a removal is the same whatever the files' bytes are,
+/// and that of an update is short: only a creation's is as long as its list and its file.
 pub fn transcripts_are_short()
     ensures same { GrantsSendNoBytes }
     ensures short { TranscriptsAreShort }

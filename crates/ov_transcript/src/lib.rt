@@ -3,10 +3,10 @@
 //! This crate has definitions and laws, and no code. The *transcript* of a command at a history is
 //! the list of its requests, each with the reply of a server of that history, in turn, ending at
 //! the first Refused. Which requests these are follows from the two masters and from the history
-//! without the bytes of its files. An enrolment, a grant and a revocation ask for numbers and send
-//! an update; a creation asks for the plan of its list and sends an update with the file; a read
-//! asks for the numbers of the user's keys, for the chains to the file, and for each of its chunks;
-//! a list and an epoch are one question.
+//! without the bytes of its files. An enrolment, a grant, a revocation and a removal ask for numbers
+//! and send an update; a creation asks for the plan of its list and sends an update with the file; a
+//! read asks for the numbers of the user's keys, for the chains to the file, and for each of its
+//! chunks; a list and an epoch are one question.
 //!
 //! | file in `specs/` | says |
 //! |---|---|

@@ -1,12 +1,15 @@
 -- Rows of transcripts and of servers.
-use Rattle.std.specs.Prelude.{◌≡◌, ℕ, List, [], ◌∷◌, length}
+use Rattle.std.specs.Prelude.{◌≡◌, ℕ, List, [], ◌∷◌, length, replicate}
 use Rattle.ov_base.specs.declared.refusal.Refusal.TheVariants.{NoFile}
 use Rattle.ov_script.specs.declared.command.Command.TheVariants as commands
 use Rattle.ov_history.specs.History.{History}
 use Rattle.ov_history.specs.Masters.{Masters}
 use Rattle.ov_wire.specs.declared.answer.Answer.TheVariants as answers
+use Rattle.ov_wire.specs.declared.request.Question.TheVariants as questions
 use Rattle.ov_wire.specs.declared.request.Request.TheVariants as requests
 use Rattle.ov_wire.specs.AnswerBytes.{answer_bytes}
+use Rattle.ov_wire.specs.Frames.{framed}
+use Rattle.ov_wire.specs.Requests.{request_bytes}
 use Rattle.ov_transcript.specs.Transcripts.{chunk_count, left_unless, requests_at, says_refused}
 use Rattle.ov_store.specs.Opened.{Opened}
 use Rattle.ov_server.specs.Answering.{serving_of}
@@ -25,6 +28,21 @@ abbrev pub RevocationsAreTwoRequests : Type 0
 RevocationsAreTwoRequests =
     (k : Masters) (h : History) (user file : List ℕ)
     → length (requests_at k h (commands.Revoke user file)) ≡ 2
+
+-- A removal is two requests at any history. With a Cover between them, as a creation has one, it
+-- would be three.
+abbrev pub RemovalsAreTwoRequests : Type 0
+RemovalsAreTwoRequests =
+    (k : Masters) (h : History) (file : List ℕ)
+    → length (requests_at k h (commands.Remove file)) ≡ 2
+
+-- The frames that an owner sends for the removal of a file with a name of one byte: the question
+-- has seven bytes beside the name, and the update, at epoch 5, has 46. With the number of a user
+-- behind that of the file it would have four more.
+pub record RemovalsAreShort : Type 0 where
+  pub asks : length (framed (request_bytes (requests.Ask (questions.Remove (102 ∷ []))))) ≡ 8
+  pub sends : length (framed (request_bytes
+      (requests.Update 5 (6 ∷ 0 ∷ 0 ∷ 0 ∷ 0 ∷ []) (replicate 32 0)))) ≡ 46
 
 -- A chunk has 65,536 bytes at most. If the last chunk had to be whole, a file of one byte would be
 -- asked for in none, and one of 65,537 in one.

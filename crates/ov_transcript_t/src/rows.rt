@@ -1,6 +1,7 @@
 //! Rows of transcripts and of servers.
 ghost use Rattle.ov_transcript_t.specs.Rows.{AnswersByCheckValue, ChunksReachTheEnd};
-ghost use Rattle.ov_transcript_t.specs.Rows.{RefusalsEnd, RevocationsAreTwoRequests};
+ghost use Rattle.ov_transcript_t.specs.Rows.{RefusalsEnd, RemovalsAreShort};
+ghost use Rattle.ov_transcript_t.specs.Rows.{RemovalsAreTwoRequests, RevocationsAreTwoRequests};
 
 /// After a refusal nothing more is asked for the command.
 pub fn a_refusal_ends_a_command()
@@ -10,6 +11,16 @@ pub fn a_refusal_ends_a_command()
 /// For a revocation two things are asked: the numbers that it needs, and the update.
 pub fn a_revocation_asks_for_its_update_alone()
     ensures { RevocationsAreTwoRequests }
+{}
+
+/// For a removal two things are asked: the number of the file, and the update.
+pub fn a_removal_asks_for_its_update_alone()
+    ensures { RemovalsAreTwoRequests }
+{}
+
+/// What is sent for a removal has few bytes beside the name of the file.
+pub fn the_frames_of_a_removal_are_short()
+    ensures { RemovalsAreShort }
 {}
 
 /// A file is asked for in as many chunks as its bytes need, the last of which may be a short one.
