@@ -1,5 +1,4 @@
--- A history that is right for a legal one shows and keeps what comes of sealing that, whatever the
--- tags and bytes of files that are gone.
+-- The machine answers reads alike at all legal histories for which one sealed history is right.
 use Rattle.std.proofs.Common.{◌≡◌, ◌∙◌, ℕ, ◌+◌, Bool, true, false, List, [], ◌∷◌, length}
 use Rattle.std.proofs.Common.{Some, None, Result, Ok, Err, refl, sym, ap, subst}
 use Rattle.std.proofs.lemmas.List.{length-replicate}
@@ -27,66 +26,6 @@ use Rattle.ov_client.specs.Laws.{IsReadAt}
 use Rattle.ov_client.specs.declared.fault.ClientFault.{ClientFault}
 use Rattle.ov_client.specs.declared.fault.ClientFault.TheVariants as client
 use Rattle.ov_client.proofs.Opening.{file_there}
-
--- ---- a history that is right is a sealed one
-
--- an update that fades is the same without its parts
-outer_faded : (b : Bool) (u : SealedUpdate) → outer (brief (faded_if b u)) ≡ outer (brief u)
-outer_faded false u = refl
-outer_faded true (SealedEnrol user) = refl
-outer_faded true (SealedCreate file list tokens tag text) =
-    ap (λ size. Created file list size) (length-replicate (length text) 0)
-outer_faded true (SealedGrant user file token) = refl
-outer_faded true (SealedRevoke user file) = refl
-outer_faded true (SealedRemove file) = refl
-
-parts_before : (y : Layers) (b : Bool) (u : SealedUpdate) → HasParts y (brief (faded_if b u))
-    → HasParts y (brief u)
-parts_before y false u parts = parts
-parts_before y true (SealedEnrol user) parts = parts
-parts_before y true (SealedCreate file list tokens tag text) parts = parts
-parts_before y true (SealedGrant user file token) parts = parts
-parts_before y true (SealedRevoke user file) parts = parts
-parts_before y true (SealedRemove file) parts = parts
-
--- updates that fit when some of them have faded fitted before
-fit_before : (is_out : ℕ → Bool) (h : History) (number : ℕ) (updates : List SealedUpdate)
-    → AllFit h (faded_all is_out number updates) → AllFit h updates
-fit_before is_out h number [] fit = tt
-fit_before is_out h number (u ∷ updates) fit =
-    let same : outer (brief (faded_if (is_out number) u)) ≡ outer (brief u) =
-    outer_faded (is_out number) u in (
-      ap (λ (v : Update). refusal_of h v) (sym same) ∙ fit.0,
-      parts_before (layers_of h) (is_out number) u fit.1,
-      fit_before is_out (with_update h (outer (brief u))) (number + made_by u) updates
-          (subst
-          (λ (v : Update). AllFit (with_update h v)
-          (faded_all is_out (number + made_by u) updates)) same
-          fit.2),
-    )
-
-pub right_is_sealed : (k : Masters) (p : PlainHistory) (g : SealedHistory) → IsRight k p g
-    → IsSealed g
-right_is_sealed k p g (legal, agree) =
-    fit_before (is_gone_from g) (start_of (outer_of g)) 0 g.updates
-    (subst (λ (h : SealedHistory). IsSealed h) (sym agree)
-    (faded_is_sealed (sealed k p) (sealed_is_sealed k p legal)))
-
--- ---- what it shows and keeps
-
-pub right_shows : (k : Masters) (p : PlainHistory) (g : SealedHistory) → IsRight k p g
-    → catalogue_of k.surface g ≡ catalogue_of k.surface (sealed k p)
-right_shows k p g right =
-    agreeing_show_the_same k.surface g (sealed k p) (right_is_sealed k p g right)
-    (sealed_is_sealed k p right.0) right.1
-
-pub right_keeps : (k : Masters) (p : PlainHistory) (g : SealedHistory) → IsRight k p g
-    → stored_of k.surface g ≡ stored_of k.surface (sealed k p)
-right_keeps k p g right =
-    agreeing_store_the_same k.surface g (sealed k p) (right_is_sealed k p g right)
-    (sealed_is_sealed k p right.0) right.1
-
--- ---- reads of it
 
 -- a file that may be read is there
 pub read_is_file : (m : Matrix) (user file : ℕ) → read_refusal m user file ≡ None

@@ -31,7 +31,7 @@ use Rattle.ov_client.specs.Telling.{chained_unless, chunk_bytes, wrong_field}
 use Rattle.ov_client.specs.declared.fault.ClientFault.TheVariants as client
 use Rattle.ov_client.specs.declared.reading.TheConstants.{TRIES}
 use Rattle.ov_client.specs.declared.telling.Fetched.TheVariants.{Bytes}
-use Rattle.ov_client.proofs.Agreeing.{right_keeps, right_shows}
+use Rattle.ov_history.proofs.Agreeing.{right_keeps, right_shows}
 use Rattle.ov_client.proofs.Leading.{BeginsAt}
 use Rattle.ov_client.proofs.Opening.{file_is, judged_is, length_is, read_named, there}
 use Rattle.ov_client.proofs.Staying.{IsIn, file_in, found_file, same_stored}
@@ -187,12 +187,12 @@ module _ (k : Masters) (r : Reader) (file : List ℕ) (holds : HoldsRootKeys k r
 
     -- what both histories show
     shown_before : catalogue_of k.surface f.history ≡ before
-    shown_before = right_shows k f.plain f.history f.right
+    shown_before = right_shows k f.plain f.history f.right.0 f.right.1
 
     shown_now : catalogue_of k.surface (followed f.history all_more) ≡ now
     shown_now =
         ap (λ (g : SealedHistory). catalogue_of k.surface g) (sym goes_to)
-        ∙ right_shows k q (followed v.history others) right
+        ∙ right_shows k q (followed v.history others) right.0 right.1
 
     -- of a file that is there still, of the same generation, the same bytes are stored
     still_stored : IsIn now.files c.file
@@ -212,11 +212,11 @@ module _ (k : Masters) (r : Reader) (file : List ℕ) (holds : HoldsRootKeys k r
         ∙ generation ∙ generation_before
         ∙ ap (λ (d : Catalogue). (file_in d.files n).generation) (sym shown_before) in
         ap (λ (bytes : List (List ℕ)). slice_index_or bytes n [])
-        (sym (right_keeps k q (followed v.history others) right)
+        (sym (right_keeps k q (followed v.history others) right.0 right.1)
         ∙ ap (λ (g : SealedHistory). stored_of k.surface g) goes_to)
         ∙ same_stored k.surface f.history all_more n was_in is_in same
         ∙ ap (λ (bytes : List (List ℕ)). slice_index_or bytes n [])
-        (right_keeps k f.plain f.history f.right)
+        (right_keeps k f.plain f.history f.right.0 f.right.1)
 
     bytes_stand : (bytes : List ℕ) → IsIn now.files c.file
         → (file_in now.files c.file).generation ≡ c.generation

@@ -36,7 +36,7 @@ use Rattle.ov_client.specs.Talks.{AsksChain, AsksChunk, Closes, Ends, Goes, IsAf
 use Rattle.ov_client.specs.Talks.{after, asked_at}
 use Rattle.ov_client.specs.declared.fault.ClientFault.{ClientFault}
 use Rattle.ov_client.specs.declared.fault.ClientFault.TheVariants as client
-use Rattle.ov_client.proofs.Agreeing.{right_keeps, right_shows}
+use Rattle.ov_history.proofs.Agreeing.{right_keeps, right_shows}
 use Rattle.ov_client.proofs.Fetching.{IsFetching, StandsAt, chain_stands, chunk_stands}
 
 module _ (k : Masters) (r : Reader) (file : List ℕ) (holds : HoldsRootKeys k r) where
@@ -65,12 +65,12 @@ module _ (k : Masters) (r : Reader) (file : List ℕ) (holds : HoldsRootKeys k r
     catalogue_is : catalogue_of u.surface u.history ≡ catalogue_of k.surface (sealed k p)
     catalogue_is =
         ap (λ (master : List ℕ). catalogue_of master u.history) under_k
-        ∙ right_shows k p u.history right
+        ∙ right_shows k p u.history right.0 right.1
 
     stored_is : stored_of u.surface u.history ≡ stored_of k.surface (sealed k p)
     stored_is =
         ap (λ (master : List ℕ). stored_of master u.history) under_k
-        ∙ right_keeps k p u.history right
+        ∙ right_keeps k p u.history right.0 right.1
 
     made_nothing : made ≡ [] → later u made ≡ u
     made_nothing none = ap (later u) none ∙ later-nil u

@@ -37,7 +37,7 @@ use Rattle.ov_client.specs.Talks.{AsksChain, AsksChunk, Closes, Ends, Goes, IsAf
 use Rattle.ov_client.specs.Talks.{after, asked_at}
 use Rattle.ov_client.specs.declared.fault.ClientFault.{ClientFault}
 use Rattle.ov_client.specs.declared.fault.ClientFault.TheVariants as client
-use Rattle.ov_client.proofs.Agreeing.{right_keeps, right_shows}
+use Rattle.ov_history.proofs.Agreeing.{right_keeps, right_shows}
 use Rattle.ov_client.proofs.Staying.{found_file}
 use Rattle.ov_client.proofs.Quiet.{IsFetching, StandsQuiet, chain_stands, chunk_stands, low_told}
 use Rattle.ov_client.proofs.ReadingBack.{chain_is_answer, reads_back}
@@ -63,12 +63,12 @@ module _ (k : Masters) (r : Reader) (file : List ℕ) (p : PlainHistory)
     catalogue_is : catalogue_of v.surface v.history ≡ s
     catalogue_is =
         ap (λ (master : List ℕ). catalogue_of master v.history) under_k
-        ∙ right_shows k p v.history right
+        ∙ right_shows k p v.history right.0 right.1
 
     stored_is : stored_of v.surface v.history ≡ stored_of k.surface (sealed k p)
     stored_is =
         ap (λ (master : List ℕ). stored_of master v.history) under_k
-        ∙ right_keeps k p v.history right
+        ∙ right_keeps k p v.history right.0 right.1
 
     -- the answer in a reply
     answers_so : (request : Request) (reply : List ℕ) → HasRequestForm request

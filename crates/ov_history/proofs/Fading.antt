@@ -243,7 +243,7 @@ module _ (is_out : ℕ → Bool) where
     by_test false = left
 
   -- without parts it is the same update
-  outer_faded : (b : Bool) (u : SealedUpdate) → outer (brief (faded_if b u)) ≡ outer (brief u)
+  pub outer_faded : (b : Bool) (u : SealedUpdate) → outer (brief (faded_if b u)) ≡ outer (brief u)
   outer_faded false u = refl
   outer_faded true (SealedEnrol user) = refl
   outer_faded true (SealedCreate file list tokens tag text) =
@@ -458,7 +458,7 @@ module _ (is_out : ℕ → Bool) where
             (fit_dim (with_update h (outer (brief u))) (number + made_by u) updates fit.2),
       )
 
-outer_faded_of : (g : SealedHistory) → outer_of (faded_of g) ≡ outer_of g
+pub outer_faded_of : (g : SealedHistory) → outer_of (faded_of g) ≡ outer_of g
 outer_faded_of g =
     ap (λ updates. record { mode = g.mode; first = g.first; updates = updates })
     (outer_all_dim (is_gone_from g) 0 g.updates)

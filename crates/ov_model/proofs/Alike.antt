@@ -27,7 +27,7 @@ use Rattle.ov_model.specs.Alike.{RightHistoriesHaveSameLines, RightHistoriesStep
 use Rattle.ov_model.specs.Lines.{lines}
 use Rattle.ov_model.specs.Step.{after, bytes_reply, names_reply, reply_or, reply_to, update}
 use Rattle.ov_model.specs.Step.{update_step}
-use Rattle.ov_model.proofs.Agreeing.{agreement_goes_on}
+use Rattle.ov_history.proofs.Agreeing.{agreement_goes_on}
 use Rattle.ov_model.proofs.Legality.{legal-after}
 
 -- what an update is answered with

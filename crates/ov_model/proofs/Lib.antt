@@ -1,4 +1,3 @@
-pub mod Agreeing
 pub mod Agreement
 pub mod Alike
 pub mod Legality

@@ -7,7 +7,7 @@ use Rattle.ov_history.specs.Plain.{PlainHistory, history_of}
 use Rattle.ov_history.specs.Refusals.{IsLegal}
 use Rattle.ov_history.specs.Sealed.{SealedHistory}
 use Rattle.ov_history.specs.Sealing.{IsSealedAs, sealed}
-use Rattle.ov_model.proofs.Agreeing.{right_keeps, right_shows}
+use Rattle.ov_history.proofs.Agreeing.{right_keeps, right_shows}
 use Rattle.ov_wire.specs.declared.answer.Answer.{Answer}
 use Rattle.ov_wire.specs.declared.request.Request.{Request}
 use Rattle.ov_protocol.specs.Answers.{Answers}

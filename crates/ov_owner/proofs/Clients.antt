@@ -16,7 +16,7 @@ use Rattle.ov_history.specs.Refusals.{IsLegal, first_of_tests}
 use Rattle.ov_history.specs.Sealed.{catalogue_of}
 use Rattle.ov_history.specs.Sealing.{IsSealedAs, sealed}
 use Rattle.ov_history.proofs.Keeping.{kept_shows}
-use Rattle.ov_model.proofs.Agreeing.{right_shows}
+use Rattle.ov_history.proofs.Agreeing.{right_shows}
 use Rattle.ov_wire.specs.declared.answer.Answer.{Answer}
 use Rattle.ov_wire.specs.declared.answer.Answer.TheVariants as answers
 use Rattle.ov_wire.specs.declared.answer.Known.{Known}

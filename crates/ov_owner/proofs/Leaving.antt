@@ -12,7 +12,7 @@ use Rattle.ov_history.specs.Refusals.{IsLegal, refusal_of}
 use Rattle.ov_history.specs.Sealed.{SealedHistory, catalogue_of, with_sealed}
 use Rattle.ov_history.specs.Sealing.{IsSealedAs, sealed, sealed_update}
 use Rattle.ov_model.specs.Step.{step, update_step}
-use Rattle.ov_model.proofs.Agreeing.{right_goes_on}
+use Rattle.ov_history.proofs.Agreeing.{right_goes_on}
 use Rattle.ov_wire.specs.declared.answer.Answer.{Answer}
 use Rattle.ov_protocol.specs.Serving.{Service, followed, later, served}
 use Rattle.ov_protocol.specs.Answers.{Answers}

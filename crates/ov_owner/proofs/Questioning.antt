@@ -11,7 +11,7 @@ use Rattle.ov_history.specs.Refusals.{IsLegal, list_refusal}
 use Rattle.ov_history.specs.Sealed.{catalogue_of}
 use Rattle.ov_history.specs.Sealing.{IsSealedAs, sealed}
 use Rattle.ov_history.proofs.Keeping.{kept_shows}
-use Rattle.ov_model.proofs.Agreeing.{right_shows}
+use Rattle.ov_history.proofs.Agreeing.{right_shows}
 use Rattle.ov_model.specs.Step.{names_reply, reply_or}
 use Rattle.ov_script.specs.declared.command.Command.TheVariants.{List as ListNames}
 use Rattle.ov_script.specs.declared.reply.Reply.TheVariants as replies

@@ -19,7 +19,7 @@ use Rattle.ov_history.specs.Plain.{PlainEnrol, PlainGrant, PlainHistory, PlainRe
 use Rattle.ov_history.specs.Refusals.{IsLegal}
 use Rattle.ov_history.specs.Sealed.{SealedHistory, catalogue_of}
 use Rattle.ov_history.specs.Sealing.{IsSealedAs, sealed, sealed_update}
-use Rattle.ov_model.proofs.Agreeing.{right_shows}
+use Rattle.ov_history.proofs.Agreeing.{right_shows}
 use Rattle.ov_wire.specs.declared.request.Question.TheVariants as questions
 use Rattle.ov_wire.specs.declared.request.Request.{Request}
 use Rattle.ov_wire.specs.declared.answer.Answer.{Answer}

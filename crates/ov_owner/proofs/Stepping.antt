@@ -23,7 +23,7 @@ use Rattle.ov_history.specs.Sealed.{SealedHistory, catalogue_of, refusal_shown, 
 use Rattle.ov_history.specs.Sealing.{IsSealedAs, sealed, sealed_update}
 use Rattle.ov_history.proofs.Keeping.{kept_refusals, kept_shows}
 use Rattle.ov_model.specs.Step.{step, update_step}
-use Rattle.ov_model.proofs.Agreeing.{right_goes_on, right_shows}
+use Rattle.ov_history.proofs.Agreeing.{right_goes_on, right_shows}
 use Rattle.ov_wire.specs.declared.answer.Answer.TheVariants as answers
 use Rattle.ov_protocol.specs.Serving.{Service, followed, served}
 use Rattle.ov_protocol.specs.Answers.{Answers, made_by}

@@ -1,12 +1,11 @@
 -- What an owner is told before an update: the numbers that it needs, or why it would be refused.
-use Rattle.std.specs.Prelude.{◌≡◌, ℕ, false, List, length, Option, Some, None}
+use Rattle.std.specs.Prelude.{◌≡◌, ℕ, List, length, Option, Some, None}
 use Rattle.ov_base.specs.declared.refusal.Refusal.{Refusal}
 use Rattle.ov_graph.specs.Contents.{plan_of}
 use Rattle.ov_history.specs.Asking.{Numbers, file_named, key_refusal, newcomer, of_both, of_grant}
-use Rattle.ov_history.specs.Asking.{of_user, refusal_at, user_named}
-use Rattle.ov_history.specs.Catalogue.{Catalogue, outline}
+use Rattle.ov_history.specs.Asking.{of_file, of_user, refusal_at, user_named}
+use Rattle.ov_history.specs.Catalogue.{Catalogue}
 use Rattle.ov_history.specs.History.{Enrolled, Created, Granted, Removed, Revoked}
-use Rattle.ov_history.specs.Layers.{node_of}
 use Rattle.ov_wire.specs.declared.request.Question.{Question}
 use Rattle.ov_wire.specs.declared.request.Question.TheVariants as questions
 use Rattle.ov_wire.specs.declared.answer.Known.{Known}
@@ -26,17 +25,6 @@ known_at c n = record {
   file = n.file;
   node = n.node;
   wants = n.wants;
-}
-
--- the numbers of a file alone
-abbrev pub of_file : Catalogue → ℕ → Numbers
-of_file c file = record {
-  user = 0;
-  base_root = 0;
-  surface_root = 0;
-  file = file;
-  node = node_of (outline c) file;
-  wants = false;
 }
 
 -- the numbers that are told of a command

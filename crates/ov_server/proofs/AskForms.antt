@@ -6,7 +6,8 @@ use Rattle.ov_base.specs.declared.limits.TheConstants.{MAX_USERS, MAX_FILES, MAX
 use Rattle.ov_base.specs.Sets.{single}
 use Rattle.ov_base.proofs.Tests.{gt_of_false}
 use Rattle.ov_history.specs.History.{Enrolled, Granted, Removed, Revoked}
-use Rattle.ov_history.specs.Asking.{Numbers, key_refusal, newcomer, of_both, of_grant, of_user, refusal_at}
+use Rattle.ov_history.specs.Asking.{Numbers, key_refusal, newcomer, of_both, of_file, of_grant}
+use Rattle.ov_history.specs.Asking.{of_user, refusal_at}
 use Rattle.ov_history.specs.Catalogue.{Catalogue, Filed, Nodes, filed_at, matrix_shown}
 use Rattle.ov_history.specs.Catalogue.{no_filed, outline}
 use Rattle.ov_base.specs.declared.refusal.Refusal.TheVariants.{NoUser}
@@ -20,7 +21,7 @@ use Rattle.ov_history.proofs.Outlining.{node-shown}
 use Rattle.ov_history.proofs.PlanLaws.{node_for-there, with_wants-keeps}
 use Rattle.ov_history.proofs.SoundTests.{accepted, file_is as is_shown, is_below, none_applies}
 use Rattle.ov_history.proofs.Storing.{living_below}
-use Rattle.ov_state.specs.Asking.{numbers_of, of_file}
+use Rattle.ov_state.specs.Asking.{numbers_of}
 use Rattle.ov_state.specs.Contents.{IsWell}
 use Rattle.ov_state.specs.declared.asking.Asked.{Asked}
 use Rattle.ov_wire.specs.AnswerForm.{HasAnswerForm}

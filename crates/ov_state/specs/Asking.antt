@@ -1,11 +1,10 @@
 -- What a state tells an owner who asks before an update.
-use Rattle.std.specs.Prelude.{◌≡◌, ℕ, false, List, Option, Some, None, Result, Ok, Err, length}
+use Rattle.std.specs.Prelude.{◌≡◌, ℕ, List, Option, Some, None, Result, Ok, Err, length}
 use Rattle.ov_base.specs.declared.refusal.Refusal.{Refusal}
 use Rattle.ov_graph.specs.Contents.{plan_of}
 use Rattle.ov_history.specs.Asking.{Numbers, refusal_at}
-use Rattle.ov_history.specs.Catalogue.{Catalogue, outline}
+use Rattle.ov_history.specs.Catalogue.{Catalogue}
 use Rattle.ov_history.specs.History.{Created}
-use Rattle.ov_history.specs.Layers.{node_of}
 use Rattle.ov_state.specs.declared.asking.Asked.{Asked}
 use Rattle.ov_state.specs.declared.covering.Planned.{Planned}
 use Rattle.ov_state.specs.declared.fault.ChainFault.{ChainFault}
@@ -20,17 +19,6 @@ numbers_of a = record {
   file = a.file;
   node = a.node;
   wants = a.wants;
-}
-
--- the numbers of a file alone
-abbrev pub of_file : Catalogue → ℕ → Numbers
-of_file c file = record {
-  user = 0;
-  base_root = 0;
-  surface_root = 0;
-  file = file;
-  node = node_of (outline c) file;
-  wants = false;
 }
 
 -- the numbers are told, or why not

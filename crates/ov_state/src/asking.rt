@@ -3,11 +3,11 @@ ghost use Rattle.std.specs.Prelude.{◌≡◌, ◌<◌, ◌≤◌, ◌*◌, Cont
 ghost use Rattle.ov_base.specs.Sets.{single};
 ghost use Rattle.ov_base.specs.declared.limits.TheConstants.{MAX_SET_WORDS};
 ghost use Rattle.ov_history.specs.Asking.{file_named, key_refusal, newcomer, of_both, of_grant};
-ghost use Rattle.ov_history.specs.Asking.{of_user, refusal_at, user_named};
+ghost use Rattle.ov_history.specs.Asking.{of_file, of_user, refusal_at, user_named};
 ghost use Rattle.ov_history.specs.History.{Enrolled, Granted, Removed, Revoked};
 ghost use Rattle.ov_history.specs.Layers.{root_of};
 ghost use Rattle.ov_history.specs.Places.{living_at};
-ghost use Rattle.ov_state.specs.Asking.{numbers_of, of_file, Asks, Tells};
+ghost use Rattle.ov_state.specs.Asking.{numbers_of, Asks, Tells};
 
 use crate::chains::root;
 use crate::fault::ChainFault;

@@ -1,7 +1,6 @@
 use Rattle.std.proofs.Common.{subst, sym, ◌*◌}
 use Rattle.ov_base.specs.declared.limits.TheConstants.{SET_WORDS}
-use Rattle.ov_history.specs.Asking.{file_named}
-use Rattle.ov_state.specs.Asking.{of_file}
+use Rattle.ov_history.specs.Asking.{file_named, of_file}
 use Rattle.ov_wire.specs.AnswerForm.{HasAnswerForm}
 use Rattle.ov_server.proofs.AskForms.{known_form, remove_numbers}
 use Rattle.ov_server.proofs.asking.answer_remove.Goals as goal

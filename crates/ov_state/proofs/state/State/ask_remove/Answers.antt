@@ -1,10 +1,9 @@
 use Rattle.std.proofs.Common.{◌≡◌, ◌∙◌, ap, rules, subst, sym, true}
 use Rattle.std.specs.Prelude.{is_some, IfNone, Option}
 use Rattle.ov_base.specs.declared.refusal.Refusal.{Refusal}
-use Rattle.ov_history.specs.Asking.{refusal_at}
+use Rattle.ov_history.specs.Asking.{of_file, refusal_at}
 use Rattle.ov_history.specs.History.{Removed}
 use Rattle.ov_history.specs.Places.{living_at}
-use Rattle.ov_state.specs.Asking.{of_file}
 use Rattle.ov_state.proofs.state.State.ask_remove.Goals as goal
 
 pub returns-in-Some : goal.returns-in-Some

@@ -24,6 +24,7 @@ use Rattle.ov_history.specs.Words.{HasFile}
 use Rattle.ov_history.proofs.ChangeLaws.{length-change_at}
 use Rattle.ov_history.proofs.FadedBytes.{agreeing_store_the_same}
 use Rattle.ov_history.proofs.Fading.{agreeing_show_the_same, faded_is_sealed}
+use Rattle.ov_history.proofs.Fading.{outer_faded, outer_faded_of}
 use Rattle.ov_history.proofs.GoingOn.{outer_of-push}
 use Rattle.ov_history.proofs.Sealing.{sealed_is_sealed, sealing_goes_on}
 use Rattle.ov_history.proofs.Staying.{gone_stays_gone}
@@ -61,16 +62,6 @@ made-faded true (SealedCreate file list tokens tag text) = refl
 made-faded true (SealedGrant user file token) = refl
 made-faded true (SealedRevoke user file) = refl
 made-faded true (SealedRemove file) = refl
-
--- an update that fades is the same without its parts
-outer-faded : (b : Bool) (u : SealedUpdate) → outer (brief (faded_if b u)) ≡ outer (brief u)
-outer-faded false u = refl
-outer-faded true (SealedEnrol user) = refl
-outer-faded true (SealedCreate file list tokens tag text) =
-    ap (λ size. Created file list size) (length-replicate (length text) 0)
-outer-faded true (SealedGrant user file token) = refl
-outer-faded true (SealedRevoke user file) = refl
-outer-faded true (SealedRemove file) = refl
 
 -- an update that has its parts once it fades had them before
 parts_back : (y : Layers) (b : Bool) (u : SealedUpdate) → HasParts y (brief (faded_if b u))
@@ -117,15 +108,6 @@ module _ (is_out : ℕ → Bool) where
       (made-faded (is_out number) u)
       ∙ ap (λ n. made_by u + n) (made_all-faded (number + made_by u) updates)
 
-  outer_all-faded : (number : ℕ) (updates : List SealedUpdate)
-      → outer_all (faded_all is_out number updates) ≡ outer_all updates
-  outer_all-faded number [] = refl
-  outer_all-faded number (u ∷ updates) =
-      ap (λ (v : Update). v ∷ outer_all (faded_all is_out (number + made_by u) updates))
-      (outer-faded (is_out number) u)
-      ∙ ap (λ (us : List Update). outer (brief u) ∷ us)
-      (outer_all-faded (number + made_by u) updates)
-
   -- one more update fades by its own number
   faded-append : (number : ℕ) (updates : List SealedUpdate) (u : SealedUpdate)
       → faded_all is_out number (updates ++ u ∷ [])
@@ -144,7 +126,7 @@ module _ (is_out : ℕ → Bool) where
   fit_back h number [] fit = tt
   fit_back h number (u ∷ updates) fit =
       let same : outer (brief (faded_if (is_out number) u)) ≡ outer (brief u) =
-      outer-faded (is_out number) u in (
+      outer_faded is_out (is_out number) u in (
         ap (λ (v : Update). refusal_of h v) (sym same) ∙ fit.0,
         parts_back (layers_of h) (is_out number) u fit.1,
         fit_back (with_update h (outer (brief u))) (number + made_by u) updates
@@ -170,11 +152,6 @@ faded_more small big number (u ∷ updates) goes =
     (λ n low. goes n (omega (arith, low))))
 
 -- ---- histories
-
-outer_of-faded : (g : SealedHistory) → outer_of (faded_of g) ≡ outer_of g
-outer_of-faded g =
-    ap (λ updates. record { mode = g.mode; first = g.first; updates = updates })
-    (outer_all-faded (is_gone_from g) 0 g.updates)
 
 -- a file that is gone stays so with one more update
 stays_gone : (g : SealedHistory) (u : SealedUpdate) (n : ℕ) → n < 0 + made_all g.updates
@@ -221,7 +198,7 @@ pub agreement_goes_on : (g h : SealedHistory) (u : SealedUpdate) → AgreeButGon
     → AgreeButGone (with_sealed g u) (with_sealed h u)
 agreement_goes_on g h u agree =
     let before : outer_of g ≡ outer_of h =
-    sym (outer_of-faded g) ∙ ap (λ (it : SealedHistory). outer_of it) agree ∙ outer_of-faded h in
+    sym (outer_faded_of g) ∙ ap (λ (it : SealedHistory). outer_of it) agree ∙ outer_faded_of h in
     let after : outer_of (with_sealed g u) ≡ outer_of (with_sealed h u) =
     outer_of-push g u ∙ ap (λ (it : History). with_update it (outer (brief u))) before
     ∙ sym (outer_of-push h u) in
