@@ -13,7 +13,7 @@ use Rattle.ov_protocol.proofs.GoingOn.{services_are_served}
 use Rattle.ov_server.specs.Answering.{serving_of}
 use Rattle.ov_server.specs.Locally.{IsServedBy}
 use Rattle.ov_store.specs.Opened.{Opened}
-use Rattle.ov_machine.specs.Disks.{Holds}
+use Rattle.ov_machine.specs.Disks.{Holds, KeepsPlain}
 use Rattle.ov_machine.specs.Seats.{Stays}
 
 -- ---- bytes that are told
@@ -91,11 +91,18 @@ module _ {D : Type 0} (tells : DiskTells D) where
 
   -- ---- its disk
 
+  -- each image that a crash may leave of a disk that holds the history keeps it
+  pub holds_each : (k : Masters) (p : PlainHistory) (disk : D) → Holds tells k p disk
+      → (c : Image) → tells.may_leave disk c → KeepsPlain k p c
+  holds_each k p disk holds c left = (holds.kept, holds.right, holds.each c left)
+
   module _ (old new : D) (quiet : IsUntouched tells old new) where
     -- a disk holds the history that it held
     pub holds_still : (k : Masters) (p : PlainHistory) → Holds tells k p old → Holds tells k p new
     holds_still k p holds = record {
       told = (holds.told.0, quiet.reads_same ∙ holds.told.1);
+      kept = holds.kept;
+      right = holds.right;
       each = λ c left. holds.each c (quiet.no_more c left);
     }
 
