@@ -8,13 +8,11 @@ use Rattle.ov_journal.specs.Book.{contents_of}
 use Rattle.ov_journal.specs.declared.fault.CheckFault.{CheckFault}
 use Rattle.ov_journal.specs.declared.fault.CheckFault.TheVariants.{Disk as NoDisk}
 use Rattle.ov_journal.specs.declared.fault.CheckFault.TheVariants.{Memory as NoMemory}
-use Rattle.ov_images.specs.Images.{Keeps, Opens, keys_of}
+use Rattle.ov_images.specs.Images.{IsImageOf, Keeps, Opens, keys_of}
 use Rattle.ov_history.specs.History.{start_of}
 use Rattle.ov_history.specs.KeptLaws.{AllAreOwners}
 use Rattle.ov_history.specs.Masters.{Masters}
-use Rattle.ov_history.specs.Plain.{PlainHistory}
 use Rattle.ov_history.specs.Sealed.{SealedHistory, outer_of}
-use Rattle.ov_history.specs.Sealing.{sealed}
 use Rattle.ov_store.specs.Beginning.{IsBeginFault}
 use Rattle.ov_store.specs.Opened.{Opened, Serves}
 use Rattle.ov_store.specs.Owners.{HasFalseUpdate}
@@ -23,7 +21,6 @@ use Rattle.ov_store.specs.declared.fault.BeginFault.{BeginFault}
 use Rattle.ov_store.specs.declared.fault.BeginFault.TheVariants.{Disk, NotAStore, Damaged}
 use Rattle.ov_store.specs.declared.fault.BeginFault.TheVariants.{BaseDiffers, SurfaceDiffers}
 use Rattle.ov_store.specs.declared.fault.BeginFault.TheVariants.{ModeDiffers, Memory}
-use Rattle.ov_machine.specs.Disks.{StandsForPlain}
 
 -- The image keeps a history of this mode in which some update isn't as the owner with these masters
 -- seals it. The place is that of the first such record's gate.
@@ -48,12 +45,11 @@ pub record Refuses (k : Masters) (mode : Mode) (i : Image) (fault : BeginFault) 
   pub opens : Opens k mode i → (fault ≡ Disk) ⊎ (fault ≡ Memory)
 
 -- The image opens for the masters and the mode, and the store stands for each history of the mode
--- whose sealed form the image stands for.
+-- for which the image stands.
 pub record FindsPlain {D : Type 0} (tells : DiskTells D) (k : Masters) (mode : Mode) (i : Image)
     (s : Opened D) : Type 0 where
   pub some : Opens k mode i
-  pub each : (p : PlainHistory) → p.mode ≡ mode → StandsForPlain k p i
-      → Serves tells (sealed k p) s
+  pub each : (g : SealedHistory) → g.mode ≡ mode → IsImageOf (keys_of k) g i → Serves tells g s
 
 -- ---- what is found of the updates of a store
 
