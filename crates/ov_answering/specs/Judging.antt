@@ -9,13 +9,11 @@ use Rattle.ov_journal.specs.declared.fault.CheckFault.{CheckFault}
 use Rattle.ov_journal.specs.declared.fault.CheckFault.TheVariants.{Disk as NoDisk}
 use Rattle.ov_journal.specs.declared.fault.CheckFault.TheVariants.{Memory as NoMemory}
 use Rattle.ov_images.specs.Images.{IsImageOf, Keeps, Opens, keys_of}
-use Rattle.ov_history.specs.History.{start_of}
-use Rattle.ov_history.specs.KeptLaws.{AllAreOwners}
 use Rattle.ov_history.specs.Masters.{Masters}
-use Rattle.ov_history.specs.Sealed.{SealedHistory, outer_of}
+use Rattle.ov_history.specs.Sealed.{SealedHistory}
 use Rattle.ov_store.specs.Beginning.{IsBeginFault}
 use Rattle.ov_store.specs.Opened.{Opened, Serves}
-use Rattle.ov_store.specs.Owners.{HasFalseUpdate}
+use Rattle.ov_store.specs.Owners.{Checks, HasFalseUpdate}
 use Rattle.ov_store.specs.declared.begin.BeginRefused.{BeginRefused}
 use Rattle.ov_store.specs.declared.fault.BeginFault.{BeginFault}
 use Rattle.ov_store.specs.declared.fault.BeginFault.TheVariants.{Disk, NotAStore, Damaged}
@@ -31,7 +29,8 @@ pub record HasFalseRecord (k : Masters) (mode : Mode) (i : Image) (place : ℕ) 
   pub first_false : HasFalseUpdate k (contents_of i.book).records.step history place
 
 -- Why a run under these masters refuses the image: no store begins on it, for this reason; or it
--- keeps a history, and this names the first record with a token or a tag that isn't its owner's.
+-- keeps a history, and this names the first record with a token that isn't its owner's, or with such a
+-- tag of a file that is there.
 abbrev pub IsRefusal : Masters → Mode → Image → BeginFault → Type 0
 IsRefusal k mode i fault =
     IsBeginFault (keys_of k) mode i fault
@@ -73,10 +72,10 @@ IsCheckFault k i g (SurfaceDiffers stored given) = ⊥
 IsCheckFault k i g (ModeDiffers stored given) = ⊥
 IsCheckFault k i g Memory = ⊤
 
--- The store that stands for this history, on this image, is handed on: all updates are as their owner
--- seals them, and it stands for it still. Or it isn't, for this reason.
+-- The store that stands for this history, on this image, is handed on: no update is found that isn't
+-- as its owner seals it, and it stands for it still. Or it isn't, for this reason.
 abbrev pub IsChecked : {D : Type 0} → DiskTells D → Masters → Image → SealedHistory
     → Result (Opened D) (BeginRefused D) → Type 0
 IsChecked tells k i g (Ok s) =
-    AllAreOwners k (start_of (outer_of g)) g.updates × Serves tells g s
+    Checks k (contents_of i.book).records.step g None × Serves tells g s
 IsChecked tells k i g (Err refused) = IsCheckFault k i g refused.fault

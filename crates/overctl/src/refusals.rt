@@ -30,7 +30,7 @@ pub fn step_for(refusal: Refusal) -> &'static str {
         Refusal::NodesFull => concat!(
             "the store has no room for another list: a list that was there before needs none; ",
             "a revocation that is refused leaves the user on the list, ",
-            "so create the file in another store for those who are left"
+            "so remove the file, and create it in another store for those who are left"
         ),
         Refusal::Spent => "the store's last epoch is reached: begin another store",
     }
