@@ -203,8 +203,7 @@ module _ {D : Type 0} (tells : DiskTells D) where
     opens_found t owners i read =
         let (g, is, image) = (found.0 i read).some in record {
           some = opens_so k mode i g is image
-              (owners_are_right k (contents_of (found.1 i read).0.book).records.step g
-              ((found.0 i read).each g is image).catalogue.0
+              (owners_are_right k g ((found.0 i read).each g is image).catalogue.0
               (seen (Ok t) owners i read g is image).0);
           each = λ h same stands. (seen (Ok t) owners i read h same stands).1;
         }

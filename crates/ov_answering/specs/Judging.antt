@@ -21,7 +21,8 @@ use Rattle.ov_store.specs.declared.fault.BeginFault.TheVariants.{BaseDiffers, Su
 use Rattle.ov_store.specs.declared.fault.BeginFault.TheVariants.{ModeDiffers, Memory}
 
 -- The image keeps a history of this mode in which some update isn't as the owner with these masters
--- seals it. The place is that of the first such record's gate.
+-- seals it, whatever the tags and the bytes are of files that are gone. The place is that of the first
+-- such record's gate.
 pub record HasFalseRecord (k : Masters) (mode : Mode) (i : Image) (place : ℕ) : Type 0 where
   pub history : SealedHistory
   pub mode_is : history.mode ≡ mode
