@@ -11,7 +11,7 @@ BAD_INPUT, BAD_WORDS, NOT_ENROLLED, NOTHING_TO_DO = 1, 2, 3, 4
 NAME = re.compile(r"[a-z0-9][a-z0-9._-]{0,63}")
 # How many bytes a set of users has in the records of each format, by the open gate and the magic.
 SET_BYTES, FIRST_RECORD = {b"\x01OVERENC1": 32, b"\x01OVERENC2": 128}, 78
-ENROLMENT, CREATION = 1, 2
+ENROLMENT, CREATION, REMOVAL = 1, 2, 6
 # The body of the record that stands between the updates of the first format and those of the second.
 STEP = b"\x05"
 
@@ -57,12 +57,15 @@ def records(book, origin):
 
 
 def names(book, origin):
-    """The users and the files of a store.book, in the order in which they came."""
+    """The users of a store.book and the files that weren't removed, in the order in which they came."""
     found = {ENROLMENT: [], CREATION: []}
+    removed = set()
     for body, _ in records(book, origin):
         if body[0] in found:
             found[body[0]].append(body[2 : 2 + body[1]].decode(errors="replace"))
-    return found[ENROLMENT], found[CREATION]
+        elif body[0] == REMOVAL:
+            removed.add(int.from_bytes(body[1:5], "big"))
+    return found[ENROLMENT], [file for number, file in enumerate(found[CREATION]) if number not in removed]
 
 
 def expect_enrolled(user, users, origin):

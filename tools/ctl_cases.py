@@ -170,6 +170,7 @@ def case(words, replies, status, out, error=None, hint=None, asked=None, **strea
 
 ENROL = "enrol @ keys a"
 GRANT = "grant @ keys a f1"
+REMOVE = "remove @ keys f1"
 CREATE = "create @ keys f1 a,b body"
 READ = "read @ key f1"
 LIST = "list @ keys f1"
@@ -184,9 +185,18 @@ FILE_IN_DOUBT = (
     "create it, with the same bytes, before any other file for its list"
 )
 NEW_USER = "it may be done: repeat it, and `refused 1 Taken` says that it was"
+REMOVED = "it may be done: repeat it, and `refused 3 NoFile` says that it was"
 AS_IT_WAS = "the store is as it was: try again"
 NO_OUTPUT = "cannot write standard output"
 TAKEN = "it is there: nothing is to be done where the command was a repeated one; else take another name"
+NO_FILE = (
+    "the file isn't there: nothing is to be done where it was removed; "
+    "else correct the name, or create the file first"
+)
+BYTES_FULL = (
+    "so many bytes don't fit into the store: store fewer, remove files, "
+    "or begin another, with keys and a server of its own"
+)
 NO_PATH = "the owner puts the reader on the file's list with `overctl grant`"
 CUT_OFF = "no reply from @: what came is cut off, or no frame"
 OTHER_PROGRAM = "another program may listen there: check the port; if it is overstored, "
@@ -197,6 +207,7 @@ def commands():
     case(ENROL, ["WELCOME", "KNOWN", "ACCEPTED"], 0, b"ok 8\n", asked=3)
     case(GRANT, ["WELCOME", "KNOWN", "ACCEPTED"], 0, b"ok 8\n", asked=3)
     case("revoke @ keys a f1", ["WELCOME", "KNOWN", "ACCEPTED"], 0, b"ok 8\n", asked=3)
+    case(REMOVE, ["WELCOME", "KNOWN", "ACCEPTED"], 0, b"ok 8\n", asked=3)
     case(CREATE, ["WELCOME", "PLAN", "ACCEPTED"], 0, b"ok 8\n", asked=3)
     case("create @ keys f1 - longest", ["WELCOME"], 8, b"", CUT_OFF, OTHER_PROGRAM + FILE_IN_DOUBT, asked=2)
     case(LIST, ["WELCOME", "LISTED"], 0, b"list f1 a,b\n", asked=2)
@@ -208,11 +219,15 @@ def commands():
 
 def refusals_and_disks():
     case(ENROL, ["WELCOME", "REFUSED"], 3, b"refused 1 Taken\n", "@ refuses the command: 1 Taken", TAKEN)
+    case(REMOVE, ["WELCOME", b"\x88\x03"], 3, b"refused 3 NoFile\n", "@ refuses the command: 3 NoFile", NO_FILE)
+    full = "@ refuses the command: 9 BytesFull"
+    case(CREATE, ["WELCOME", b"\x88\x09"], 3, b"refused 9 BytesFull\n", full, BYTES_FULL)
     case(READ, [b"\x88\x04"], 3, b"refused 4 NoPath\n", "@ refuses the command: 4 NoPath", NO_PATH)
     failed = "the disk of the store at @ failed"
     again = "have the server started again; "
     case(ENROL, ["WELCOME", "KNOWN", "DEVICE_FAULT"], 4, b"", failed, again + NEW_USER)
     case(GRANT, ["WELCOME", "KNOWN", "DEVICE_FAULT"], 4, b"", failed, again + IN_DOUBT)
+    case(REMOVE, ["WELCOME", "KNOWN", "DEVICE_FAULT"], 4, b"", failed, again + REMOVED)
     case(READ, ["CHAINED", "DEVICE_FAULT"], 4, b"", failed, AS_IT_WAS)
 
 
@@ -235,6 +250,7 @@ def output_that_is_not_written():
     for words, replies, hint in [
         (ENROL, updated, NEW_USER),
         (GRANT, updated, IN_DOUBT),
+        (REMOVE, ["WELCOME", "KNOWN", "ACCEPTED"], REMOVED),
         (LIST, ["WELCOME", "LISTED"], writable),
         (READ, ["CHAINED", "BYTES"], writable),
         ("check keys", [], writable),
@@ -359,7 +375,7 @@ def file_page(name):
     return b"\x87\x01" + bytes([len(name)]) + name + bytes(45)
 
 
-NO_PAGE = b"\x87\0"
+GONE_PAGE, NO_PAGE = b"\x87\x01\0", b"\x87\0"
 USERS = [user_page(b"a"), user_page(b"b"), NO_PAGE]
 ALL = ["WELCOME", *USERS, file_page(b"f1"), file_page(b"f2"), NO_PAGE, "LISTED", "LISTED_NONE", "WELCOME"]
 MOVED = REPLIES["WELCOME"][:5] + b"\x08" + REPLIES["WELCOME"][6:]
@@ -371,6 +387,8 @@ def questions_without_a_key():
     case("users @", ["WELCOME", NO_PAGE, "WELCOME"], 0, b"", asked=3)
     case("files @", ALL, 0, b"list f1 a,b\nlist f2 -\n", asked=10)
     case("files @ b", ALL, 0, b"f1\n", asked=10)
+    gone = ["WELCOME", *USERS, GONE_PAGE, file_page(b"f1"), NO_PAGE, "LISTED", "WELCOME"]
+    case("files @", gone, 0, b"list f1 a,b\n", asked=9)
     error, hint = "the store at @ has no user c", "correct the name: `overctl users @` prints them"
     case("files @ c", ALL, 3, b"refused 2 NoUser\n", error, hint, asked=10)
 
@@ -408,6 +426,7 @@ def words_that_are_no_line():
         "create": "ADDRESS KEYS FILE LIST PATH",
         "grant": "ADDRESS KEYS USER FILE",
         "revoke": "ADDRESS KEYS USER FILE",
+        "remove": "ADDRESS KEYS FILE",
         "list": "ADDRESS KEYS FILE",
         "key": "ADDRESS KEYS USER",
         "read": "ADDRESS USERKEY FILE",
@@ -450,13 +469,13 @@ def words_that_are_no_line():
 
 def help_and_version():
     folder = client_folder()
-    commands = "enrol create grant revoke list key read check epoch users files".split()
+    commands = "enrol create grant revoke remove list key read check epoch users files".split()
     for words in ([], *[[command] for command in commands]):
         for flag in ("--help", "-h"):
             status, out, told = run(folder, [*words, flag])
             lines = out.decode().splitlines()
             assert (status, told) == (0, []), (words, status, told)
-            assert len(lines) <= 24 and max(map(len, lines)) <= 80, out.decode()
+            assert len(lines) <= (24 if words else 25) and max(map(len, lines)) <= 80, out.decode()
             assert any(line.startswith("Example: overctl ") for line in lines), out.decode()
             table = out.decode().split("Exit status:")[1]
             assert sorted(map(int, re.findall(r"(?:^| )(\d+) (?=[a-z])", table))) == [0, *range(2, 15)], table

@@ -61,7 +61,7 @@ FAULTS = {
 def commands_of(chance):
     """Sixty commands, most of which are accepted."""
     users, files, made = [b"u0", b"u1", b"u2"], [], [("enrol", b"u%d" % n) for n in range(3)]
-    kinds = ["create"] * 4 + ["grant"] * 5 + ["revoke"] * 4 + ["read"] * 2 + ["list"] + ["enrol"]
+    kinds = ["create"] * 4 + ["grant"] * 5 + ["revoke"] * 4 + ["read"] * 2 + ["list"] + ["enrol"] + ["remove"]
     while len(made) < COMMANDS:
         kind = chance.choice(kinds)
         if kind == "enrol":
@@ -72,7 +72,7 @@ def commands_of(chance):
             names = sorted(set(chance.choices(users, k=chance.choice([0, 1, 2, 3]))))
             files.append(b"f%d" % len(files))
             made.append(("create", files[-1], names, chance.randbytes(size)))
-        elif kind == "list":
+        elif kind in ("list", "remove"):
             made.append((kind, chance.choice(files)))
         else:
             made.append((kind, chance.choice(users), chance.choice(files)))

@@ -73,8 +73,9 @@ class Picture:
         down = self.layer("surface", store.surface, below + 10, "Surface layer: the server's coat", within, within)
         for holder, node in sorted(store.accesses):
             self.arrow(("base", holder), ("base", node), holder == user, dashed=True)
-        gap = (down - TOP) / (len(store.files) + 1)
-        for number, file in enumerate(store.files):
+        files = [file for file in store.files if file is not None]
+        gap = (down - TOP) / (len(files) + 1)
+        for number, file in enumerate(files):
             self.box(number, 2, round(TOP + gap * (number + 1)) - BOX[1], file.name, store.reads(user, file))
             self.arrow(("base", file.base), number, user in store.holders(file.base))
             if file.surface is not None:

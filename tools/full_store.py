@@ -15,7 +15,8 @@ USERS = 12
 
 
 def full_of_bytes():
-    """67,108,864 bytes in 64 files for one user, who reads them all, and for nobody, and in four of the longest."""
+    """67,108,864 bytes in 64 files for one user, who reads them all, and for nobody, and in four of the longest. One
+    is removed at the end, and another takes its place."""
     for readers, size in ((b"a", MIB), (b"-", MIB), (b"a", LONGEST)):
         count = 64 * MIB // size
         bodies = [bytes([number]) * size for number in range(count)]
@@ -29,16 +30,17 @@ def full_of_bytes():
         for number, body in enumerate(bodies):
             script.append(b"read a f%d\n" % number)
             replies += [b"data a f%d %d\n" % (number, size), body, b"\n"] if readers == b"a" else [b"refused 4 NoPath\n"]
-        replies.append(b"end epoch %d\n" % (count + 2))
+        script += [b"remove f0\n", b"create one-more %s 1\nx\n" % readers]
+        replies += [b"ok %d\n" % (count + 3), b"ok %d\n" % (count + 4), b"end epoch %d\n" % (count + 4)]
         yield script, replies, 64 * MIB
 
 
 def full_of_files():
-    """16,384 files without bytes."""
+    """16,384 files without bytes, of which one is removed: its number isn't given again."""
     script = [b"enrol a\n"] + [b"create f%d a 0\n\n" % number for number in range(16_384)]
     replies = [b"ok %d\n" % (number + 1) for number in range(16_385)]
-    script += [b"create one-more a 0\n\n", b"list f16383\n"]
-    replies += [b"refused 8 FilesFull\n", b"list f16383 a\n", b"end epoch 16385\n"]
+    script += [b"create one-more a 0\n\n", b"list f16383\n", b"remove f0\n", b"create one-more a 0\n\n"]
+    replies += [b"refused 8 FilesFull\n", b"list f16383 a\n", b"ok 16386\n", b"refused 8 FilesFull\n", b"end epoch 16386\n"]
     yield script, replies, 0
 
 

@@ -1,5 +1,5 @@
 """The access-matrix machine without a cipher, for tools that know what a program has to reply: users, and files with
-their lists and bytes. No file is ever gone, and no limit is met.
+their lists and bytes. No limit is met.
 """
 
 WORDS = {1: "Taken", 2: "NoUser", 3: "NoFile", 4: "NoPath", 5: "Listed", 6: "NotListed"}
@@ -7,7 +7,7 @@ WORDS = {1: "Taken", 2: "NoUser", 3: "NoFile", 4: "NoPath", 5: "Listed", 6: "Not
 
 class Machine:
     """Replies to commands, which are tuples: ("enrol", U), ("create", F, [U..], bytes), ("grant", U, F),
-    ("revoke", U, F), ("read", U, F) and ("list", F)."""
+    ("revoke", U, F), ("remove", F), ("read", U, F) and ("list", F)."""
 
     def __init__(self):
         self.users, self.files, self.epoch = [], {}, 0
@@ -51,6 +51,12 @@ class Machine:
 
     def revoke(self, user, file):
         return self.turned(user, file, 6, False)
+
+    def remove(self, file):
+        if file not in self.files:
+            return self.refused(3)
+        del self.files[file]
+        return self.made()
 
     def read(self, user, file):
         wrong = self.missing(user, file)

@@ -1,9 +1,10 @@
 """The two layers of a store by the updates of its store.book, as docs/LAYERS.md has their rules: users, sets
-of keys with the edges into them, access tokens and files. It shares no code with the crates.
+of keys with the edges into them, access tokens and files, with None in the place of each that was removed. It
+shares no code with the crates.
 """
 import dataclasses
 
-from all_files import CREATION, ENROLMENT, records
+from all_files import CREATION, ENROLMENT, REMOVAL, records
 
 GRANT = 3
 
@@ -51,6 +52,8 @@ class Store:
         if body[0] in (ENROLMENT, CREATION):
             name, rest = body[2 : 2 + body[1]].decode(), body[2 + body[1] :]
             self.enrol(name) if body[0] == ENROLMENT else self.create(name, rest[:set_bytes])
+        elif body[0] == REMOVAL:
+            self.files[int.from_bytes(body[1:5], "big")] = None
         else:
             user, file = int.from_bytes(body[1:5], "big"), int.from_bytes(body[5:9], "big")
             self.change(user, self.files[file], body[0] == GRANT)
@@ -71,7 +74,7 @@ class Store:
         if grants and user not in self.holders(file.base):
             self.accesses.add((user, file.base))
         for other in self.files:
-            if other is file or self.mode == "delta":
+            if other is file or other is not None and self.mode == "delta":
                 self.lay(other)
 
     def holders(self, node):

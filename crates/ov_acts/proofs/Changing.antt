@@ -3,7 +3,7 @@ use Rattle.std.proofs.Common.{◌≡◌, ℕ, List, Result, Ok, Err, refl, subst
 use Rattle.ov_history.specs.Masters.{Masters}
 use Rattle.ov_owner.specs.Calls.{Runs}
 use Rattle.ov_owner.specs.Changes.{command_of, errand_of}
-use Rattle.ov_owner.specs.Errands.{Errand, creating, enrolling, granting, revoking}
+use Rattle.ov_owner.specs.Errands.{Errand, creating, enrolling, granting, removing, revoking}
 use Rattle.ov_owner.specs.Steps.{IsErrandFor, IsOwnersReply}
 use Rattle.ov_owner.specs.declared.change.Change.{Change}
 use Rattle.ov_owner.specs.declared.fault.OwnerFault.{OwnerFault}
@@ -41,6 +41,8 @@ module _ {P : Type 0} (peer : PeerTells P) (k : Masters) (bytes : List ℕ) (cha
       (result, runs_as (granting k.base user file) (errand_is k.base change (commands.Grant user file) is), says)
   performed_by (acts.Revoke user file) is =
       (result, runs_as (revoking user file) (errand_is k.base change (commands.Revoke user file) is), says)
+  performed_by (acts.Remove file) is =
+      (result, runs_as (removing file) (errand_is k.base change (commands.Remove file) is), says)
   performed_by (acts.Create file list) is =
       (result, runs_as (creating k.base file list bytes) (errand_is k.base change (commands.Create file list bytes) is), says)
   performed_by act is = absurd is
@@ -85,5 +87,6 @@ module _ (k : Masters) (bytes : List ℕ) (change : Change) (v : Service) (Then 
   told_by (acts.Enrol user) is = told_of (commands.Enrol user) is
   told_by (acts.Grant user file) is = told_of (commands.Grant user file) is
   told_by (acts.Revoke user file) is = told_of (commands.Revoke user file) is
+  told_by (acts.Remove file) is = told_of (commands.Remove file) is
   told_by (acts.Create file list) is = told_of (commands.Create file list bytes) is
   told_by act is = absurd is

@@ -19,7 +19,7 @@ use Rattle.ov_owner.proofs.Completing.{update_said}
 use Rattle.ov_owner.specs.Calls.{Runs}
 use Rattle.ov_owner.specs.Clients.{reader_in}
 use Rattle.ov_owner.specs.Completeness.{IsSaidOrCut, SaysList, SaysReader, SaysUpdate, SaysWelcome}
-use Rattle.ov_owner.specs.Errands.{Errand, creating, enrolling, granting, revoking}
+use Rattle.ov_owner.specs.Errands.{Errand, creating, enrolling, granting, removing, revoking}
 use Rattle.ov_owner.specs.Questions.{AsksOnce, names_in, welcome_in}
 use Rattle.ov_owner.specs.Steps.{IsErrandFor}
 use Rattle.ov_owner.specs.declared.fault.OwnerFault.{OwnerFault}
@@ -98,6 +98,9 @@ module _ {P : Type 0} (peer : PeerTells P)
       says_so (Disk p q) update_line result outcome
       (update_called (commands.Revoke user file) (revoking user file) p q result refl runs serving)
       says
+  performed (acts.Remove file) bytes p q outcome named (result, runs, says) serving =
+      says_so (Disk p q) update_line result outcome
+      (update_called (commands.Remove file) (removing file) p q result refl runs serving) says
   performed (acts.Create file list) bytes p q outcome named (result, runs, says) serving =
       says_so (Disk p q) update_line result outcome
       (update_called (commands.Create file list bytes) (creating k.base file list bytes) p q result

@@ -149,6 +149,8 @@ module _ {P : Type 0} (peer : PeerTells P)
       owner_answered (acts.Grant user file) keys body k h v named does alone serving store has
   act_answered (acts.Revoke user file) keys body k h v named does alone serving store has =
       owner_answered (acts.Revoke user file) keys body k h v named does alone serving store has
+  act_answered (acts.Remove file) keys body k h v named does alone serving store has =
+      owner_answered (acts.Remove file) keys body k h v named does alone serving store has
   act_answered (acts.Create file list) keys body k h v named does alone serving store has =
       owner_answered (acts.Create file list) keys body k h v named does alone serving store has
   act_answered (acts.List file) keys body k h v named does alone serving store has =

@@ -72,6 +72,7 @@ pub three_words : (act : Act) (command first second third path : List ℕ)
 three_words (acts.Enrol user) command first second third path (c, w, p, named) = absurd (cc)
 three_words (acts.Grant user file) command first second third path (c, w, p, named, other) = absurd (cc)
 three_words (acts.Revoke user file) command first second third path (c, w, p, named, other) = absurd (cc)
+three_words (acts.Remove file) command first second third path (c, w, p, named) = absurd (cc)
 three_words (acts.Create file list) command first second third path (text, c, w, named, written) =
     let e : file ≡ first = cc in
     let f : text ≡ second = cc in
@@ -91,6 +92,8 @@ few_words (acts.Grant user file) command path words (c, w, p, named, other) =
     let e : length words ≡ 2 = ap length w in (omega arith, omega arith)
 few_words (acts.Revoke user file) command path words (c, w, p, named, other) =
     let e : length words ≡ 2 = ap length w in (omega arith, omega arith)
+few_words (acts.Remove file) command path words (c, w, p, named) =
+    let e : length words ≡ 1 = ap length w in (omega arith, omega arith)
 few_words (acts.Create file list) command path words (text, c, w, named, written) =
     let e : length words ≡ 3 = ap length w in (omega arith, omega arith)
 few_words (acts.List file) command path words (c, w, p, named) =
@@ -121,6 +124,11 @@ act_of_line (acts.Revoke user file) command address keys a k path rest (c, more,
     let g : more ≡ rest = cc in
     subst (λ x. IsActLine (acts.Revoke user file) x rest path) f
     (subst (λ x. IsActLine (acts.Revoke user file) c x path) g is)
+act_of_line (acts.Remove file) command address keys a k path rest (c, more, e, is) =
+    let f : c ≡ command = cc in
+    let g : more ≡ rest = cc in
+    subst (λ x. IsActLine (acts.Remove file) x rest path) f
+    (subst (λ x. IsActLine (acts.Remove file) c x path) g is)
 act_of_line (acts.Create file list) command address keys a k path rest (c, more, e, is) =
     let f : c ≡ command = cc in
     let g : more ≡ rest = cc in
@@ -159,6 +167,8 @@ short_line (acts.Enrol user) address keys path words (command, rest, e, is) =
 short_line (acts.Grant user file) address keys path words (command, rest, e, is) =
     let long : length words ≡ suc (suc (suc (length rest))) = ap length e in inl (omega arith)
 short_line (acts.Revoke user file) address keys path words (command, rest, e, is) =
+    let long : length words ≡ suc (suc (suc (length rest))) = ap length e in inl (omega arith)
+short_line (acts.Remove file) address keys path words (command, rest, e, is) =
     let long : length words ≡ suc (suc (suc (length rest))) = ap length e in inl (omega arith)
 short_line (acts.Create file list) address keys path words (command, rest, e, is) =
     let long : length words ≡ suc (suc (suc (length rest))) = ap length e in inl (omega arith)

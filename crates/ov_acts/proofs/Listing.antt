@@ -21,6 +21,7 @@ line_limits (acts.Create file list) address keys path words (command, rest, e, (
 line_limits (acts.Enrol user) address keys path words is = tt
 line_limits (acts.Grant user file) address keys path words is = tt
 line_limits (acts.Revoke user file) address keys path words is = tt
+line_limits (acts.Remove file) address keys path words is = tt
 line_limits (acts.List file) address keys path words is = tt
 line_limits (acts.Key user) address keys path words is = tt
 line_limits (acts.Read file) address keys path words is = tt

@@ -14,6 +14,7 @@ pub told_by_owner : (act : Act) (keys body : Option (List ℕ)) (v : Service)
 told_by_owner (acts.Enrol user) keys body v Then outcome owns told = told
 told_by_owner (acts.Grant user file) keys body v Then outcome owns told = told
 told_by_owner (acts.Revoke user file) keys body v Then outcome owns told = told
+told_by_owner (acts.Remove file) keys body v Then outcome owns told = told
 told_by_owner (acts.Create file list) keys body v Then outcome owns told = told
 told_by_owner (acts.List file) keys body v Then outcome owns told = told
 told_by_owner (acts.Key user) keys body v Then outcome owns told = told

@@ -43,6 +43,7 @@ same_bytes (acts.Create file list) body bytes stored found is =
 same_bytes (acts.Enrol user) body bytes stored found is = cc
 same_bytes (acts.Grant user file) body bytes stored found is = cc
 same_bytes (acts.Revoke user file) body bytes stored found is = cc
+same_bytes (acts.Remove file) body bytes stored found is = cc
 same_bytes (acts.List file) body bytes stored found is = cc
 same_bytes (acts.Key user) body bytes stored found is = cc
 same_bytes (acts.Read file) body bytes stored found is = cc
@@ -121,6 +122,8 @@ module _ {P : Type 0} (peer : PeerTells P) where
   no_keys (acts.Grant user name) file body p q outcome none (found, is, goes) =
       no_masters file found p q outcome _ none is goes
   no_keys (acts.Revoke user name) file body p q outcome none (found, is, goes) =
+      no_masters file found p q outcome _ none is goes
+  no_keys (acts.Remove name) file body p q outcome none (found, is, goes) =
       no_masters file found p q outcome _ none is goes
   no_keys (acts.Create name list) file body p q outcome none (found, is, goes) =
       no_masters file found p q outcome _ none is goes

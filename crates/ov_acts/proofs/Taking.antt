@@ -35,6 +35,8 @@ keys_hold (acts.Grant user name) (Some file) masters owns found =
     (masters.base.bytes, masters.surface.bytes, found)
 keys_hold (acts.Revoke user name) (Some file) masters owns found =
     (masters.base.bytes, masters.surface.bytes, found)
+keys_hold (acts.Remove name) (Some file) masters owns found =
+    (masters.base.bytes, masters.surface.bytes, found)
 keys_hold (acts.Create name list) (Some file) masters owns found =
     (masters.base.bytes, masters.surface.bytes, found)
 keys_hold (acts.List name) (Some file) masters owns found =
@@ -54,6 +56,8 @@ module _ {K B : Type 0} (keys_tells : SourceTells K) (body_tells : SourceTells B
   keys_alone (acts.Grant user name) k k_after b b_after owns takes same =
       record { keys = takes; body = inl same }
   keys_alone (acts.Revoke user name) k k_after b b_after owns takes same =
+      record { keys = takes; body = inl same }
+  keys_alone (acts.Remove name) k k_after b b_after owns takes same =
       record { keys = takes; body = inl same }
   keys_alone (acts.Create name list) k k_after b b_after owns takes same =
       record { keys = takes; body = inl same }

@@ -20,7 +20,7 @@ use Rattle.ov_acts.specs.Acts.{list_line, update_line}
 use Rattle.ov_acts.specs.Stops.{Outcome}
 use Rattle.ov_acts.specs.declared.job.Act.{Act}
 use Rattle.ov_acts.specs.declared.job.Act.TheVariants.{Check, Create, Enrol, Grant, Key}
-use Rattle.ov_acts.specs.declared.job.Act.TheVariants.{List as ListNames, Read, Revoke}
+use Rattle.ov_acts.specs.declared.job.Act.TheVariants.{List as ListNames, Read, Remove, Revoke}
 use Rattle.ov_acts.specs.declared.stop.Stop.TheVariants.{Damaged, Refused}
 
 -- ---- an owner's acts
@@ -62,6 +62,8 @@ CommandsAsMachine k (Grant user file) bytes v Then outcome =
     UpdatesAsMachine k (commands.Grant user file) v Then outcome
 CommandsAsMachine k (Revoke user file) bytes v Then outcome =
     UpdatesAsMachine k (commands.Revoke user file) v Then outcome
+CommandsAsMachine k (Remove file) bytes v Then outcome =
+    UpdatesAsMachine k (commands.Remove file) v Then outcome
 CommandsAsMachine k (Create file list) bytes v Then outcome =
     UpdatesAsMachine k (commands.Create file list bytes) v Then outcome
 CommandsAsMachine k (ListNames file) bytes v Then outcome = ListsAsMachine v Then file outcome

@@ -7,7 +7,7 @@ use Rattle.ov_base.specs.Names.{IsName}
 use Rattle.ov_script.specs.WrittenLists.{IsList}
 use Rattle.ov_acts.specs.declared.job.Act.{Act}
 use Rattle.ov_acts.specs.declared.job.Act.TheVariants.{Check, Create, Enrol, Grant, Key}
-use Rattle.ov_acts.specs.declared.job.Act.TheVariants.{List as ListNames, Read, Revoke}
+use Rattle.ov_acts.specs.declared.job.Act.TheVariants.{List as ListNames, Read, Remove, Revoke}
 use Rattle.ov_acts.specs.declared.job.Job.{Job}
 use Rattle.ov_acts.specs.declared.words.TheConstants.{MAX_WRITTEN_LIST}
 
@@ -26,6 +26,8 @@ IsActLine (Grant user file) command words path =
 IsActLine (Revoke user file) command words path =
     (command ≡ codes "revoke") × (words ≡ user ∷ file ∷ []) × (path ≡ [])
     × IsName user × IsName file
+IsActLine (Remove file) command words path =
+    (command ≡ codes "remove") × (words ≡ file ∷ []) × (path ≡ []) × IsName file
 IsActLine (Create file list) command words path =
     (text : List ℕ) × (command ≡ codes "create") × (words ≡ file ∷ text ∷ path ∷ [])
     × IsName file × IsWritten text list

@@ -155,6 +155,7 @@ fn perform<K: Source, B: Source, P: Peer>(
         Act::Enrol { user: _ }
         | Act::Grant { user: _, file: _ }
         | Act::Revoke { user: _, file: _ }
+        | Act::Remove { file: _ }
         | Act::Create { file: _, list: _ }
         | Act::List { file: _ }
         | Act::Key { user: _ } => own(alloc, act, keys, body, peer),

@@ -119,6 +119,7 @@ fn change_of<'a>(act: &'a Act, bytes: &'a [u8]) -> Option<Change<'a>>
         Act::Create { file, list } => Some(Change::Create { file, list, bytes }),
         Act::Grant { user, file } => Some(Change::Grant { user, file }),
         Act::Revoke { user, file } => Some(Change::Revoke { user, file }),
+        Act::Remove { file } => Some(Change::Remove { file }),
         Act::List { file: _ } | Act::Key { user: _ } => None,
         Act::Read { file: _ } | Act::Check => unreachable!(),
     }
@@ -141,6 +142,7 @@ fn question<P: Peer>(alloc: Global, owner: &Owner, act: &Act, peer: &mut P) -> R
         | Act::Create { file: _, list: _ }
         | Act::Grant { user: _, file: _ }
         | Act::Revoke { user: _, file: _ }
+        | Act::Remove { file: _ }
         | Act::Read { file: _ }
         | Act::Check => unreachable!(),
     }

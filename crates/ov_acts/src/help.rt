@@ -38,7 +38,7 @@ macro_rules! command {
 }
 
 /// The commands.
-pub static LINES: [Line; 11] = [
+pub static LINES: [Line; 12] = [
     command!(
         "enrol",
         ["ADDRESS", "KEYS", "USER"],
@@ -62,6 +62,12 @@ pub static LINES: [Line; 11] = [
         ["ADDRESS", "KEYS", "USER", "FILE"],
         "Take a user off a file's list: `ok EPOCH`",
         "127.0.0.1:7400 keys.hex bob report"
+    ),
+    command!(
+        "remove",
+        ["ADDRESS", "KEYS", "FILE"],
+        "Remove a file; its name is free again: `ok EPOCH`",
+        "127.0.0.1:7400 keys.hex report"
     ),
     command!(
         "list",

@@ -11,6 +11,8 @@ pub enum Act {
     Grant { user: Name, file: Name },
     /// `revoke`: the file's list loses the user.
     Revoke { user: Name, file: Name },
+    /// `remove`: the file is gone.
+    Remove { file: Name },
     /// `create`: the file is made, for the users of the list.
     Create { file: Name, list: Names },
     /// `list`: the names in the file's list are asked for.

@@ -41,6 +41,7 @@ fn act_of_one(command: &str, word: &str) -> Option<Act>
     let name = Name::read(word.as_bytes())?;
     match command {
         "enrol" => Some(Act::Enrol { user: name }),
+        "remove" => Some(Act::Remove { file: name }),
         "list" => Some(Act::List { file: name }),
         "key" => Some(Act::Key { user: name }),
         "read" => Some(Act::Read { file: name }),

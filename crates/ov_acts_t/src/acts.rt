@@ -98,6 +98,7 @@ fn acts_print_their_lines(rt: HostRuntime) -> Result<(), Fail> {
 /// Makes sure of the statuses 2 to 8.
 fn assert_faults(rt: &impl Abort, alloc: Global) -> Result<(), Fail> {
     assert_rows(rt, alloc, rows::refusals())?;
+    assert_rows(rt, alloc, rows::gone())?;
     assert_rows(rt, alloc, rows::faults())?;
     assert_rows(rt, alloc, rows::leaving())
 }

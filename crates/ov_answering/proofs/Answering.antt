@@ -9,7 +9,7 @@ use Rattle.ov_disk.specs.Disk.{Image}
 use Rattle.ov_disk.proofs.Runs.{started, then_on}
 use Rattle.ov_disk.specs.Tells.{DiskTells}
 use Rattle.ov_script.specs.declared.command.Command.{Command}
-use Rattle.ov_script.specs.declared.command.Command.TheVariants.{Enrol, Create, Grant, Revoke, Read as AskRead, List as ListNames, Epoch as AskEpoch}
+use Rattle.ov_script.specs.declared.command.Command.TheVariants.{Enrol, Create, Grant, Revoke, Remove, Read as AskRead, List as ListNames, Epoch as AskEpoch}
 use Rattle.ov_script.specs.declared.next.Next.{Next}
 use Rattle.ov_script.specs.declared.next.Next.TheVariants.{Command as Next-Command}
 use Rattle.ov_script.specs.declared.next.ScriptFault.{ScriptFault}
@@ -26,9 +26,10 @@ use Rattle.ov_history.specs.Plain.{PlainHistory}
 use Rattle.ov_model.specs.Lines.{lines}
 use Rattle.ov_model.specs.Step.{reply_to, after, after_all}
 use Rattle.ov_model.proofs.Runs.{after_all-more, lines-more}
-use Rattle.ov_machine.specs.Disks.{Holds, KeepsPlain, KeepsStep}
+use Rattle.ov_machine.specs.Disks.{Holds, KeepsPlain, KeepsStep, StandsForPlain}
 use Rattle.ov_machine.specs.Machine.{AreOtherTags, MachineGoesOn, IsCommand, KeptOn, LeavesStep, StandsFor, StepsAt}
 use Rattle.ov_machine.specs.Sinks.{Grows}
+use Rattle.ov_machine.proofs.Stays.{holds_stands, keeps_stands}
 use Rattle.ov_machine.specs.declared.fault.BadTag.{BadTag}
 use Rattle.ov_machine.specs.declared.fault.StepFault.{StepFault}
 use Rattle.ov_machine.specs.declared.fault.StepFault.TheVariants.{Disk as NoDisk, Memory as NoMemory, Tag as WrongTag, Trace as NoTrace}
@@ -181,7 +182,7 @@ module _ {D : Type 0} (tells : DiskTells D) where
       reaches = λ holds. record {
         holds = holds;
         moments = started tells first.disk (KeepsFirst k p text)
-            (λ c left. ([], (1, MAX_SCRIPT_BYTES, text, (refl, refl, refl)), inr (holds.each c left)));
+            (λ c left. ([], (1, MAX_SCRIPT_BYTES, text, (refl, refl, refl)), holds_stands tells k p first.disk holds c left));
       };
     }
 
@@ -214,13 +215,13 @@ module _ {D : Type 0} (tells : DiskTells D) where
       -- was
       epoch_first : (text t : List ℕ) (s : AnsweredSoFar tells k p text t line room old now first mid) (c : Image)
           → KeepsStep k (after_all p s.commands) AskEpoch c → KeepsFirst k p text c
-      epoch_first text t s c (inl keeps) = (s.commands, (line, room, t, s.begins), inr keeps)
-      epoch_first text t s c (inr keeps) = (s.commands, (line, room, t, s.begins), inr keeps)
+      epoch_first text t s c (inl keeps) = (s.commands, (line, room, t, s.begins), keeps_stands k (after_all p s.commands) c keeps)
+      epoch_first text t s c (inr keeps) = (s.commands, (line, room, t, s.begins), keeps_stands k (after_all p s.commands) c keeps)
 
       epoch_now : (text t : List ℕ) (s : AnsweredSoFar tells k p text t line room old now first mid) (c : Image)
           → KeepsStep k (after_all p s.commands) AskEpoch c → KeepsNext k p text s.commands c
-      epoch_now text t s c (inl keeps) = inl (inr keeps)
-      epoch_now text t s c (inr keeps) = inl (inr keeps)
+      epoch_now text t s c (inl keeps) = inl (keeps_stands k (after_all p s.commands) c keeps)
+      epoch_now text t s c (inr keeps) = inl (keeps_stands k (after_all p s.commands) c keeps)
 
       pub answered_end : (input rest : Option (List ℕ)) (reply : Reply)
           → IfSome input (λ text. SoFar tells k p text rest line room old now first mid) → IfSome rest (λ t. Reads line room t [] AtEnd)
@@ -285,7 +286,8 @@ module _ {D : Type 0} (tells : DiskTells D) where
       begins = (line, room, t, s.begins);
       put = s.put;
       stopped = λ holds. record {
-        now = λ c left. inl (inr ((s.reaches holds).holds.each c left));
+        now = λ c left.
+            inl (holds_stands tells k (after_all p s.commands) mid.disk (s.reaches holds).holds c left);
         moments = (s.reaches holds).moments;
       };
     }
@@ -306,13 +308,17 @@ module _ {D : Type 0} (tells : DiskTells D) where
         after_is : after_all p (s.commands ++ command ∷ []) ≡ after q command
         after_is = after_all-more p s.commands command
 
+        keeps_more : (c : Image) → KeepsPlain k (after q command) c
+            → StandsForPlain k (after_all p (s.commands ++ command ∷ [])) c
+        keeps_more c keeps = subst (λ h. StandsForPlain k h c) (sym after_is) (keeps_stands k (after q command) c keeps)
+
         step_first : (c : Image) → KeepsStep k q command c → KeepsFirst k p text c
-        step_first c (inl keeps) = (s.commands, (line, room, t, s.begins), inr keeps)
-        step_first c (inr keeps) = (s.commands ++ command ∷ [], begins_script, inr (subst (λ h. KeepsPlain k h c) (sym after_is) keeps))
+        step_first c (inl keeps) = (s.commands, (line, room, t, s.begins), keeps_stands k q c keeps)
+        step_first c (inr keeps) = (s.commands ++ command ∷ [], begins_script, keeps_more c keeps)
 
         step_next : (c : Image) → KeepsStep k q command c → KeepsNext k p text s.commands c
-        step_next c (inl keeps) = inl (inr keeps)
-        step_next c (inr keeps) = inr (command, begins_script, inr (subst (λ h. KeepsPlain k h c) (sym after_is) keeps))
+        step_next c (inl keeps) = inl (keeps_stands k q c keeps)
+        step_next c (inr keeps) = inr (command, begins_script, keeps_more c keeps)
 
         goes_on_so : MachineGoesOn tells k q command mid last → Holds tells k p first.disk
             → Reaches tells k p (after_all p (s.commands ++ command ∷ [])) text first.disk last.disk
@@ -448,6 +454,7 @@ item_commands item (Enrol user) is = tt
 item_commands item (Create file names body) is = item_creation item file body names is
 item_commands item (Grant user file) is = tt
 item_commands item (Revoke user file) is = tt
+item_commands item (Remove file) is = tt
 item_commands item (AskRead user file) is = tt
 item_commands item (ListNames file) is = tt
 item_commands item AskEpoch is = tt

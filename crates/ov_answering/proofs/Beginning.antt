@@ -7,13 +7,14 @@ use Rattle.ov_disk.specs.Disk.{Image, StaysTold, Told}
 use Rattle.ov_disk.specs.Moments.{LeavesOnly}
 use Rattle.ov_disk.proofs.Runs.{then_on, weaker}
 use Rattle.ov_disk.specs.Tells.{DiskTells}
-use Rattle.ov_images.specs.Images.{Keeps, keys_of}
+use Rattle.ov_images.specs.Images.{IsImageOf, Keeps, Opens, keys_of}
 use Rattle.ov_history.specs.Masters.{Masters}
 use Rattle.ov_history.specs.Plain.{PlainHistory, history_of}
 use Rattle.ov_history.specs.Refusals.{IsLegal}
 use Rattle.ov_history.specs.Kept.{AreKept, IsKept}
-use Rattle.ov_history.specs.Sealed.{KeepsBytes, catalogue_of, stored_of}
-use Rattle.ov_history.specs.Sealing.{sealed}
+use Rattle.ov_history.specs.Sealed.{KeepsBytes, SealedHistory, catalogue_of, stored_of}
+use Rattle.ov_history.specs.Sealing.{IsSealedAs}
+use Rattle.ov_model.proofs.Agreeing.{right_keeps, right_shows}
 use Rattle.ov_store.specs.Beginning.{IsNew, LeavesHistory}
 use Rattle.ov_store.specs.Opened.{Opened, Serves}
 use Rattle.ov_store.specs.declared.fault.BeginFault.{BeginFault}
@@ -59,6 +60,19 @@ disk_said fault line old new status (inl (inr q)) four = let six : status ≡ 6 
 disk_said fault line old new status (inr (inl q)) four = let seven : status ≡ 7 = q.0 in absurd (omega arith)
 disk_said fault line old new status (inr (inr q)) four = let six : status ≡ 6 = q.0 in absurd (omega arith)
 
+-- ---- histories that are right
+
+-- the mode of one is that of its plain history
+pub right_mode : (k : Masters) (p : PlainHistory) (g : SealedHistory) (mode : Mode)
+    → IsSealedAs k p g → p.mode ≡ mode → g.mode ≡ mode
+right_mode k p g mode right is = ap (λ (x : SealedHistory). x.mode) right ∙ is
+
+-- a disk that opens for a history has an image that does
+pub opens_image : {D : Type 0} (tells : DiskTells D) (k : Masters) (mode : Mode) (p : PlainHistory)
+    (disk : D) (opens : OpensAs tells k mode p disk) → Opens k mode opens.image
+opens_image tells k mode p disk opens =
+    let (g, right, image) = opens.stands in (p, g, (opens.legal, right), opens.mode_is, image)
+
 -- ---- scripts
 
 module _ {D : Type 0} (tells : DiskTells D) (k : Masters) (p : PlainHistory) where
@@ -97,23 +111,29 @@ module _ {D : Type 0} (tells : DiskTells D) (k : Masters) (p : PlainHistory) whe
 
   -- the disk opened, and the script was answered over it
   module _ (m : KeptOn D) (masters : m.kept.masters ≡ k) (sound : m.failed ≡ false)
-      (serves : Serves tells (sealed k p) (opened_of m)) where
+      (g : SealedHistory) (right : IsSealedAs k p g) (serves : Serves tells g (opened_of m)) where
     begun_stands : (i : Image) × (tells.reads m.disk ≡ Some i) → IsLegal (history_of p)
         → StandsFor m.kept p
     begun_stands (i, read) legal =
         subst (λ (x : Masters). IsKept x p m.kept.catalogue × IsSomeAnd m.kept.stored (AreKept x p))
         (sym masters) (
-          (legal, serves.catalogue.1 ∙ ap (λ (x : Masters). catalogue_of x.surface (sealed k p)) masters),
-          and_told m.kept.stored
-              (λ bytes. KeepsBytes m.kept.masters.surface bytes (sealed k p)) (AreKept k p)
+          (
+            legal,
+            serves.catalogue.1 ∙ ap (λ (x : Masters). catalogue_of x.surface g) masters
+                ∙ right_shows k p g legal right,
+          ),
+          and_told m.kept.stored (λ bytes. KeepsBytes m.kept.masters.surface bytes g) (AreKept k p)
               (serves.told ∙ ap is_some read) serves.bytes
-              (λ bytes are. are ∙ ap (λ (x : Masters). stored_of x.surface (sealed k p)) masters),
+              (λ bytes are. are ∙ ap (λ (x : Masters). stored_of x.surface g) masters
+              ∙ right_keeps k p g legal right),
         )
 
     pub begun_holds : (i : Image) × (tells.reads m.disk ≡ Some i) → Holds tells k p m.disk
     begun_holds told = record {
       told = told;
-      each = λ c left. subst (λ (x : Masters). Keeps (keys_of x) (sealed k p) c) masters (serves.disk sound told.0 told.1 c left);
+      kept = g;
+      right = right;
+      each = λ c left. subst (λ (x : Masters). Keeps (keys_of x) g c) masters (serves.disk sound told.0 told.1 c left);
     }
 
     pub ends_begun : (text : List ℕ) (first last : D) (old new : Option (List ℕ)) (status : ℕ) → (i : Image) × (tells.reads m.disk ≡ Some i)
@@ -149,12 +169,12 @@ pub tells_nothing : {D : Type 0} (tells : DiskTells D) (k : Masters) (mode : Mod
 tells_nothing {D} tells k mode first m s is masters sound found none =
     λ i read.
     let f = found.0 i read in
-    let (p, legal, mode_is, stands) = f.some in
-    let serves = subst (λ (o : Opened D). Serves tells (sealed k p) o) (sym is)
-    (f.each p mode_is stands) in
+    let (p, g, (legal, right), mode_is, image) = f.some in
+    let serves = subst (λ (o : Opened D). Serves tells g o) (sym is)
+    (f.each g (right_mode k p g mode right mode_is) image) in
     none p
     (begun_stands tells k p m masters
-    (ap (λ (o : Opened D). o.failed) is ∙ sound) serves
+    (ap (λ (o : Opened D). o.failed) is ∙ sound) g right serves
     (reads_on tells s.disk m.disk (ap (λ (o : Opened D). o.disk) is) (found.1 i read)) legal)
 
 module _ {D : Type 0} (tells : DiskTells D) (k : Masters) (mode : Mode) (p : PlainHistory)
@@ -162,17 +182,18 @@ module _ {D : Type 0} (tells : DiskTells D) (k : Masters) (mode : Mode) (p : Pla
   -- what was opened stands for the history
   module _ (m : KeptOn D) (s : Opened D) (is : opened_of m ≡ s) (masters : m.kept.masters ≡ k) (fresh : IsNew (keys_of k) mode s)
       (found : Told (tells.reads first) (λ i. FindsPlain tells k mode i s) × StaysTold (tells.reads first) (tells.reads s.disk)) where
-    pub serves : Serves tells (sealed k p) (opened_of m)
+    pub serves : Serves tells opens.stands.0 (opened_of m)
     serves =
-        subst (λ (o : Opened D). Serves tells (sealed k p) o) (sym is)
-        ((found.0 opens.image opens.told).each p opens.mode_is opens.stands)
+        subst (λ (o : Opened D). Serves tells opens.stands.0 o) (sym is)
+        ((found.0 opens.image opens.told).each opens.stands.0
+        (right_mode k p opens.stands.0 mode opens.stands.1 opens.mode_is) opens.stands.2)
 
     pub sound : m.failed ≡ false
     sound = ap (λ (o : Opened D). o.failed) is ∙ fresh.1
 
     pub over_stands : StandsFor m.kept p
     over_stands =
-        begun_stands tells k p m masters sound serves
+        begun_stands tells k p m masters sound opens.stands.0 opens.stands.1 serves
         (reads_on tells s.disk m.disk (ap (λ (o : Opened D). o.disk) is)
         (found.1 opens.image opens.told))
         opens.legal
@@ -181,14 +202,18 @@ module _ {D : Type 0} (tells : DiskTells D) (k : Masters) (mode : Mode) (p : Pla
     (first : D) (opens : OpensAs tells k mode p first) (input old new : Option (List ℕ))
     (status : ℕ) where
   pub leaves_plain : (last : D) → LeavesHistory tells (keys_of k) mode first last → LeavesOnly tells first last (StandsForPlain k p)
-  leaves_plain last any = any opens.image opens.told opens.settled (sealed k p) opens.mode_is opens.stands
+  leaves_plain last any =
+      weaker tells first last (IsImageOf (keys_of k) opens.stands.0) (StandsForPlain k p)
+      (any opens.image opens.told opens.settled opens.stands.0
+      (right_mode k p opens.stands.0 mode opens.stands.1 opens.mode_is) opens.stands.2)
+      (λ c image. (opens.stands.0, opens.stands.1, image))
 
   pub over_refused : (last : D) (fault : BeginFault) → Told (tells.reads first) (λ i. Refuses k mode i fault)
       → EndsOr (fault_line fault) (fault_status fault) old new status → LeavesHistory tells (keys_of k) mode first last
       → IfSome input (λ text. EndsAs tells k p text first last old new status (Unit {0}))
   over_refused last fault refuses ends any = by_text input where
     said : EndsIn disk_line 4 old new status ⊎ EndsIn memory_line 7 old new status
-    said = ends_in_fault fault old new status ((refuses opens.image opens.told).opens (p, opens.legal, opens.mode_is, opens.stands)) ends
+    said = ends_in_fault fault old new status ((refuses opens.image opens.told).opens (opens_image tells k mode p first opens)) ends
 
     by_text : (input : Option (List ℕ)) → IfSome input (λ text. EndsAs tells k p text first last old new status (Unit {0}))
     by_text None = tt
@@ -213,5 +238,5 @@ module _ {D : Type 0} (tells : DiskTells D) (k : Masters) (mode : Mode) (p : Pla
       by_text None e = tt
       by_text (Some text) e =
           ends_begun tells k p m masters (sound tells k mode p first opens m s is masters fresh found)
-          (serves tells k mode p first opens m s is masters fresh found) text first last old new status told leaves
+          opens.stands.0 opens.stands.1 (serves tells k mode p first opens m s is masters fresh found) text first last old new status told leaves
           (subst (λ (x : Masters). EndsAs tells x p text m.disk last old new status (Holds tells x p m.disk)) masters e)

@@ -19,20 +19,15 @@ use Rattle.ov_journal.specs.declared.fault.CheckFault.TheVariants.{Memory as NoM
 use Rattle.ov_record.specs.Updates.{SealedUpdate}
 use Rattle.ov_images.specs.Images.{IsImageOf, Keys, Opens, StandsIn, keys_of}
 use Rattle.ov_images.proofs.Keeping.{is_born}
-use Rattle.ov_history.specs.Briefs.{brief, outer}
-use Rattle.ov_history.specs.History.{History, Update, empty, start_of, with_update}
-use Rattle.ov_history.specs.KeptLaws.{AllAreOwners}
-use Rattle.ov_history.specs.Layers.{layers_of}
+use Rattle.ov_history.specs.FadingLaws.{IsRight}
 use Rattle.ov_history.specs.Masters.{Masters}
-use Rattle.ov_history.specs.Plain.{PlainHistory, PlainUpdate, empty_plain, measured}
-use Rattle.ov_history.specs.Sealed.{IsSealed, SealedHistory, blank, outer_all, outer_of}
-use Rattle.ov_history.specs.Sealing.{sealed, sealed_from}
-use Rattle.ov_history.proofs.Pushing.{with_updates, with_updates-all}
-use Rattle.ov_history.proofs.Sealing.{measured-sealed, owners_histories}
+use Rattle.ov_history.specs.Plain.{PlainHistory, empty_plain}
+use Rattle.ov_history.specs.Sealed.{SealedHistory, blank}
+use Rattle.ov_history.specs.Sealing.{sealed}
 use Rattle.ov_store.specs.Beginning.{FindsHistory, IsBeginFault, IsNew, LeavesHistory, ReadsBorn}
 use Rattle.ov_store.specs.Beginning.{WritesNoBorn, disk_left}
 use Rattle.ov_store.specs.Opened.{Opened, Serves}
-use Rattle.ov_store.specs.Owners.{HasFalseUpdate, IsOwners, masters, with_first}
+use Rattle.ov_store.specs.Owners.{HasFalseUpdate, masters}
 use Rattle.ov_store.specs.declared.begin.BeginRefused.{BeginRefused}
 use Rattle.ov_store.specs.declared.fault.BeginFault.{BeginFault}
 use Rattle.ov_store.specs.declared.fault.BeginFault.TheVariants.{Disk, NotAStore, Damaged}
@@ -45,59 +40,21 @@ use Rattle.ov_machine.proofs.Updating.{now_so}
 use Rattle.ov_answering.specs.Ending.{JudgesImage}
 use Rattle.ov_answering.specs.Judging.{FindsPlain, HasFalseRecord, IsCheckFault, IsChecked, IsRefusal, Refuses, fault_for}
 use Rattle.ov_answering.specs.Printing.{IsRefused, read_line}
-use Rattle.ov_answering.proofs.Beginning.{ends_in_fault}
+use Rattle.ov_answering.proofs.Beginning.{ends_in_fault, right_mode}
+use Rattle.ov_answering.proofs.Owned.{owners_are_right, right_never_false}
 
--- ---- updates that are as their owner seals them
+-- ---- images that open
 
--- behind a front of updates that are all so, the next one is so too
-next_is_owners : (k : Masters) (h : History) (front : List SealedUpdate) (next : SealedUpdate)
-    (rest : List SealedUpdate)
-    → AllAreOwners k h (front ++ next ∷ rest)
-    → IsOwners k (layers_of (with_updates h (outer_all front))) next
-next_is_owners k h [] next rest all = all.0
-next_is_owners k h (u ∷ front) next rest all =
-    next_is_owners k (with_update h (outer (brief u))) front next rest all.1
-
-never_false : (k : Masters) (step : Option ℕ) (g : SealedHistory) (place : ℕ)
-    → AllAreOwners k (start_of (outer_of g)) g.updates → HasFalseUpdate k step g place → ⊥
-never_false k step g place all f =
-    let next = next_is_owners k (start_of (outer_of g)) f.front f.next f.rest
-    (subst (AllAreOwners k (start_of (outer_of g))) f.split all) in
-    f.wrong
-    (subst (λ (h : History). IsOwners k (layers_of h) f.next)
-    (with_updates-all (outer_of (with_first g f.front))) next)
-
-seals_all : (k : Masters) (h : History) (updates : List PlainUpdate)
-    → AllAreOwners k h (sealed_from k h updates)
-seals_all k h [] = tt
-seals_all k h (u ∷ updates) = (
-  (u, refl),
-  subst
-      (λ (v : Update). AllAreOwners k (with_update h v)
-      (sealed_from k (with_update h (measured u)) updates))
-      (sym (measured-sealed k (layers_of h) u)) (seals_all k (with_update h (measured u)) updates),
-)
-
--- no update of a history that its owner sealed is another's
-sealed_never_false : (k : Masters) (step : Option ℕ) (p : PlainHistory) (place : ℕ)
-    → HasFalseUpdate k step (sealed k p) place → ⊥
-sealed_never_false k step p place =
-    never_false k step (sealed k p) place (seals_all k (empty p.mode p.first) p.updates)
-
--- an image opens that stands for a history whose updates are all so
+-- an image opens that stands for a history that is right
 opens_so : (k : Masters) (mode : Mode) (i : Image) (g : SealedHistory) → g.mode ≡ mode
-    → IsImageOf (keys_of k) g i → IsSealed g
-    → AllAreOwners k (start_of (outer_of g)) g.updates → Opens k mode i
-opens_so k mode i g is image fits all =
-    let (p, legal, same) = owners_histories k g fits all in (
-      p,
-      legal,
-      ap (λ (x : SealedHistory). x.mode) same ∙ is,
-      subst (λ (x : SealedHistory). IsImageOf (keys_of k) x i) (sym same) image,
-    )
+    → IsImageOf (keys_of k) g i → (p : PlainHistory) × IsRight k p g → Opens k mode i
+opens_so k mode i g is image (p, right) =
+    (p, g, right, sym (ap (λ (x : SealedHistory). x.mode) right.1) ∙ is, image)
 
 opens_unborn : (k : Masters) (mode : Mode) (i : Image) → IsUnborn i.book → Opens k mode i
-opens_unborn k mode i unborn = (empty_plain mode 0, tt, refl, inl (unborn, refl))
+opens_unborn k mode i unborn =
+    let none = empty_plain mode 0 in
+    (none, sealed k none, (tt, refl), refl, inl (unborn, refl))
 
 no_updates : (front : List SealedUpdate) (next : SealedUpdate) (rest : List SealedUpdate)
     → [] ≡ front ++ next ∷ rest → ⊥
@@ -245,9 +202,10 @@ module _ {D : Type 0} (tells : DiskTells D) where
         → FindsPlain tells k mode i t
     opens_found t owners i read =
         let (g, is, image) = (found.0 i read).some in record {
-          some = opens_so k mode i g is image ((found.0 i read).each g is image).catalogue.0
-              (seen (Ok t) owners i read g is image).0;
-          each = λ p same stands. (seen (Ok t) owners i read (sealed k p) same stands).1;
+          some = opens_so k mode i g is image
+              (owners_are_right k g ((found.0 i read).each g is image).catalogue.0
+              (seen (Ok t) owners i read g is image).0);
+          each = λ h same stands. (seen (Ok t) owners i read h same stands).1;
         }
 
     plain_found : (r : Result (Opened D) (BeginRefused D)) → Owners r
@@ -282,8 +240,8 @@ module _ {D : Type 0} (tells : DiskTells D) where
         let wrong = of_each g is image in
         let at_gate = ap (λ (a : Area). Damaged a place) wrong.0 in record {
           why = inr (place, at_gate, false_record i g place is image wrong.1);
-          opens = λ o. absurd (sealed_never_false k (contents_of i.book).records.step o.0 place
-              (of_each (sealed k o.0) o.2 o.3).1);
+          opens = λ o. absurd (right_never_false k (contents_of i.book).records.step o.0 o.1 place o.2
+              (of_each o.1 (right_mode k o.0 o.1 mode o.2.1 o.3) o.4).1);
         }
 
     false_refused : (r : Result (Opened D) (BeginRefused D)) → Owners r
@@ -317,7 +275,8 @@ pub begin_refused : (k : Masters) (ks : Keys) (mode : Mode) (i : Image) (fault :
 begin_refused k ks mode i fault same values why =
     let at = subst (λ (x : Keys). IsBeginFault x mode i fault) same why in record {
       why = inl at;
-      opens = λ o. faulted_so (keys_of k) mode (sealed k o.0) i o.2 fault values o.3 at;
+      opens = λ o. faulted_so (keys_of k) mode o.1 i (right_mode k o.0 o.1 mode o.2.1 o.3) fault values
+          o.4 at;
     }
 
 -- ---- the image

@@ -8,6 +8,7 @@ pub mod Judging
 pub mod KeyFiles
 pub mod Lists
 pub mod Loans
+pub mod Owned
 pub mod Pacing
 pub mod Statuses
 pub mod Surviving

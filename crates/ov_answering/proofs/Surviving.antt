@@ -18,23 +18,26 @@ use Rattle.ov_script.specs.Lines.{reply_line}
 use Rattle.ov_script.specs.Reading.{IsScript, BeginsScript, BeginsWith, Reads, Ending, AtEnd}
 use Rattle.ov_script.proofs.Grammar.{item_once}
 use Rattle.ov_script.proofs.Readings.{goes_on, Reads-begins}
+use Rattle.ov_history.specs.Catalogue.{Catalogue}
 use Rattle.ov_history.specs.History.{matrix_of}
 use Rattle.ov_history.specs.Masters.{Masters}
 use Rattle.ov_history.specs.Plain.{PlainHistory, history_of}
 use Rattle.ov_history.specs.Refusals.{IsLegal}
-use Rattle.ov_history.specs.Sealed.{SealedHistory, catalogue_of}
-use Rattle.ov_history.specs.Sealing.{sealed}
+use Rattle.ov_history.specs.Sealed.{catalogue_of}
+use Rattle.ov_history.specs.Sealing.{IsSealedAs, sealed}
 use Rattle.ov_history.proofs.DerivedKeys.{closure_keys}
 use Rattle.ov_history.proofs.Published.{published_is_matrix}
 use Rattle.ov_history.proofs.TrueHistories.{tokens_are_true}
 use Rattle.ov_model.specs.Lines.{lines}
 use Rattle.ov_model.specs.Step.{after_all, reply_to}
+use Rattle.ov_model.proofs.Agreeing.{right_shows}
 use Rattle.ov_model.proofs.Runs.{lines-more}
 use Rattle.ov_report.specs.Ends.{EndsIn, EndsOr}
 use Rattle.ov_report.specs.Faults.{disk_line, memory_line}
-use Rattle.ov_machine.specs.Disks.{Holds, KeepsPlain}
+use Rattle.ov_machine.specs.Disks.{Holds, KeepsPlain, StandsForPlain}
 use Rattle.ov_machine.specs.Machine.{KeptOn}
 use Rattle.ov_machine.proofs.Reading.{take_whole}
+use Rattle.ov_machine.proofs.Stays.{holds_each, holds_stands}
 use Rattle.ov_answering.specs.Answering.{AnsweredAll, AnsweredFirst, AnsweredPart, Finishes, Stops}
 use Rattle.ov_answering.specs.Ending.{EndsAs}
 use Rattle.ov_answering.specs.Lasting.{HasAnswered, KeepsFirst, KeepsNext, Lasts, LastsAs, PublishesMatrix, PublishesMatrixOf, Survives}
@@ -55,23 +58,25 @@ publishes_matrix k p legal =
       matrix = λ user file f. published_is_matrix k p user file f legal;
     }
 
--- an image keeps no other history
+-- an image keeps no other history but for what nobody can tell
 publishes_matrix_of : (k : Masters) (p : PlainHistory) → IsLegal (history_of p) → (i : Image) → KeepsPlain k p i → PublishesMatrixOf k p i
-publishes_matrix_of k p legal i keeps = λ g other.
-    subst (λ (s : SealedHistory). PublishesMatrix k (matrix_of (history_of p)) (catalogue_of k.surface s))
-    (keeps_once (keys_of k) (sealed k p) g i keeps other) (publishes_matrix k p legal)
+publishes_matrix_of k p legal i (h, right, keeps) = λ g other.
+    let same : IsSealedAs k p g = sym (keeps_once (keys_of k) h g i keeps other) ∙ right in
+    subst (λ (c : Catalogue). PublishesMatrix k (matrix_of (history_of p)) c)
+    (sym (right_shows k p g legal same)) (publishes_matrix k p legal)
 
 -- what a disk holds lasts on it
 pub lasts_held : {D : Type 0} (tells : DiskTells D) (k : Masters) (p : PlainHistory) → IsLegal (history_of p) → (disk : D)
     → Holds tells k p disk → LastsAs tells k p disk
 lasts_held tells k p legal disk held =
-    let reads = held.each held.told.0 (tells.reads_one disk held.told.0 held.told.1) in record {
+    let reads = holds_each tells k p disk held held.told.0
+    (tells.reads_one disk held.told.0 held.told.1) in record {
       image = held.told.0;
       told = held.told.1;
       reads_it = reads;
-      leaves_it = λ c left. held.each c left;
+      leaves_it = holds_each tells k p disk held;
       tokens_read = publishes_matrix_of k p legal held.told.0 reads;
-      tokens_left = λ c left. publishes_matrix_of k p legal c (held.each c left);
+      tokens_left = λ c left. publishes_matrix_of k p legal c (holds_each tells k p disk held c left);
     }
 
 -- ---- scripts
@@ -221,7 +226,7 @@ module _ {D : Type 0} (tells : DiskTells D) (k : Masters) (p : PlainHistory) (te
         a.commands,
         Reads-begins 1 MAX_SCRIPT_BYTES text a.commands ending a.read,
         answered_whole p text a.commands old mid new a.put ending a.read more,
-        λ c left. inl (inr ((a.reaches holds).holds.each c left)),
+        λ c left. inl (holds_stands tells k (after_all p a.commands) last.disk (a.reaches holds).holds c left),
       );
     }
 
@@ -238,11 +243,14 @@ module _ {D : Type 0} (tells : DiskTells D) (k : Masters) (p : PlainHistory) (te
         let line = reply_line (reply_to (after_all p a.commands) a.next) in
         let puts = Appends-kept old mid new (lines p a.commands ++ take a.count line) a.put kept in
         record { any_moment = (a.reaches holds).moments; at_exit = at_exit (part_answered p text a.commands a.next old new a.begins_next a.count puts) } where
+          stands_for : (c : Image) → tells.may_leave last.disk c → StandsForPlain k (after_all p (a.commands ++ a.next ∷ [])) c
+          stands_for = holds_stands tells k (after_all p (a.commands ++ a.next ∷ [])) last.disk (a.reaches holds).holds
+
           at_exit : HasAnswered p text a.commands old new ⊎ HasAnswered p text (a.commands ++ a.next ∷ []) old new
               → (commands : List Command) × BeginsScript text commands × HasAnswered p text commands old new
               × ((c : Image) → tells.may_leave last.disk c → KeepsNext k p text commands c)
-          at_exit (inl answered) = (a.commands, a.begins, answered, λ c left. inr (a.next, a.begins_next, inr ((a.reaches holds).holds.each c left)))
-          at_exit (inr answered) = (a.commands ++ a.next ∷ [], a.begins_next, answered, λ c left. inl (inr ((a.reaches holds).holds.each c left)))
+          at_exit (inl answered) = (a.commands, a.begins, answered, λ c left. inr (a.next, a.begins_next, stands_for c left))
+          at_exit (inr answered) = (a.commands ++ a.next ∷ [], a.begins_next, answered, λ c left. inl (stands_for c left))
 
     survives_at : (stop : Stop) (n status : ℕ) → Stops tells k p text stop old mid first last → Finishes stop n mid new status
         → Survives tells k p text first.disk last.disk old new
@@ -305,12 +313,12 @@ ends_unread tells k p None old new first status e = tt
 ends_unread tells k p (Some text) old new first status e = record {
   concluded = at_once p text memory_line OutOfMemory old new status (memory_printed p text) e;
   survives = λ holds. record {
-    any_moment = started tells first (KeepsFirst k p text) (λ c left. ([], none_read text, inr (holds.each c left)));
+    any_moment = started tells first (KeepsFirst k p text) (λ c left. ([], none_read text, holds_stands tells k p first holds c left));
     at_exit = (
       [],
       none_read text,
       answered_error p text [] old old new (Appends-nil old) _ (front_put memory_line 7 old new status e),
-      λ c left. inl (inr (holds.each c left)),
+      λ c left. inl (holds_stands tells k p first holds c left),
     );
   };
   lasts = λ holds zero_is. absurd (not_zero memory_line 7 old new status e (λ z. omega arith) zero_is);

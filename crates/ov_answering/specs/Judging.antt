@@ -8,25 +8,21 @@ use Rattle.ov_journal.specs.Book.{contents_of}
 use Rattle.ov_journal.specs.declared.fault.CheckFault.{CheckFault}
 use Rattle.ov_journal.specs.declared.fault.CheckFault.TheVariants.{Disk as NoDisk}
 use Rattle.ov_journal.specs.declared.fault.CheckFault.TheVariants.{Memory as NoMemory}
-use Rattle.ov_images.specs.Images.{Keeps, Opens, keys_of}
-use Rattle.ov_history.specs.History.{start_of}
-use Rattle.ov_history.specs.KeptLaws.{AllAreOwners}
+use Rattle.ov_images.specs.Images.{IsImageOf, Keeps, Opens, keys_of}
 use Rattle.ov_history.specs.Masters.{Masters}
-use Rattle.ov_history.specs.Plain.{PlainHistory}
-use Rattle.ov_history.specs.Sealed.{SealedHistory, outer_of}
-use Rattle.ov_history.specs.Sealing.{sealed}
+use Rattle.ov_history.specs.Sealed.{SealedHistory}
 use Rattle.ov_store.specs.Beginning.{IsBeginFault}
 use Rattle.ov_store.specs.Opened.{Opened, Serves}
-use Rattle.ov_store.specs.Owners.{HasFalseUpdate}
+use Rattle.ov_store.specs.Owners.{Checks, HasFalseUpdate}
 use Rattle.ov_store.specs.declared.begin.BeginRefused.{BeginRefused}
 use Rattle.ov_store.specs.declared.fault.BeginFault.{BeginFault}
 use Rattle.ov_store.specs.declared.fault.BeginFault.TheVariants.{Disk, NotAStore, Damaged}
 use Rattle.ov_store.specs.declared.fault.BeginFault.TheVariants.{BaseDiffers, SurfaceDiffers}
 use Rattle.ov_store.specs.declared.fault.BeginFault.TheVariants.{ModeDiffers, Memory}
-use Rattle.ov_machine.specs.Disks.{StandsForPlain}
 
 -- The image keeps a history of this mode in which some update isn't as the owner with these masters
--- seals it. The place is that of the first such record's gate.
+-- seals it, whatever the tags and the bytes are of files that are gone. The place is that of the first
+-- such record's gate.
 pub record HasFalseRecord (k : Masters) (mode : Mode) (i : Image) (place : ℕ) : Type 0 where
   pub history : SealedHistory
   pub mode_is : history.mode ≡ mode
@@ -34,7 +30,8 @@ pub record HasFalseRecord (k : Masters) (mode : Mode) (i : Image) (place : ℕ) 
   pub first_false : HasFalseUpdate k (contents_of i.book).records.step history place
 
 -- Why a run under these masters refuses the image: no store begins on it, for this reason; or it
--- keeps a history, and this names the first record with a token or a tag that isn't its owner's.
+-- keeps a history, and this names the first record with a token that isn't its owner's, or with such a
+-- tag of a file that is there.
 abbrev pub IsRefusal : Masters → Mode → Image → BeginFault → Type 0
 IsRefusal k mode i fault =
     IsBeginFault (keys_of k) mode i fault
@@ -48,12 +45,11 @@ pub record Refuses (k : Masters) (mode : Mode) (i : Image) (fault : BeginFault) 
   pub opens : Opens k mode i → (fault ≡ Disk) ⊎ (fault ≡ Memory)
 
 -- The image opens for the masters and the mode, and the store stands for each history of the mode
--- whose sealed form the image stands for.
+-- for which the image stands.
 pub record FindsPlain {D : Type 0} (tells : DiskTells D) (k : Masters) (mode : Mode) (i : Image)
     (s : Opened D) : Type 0 where
   pub some : Opens k mode i
-  pub each : (p : PlainHistory) → p.mode ≡ mode → StandsForPlain k p i
-      → Serves tells (sealed k p) s
+  pub each : (g : SealedHistory) → g.mode ≡ mode → IsImageOf (keys_of k) g i → Serves tells g s
 
 -- ---- what is found of the updates of a store
 
@@ -77,10 +73,10 @@ IsCheckFault k i g (SurfaceDiffers stored given) = ⊥
 IsCheckFault k i g (ModeDiffers stored given) = ⊥
 IsCheckFault k i g Memory = ⊤
 
--- The store that stands for this history, on this image, is handed on: all updates are as their owner
--- seals them, and it stands for it still. Or it isn't, for this reason.
+-- The store that stands for this history, on this image, is handed on: no update is found that isn't
+-- as its owner seals it, and it stands for it still. Or it isn't, for this reason.
 abbrev pub IsChecked : {D : Type 0} → DiskTells D → Masters → Image → SealedHistory
     → Result (Opened D) (BeginRefused D) → Type 0
 IsChecked tells k i g (Ok s) =
-    AllAreOwners k (start_of (outer_of g)) g.updates × Serves tells g s
+    Checks k (contents_of i.book).records.step g None × Serves tells g s
 IsChecked tells k i g (Err refused) = IsCheckFault k i g refused.fault

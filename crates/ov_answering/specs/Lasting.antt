@@ -73,7 +73,9 @@ PublishesMatrixOf k p i =
 
 module _ {D : Type 0} (tells : DiskTells D) where
   -- The disk opens for the masters and the mode: it tells its bytes, nothing is pending, and the
-  -- image stands for this legal history of the mode, as it is sealed under the masters.
+  -- image stands for this legal history of the mode, as it is sealed under the masters, but for the
+  -- tags and the bytes of files that are gone. What is said from such a history on is so from each
+  -- one as which the disk opens: they differ in the bytes of gone files alone.
   pub record OpensAs (k : Masters) (mode : Mode) (p : PlainHistory) (disk : D) : Type 0 where
     pub image : Image
     pub told : tells.reads disk ≡ Some image

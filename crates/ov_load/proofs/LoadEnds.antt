@@ -30,7 +30,7 @@ use Rattle.ov_answering.specs.Answering.{Finishes, stop_for}
 use Rattle.ov_answering.specs.Judging.{FindsPlain, Refuses}
 use Rattle.ov_answering.specs.Lasting.{LastsAs, OpensAs}
 use Rattle.ov_answering.specs.Printing.{IsScriptStatus, read_line}
-use Rattle.ov_answering.proofs.Beginning.{begun_holds, ends_in_fault, leaves, over_stands, serves, sound, told}
+use Rattle.ov_answering.proofs.Beginning.{begun_holds, ends_in_fault, leaves, leaves_plain, opens_image, over_stands, serves, sound, told}
 use Rattle.ov_answering.proofs.Statuses.{ends_so, not_code, not_code_or, script_seven, script_six}
 use Rattle.ov_answering.proofs.Surviving.{lasts_held, none_put, not_zero}
 use Rattle.ov_load.specs.LoadEnding.{LoadEndsAs, LoadTracesAs, TracedTo, TracesLoad}
@@ -176,10 +176,10 @@ module _ {D : Type 0} (tells : DiskTells D) (k : Masters) (h : PlainHistory) (lo
         → LoadEndsAs tells k h load first last old new t_old t_old status (Unit {0})
     load_refused last fault refuses ends any = by_line said where
       said : EndsIn disk_line 4 old new status ⊎ EndsIn memory_line 7 old new status
-      said = ends_in_fault fault old new status ((refuses opens.image opens.told).opens (h, opens.legal, opens.mode_is, opens.stands)) ends
+      said = ends_in_fault fault old new status ((refuses opens.image opens.told).opens (opens_image tells k load.mode h first opens)) ends
 
       plain : LeavesOnly tells first last (StandsForPlain k h)
-      plain = any opens.image opens.told opens.settled (Rattle.ov_history.specs.Sealing.sealed k h) opens.mode_is opens.stands
+      plain = leaves_plain tells k load.mode h first opens None old new status last any
 
       moments : LeavesOnly tells first last (KeepsSome k h load)
       moments = weaker tells first last (StandsForPlain k h) (KeepsSome k h load) plain some_first
@@ -223,6 +223,7 @@ module _ {D : Type 0} (tells : DiskTells D) (k : Masters) (h : PlainHistory) (lo
       held =
           begun_holds tells k h m masters
           (sound tells k load.mode h first opens m s is masters fresh found)
+          opens.stands.0 opens.stands.1
           (serves tells k load.mode h first opens m s is masters fresh found)
           (told tells k load.mode h first opens None old new status m s is masters fresh found any)
 

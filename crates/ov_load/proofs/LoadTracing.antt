@@ -22,6 +22,7 @@ use Rattle.ov_machine.specs.Machine.{KeptOn, StandsFor, StepsAt}
 use Rattle.ov_machine.specs.declared.fault.StepFault.{StepFault}
 use Rattle.ov_machine.specs.declared.fault.StepFault.TheVariants.{Disk, Memory, Tag, Trace}
 use Rattle.ov_machine.proofs.PutOn.{transcripts_have_bytes}
+use Rattle.ov_machine.proofs.Stays.{holds_each, holds_stands, keeps_stands}
 use Rattle.ov_machine.proofs.Transcripts.{whole_is_front}
 use Rattle.ov_answering.specs.Tracing.{TranscribesAll}
 use Rattle.ov_answering.proofs.Loans.{lent_disk}
@@ -69,7 +70,7 @@ module _ {D : Type 0} (tells : DiskTells D) (k : Masters) (h : PlainHistory) (lo
     transcripts = all;
     front = inl refl;
     put = subst (Appends old now) (sym (append-nil bytes)) put;
-    leaves = λ holds c left. inl (inr ((s.holds holds).each c left));
+    leaves = λ holds c left. inl (holds_stands tells k (after_first h load place) mid.disk (s.holds holds) c left);
     made = λ holds c left. nothing_made k h load place c;
   }
 
@@ -140,8 +141,12 @@ module _ {D : Type 0} (tells : DiskTells D) (k : Masters) (h : PlainHistory) (lo
     after_is = after_all-more h (first_commands load.number w.place) (command_at load.number w.place)
 
     keeps_at : (c : Image) → KeepsStep k (after_first h load w.place) (command_at load.number w.place) c → KeepsAt k h load w.place c
-    keeps_at c (inl keeps) = inl (inr keeps)
-    keeps_at c (inr keeps) = inr (under, inr (subst (λ x. KeepsPlain k x c) (sym after_is) keeps))
+    keeps_at c (inl keeps) = inl (keeps_stands k (after_first h load w.place) c keeps)
+    keeps_at c (inr keeps) = inr (
+      under,
+      subst (λ x. StandsForPlain k x c) (sym after_is)
+          (keeps_stands k (after (after_first h load w.place) (command_at load.number w.place)) c keeps),
+    )
 
     leaves_now : (T : Type 0) (fault : StepFault)
         → TalliesAt tells {T = T} k (after_first h load w.place) (command_at load.number w.place) before now_tally mid last (Err fault)
@@ -157,7 +162,8 @@ module _ {D : Type 0} (tells : DiskTells D) (k : Masters) (h : PlainHistory) (lo
         → Holds tells k (after_first h load w.place) mid.disk → (c : Image) → tells.may_leave last.disk c → IsMadeAt k h load w.place bytes c
     made_at bytes has_made holds c left = λ low whole.
         let there = has_made (subst (λ x. Transcribed k (after_first h load w.place) x bytes) (sym command_is) whole) holds c left in
-        inr (subst (λ x. KeepsPlain k x c) (ap (after (after_first h load w.place)) command_is ∙ sym after_is) there)
+        keeps_stands k (after_first h load (suc w.place)) c
+        (subst (λ x. KeepsPlain k x c) (ap (after (after_first h load w.place)) command_is ∙ sym after_is) there)
 
     pub sent_stops : {T : Type 0} (r : Result T StepFault) (fault : StepFault) → r ≡ Err fault
         → ((j : Masters) (q : PlainHistory) → mid.kept.masters ≡ j → StandsFor mid.kept q → TalliesAt tells j q command before now_tally mid last r)
@@ -185,8 +191,8 @@ module _ {D : Type 0} (tells : DiskTells D) (k : Masters) (h : PlainHistory) (lo
     AreSteps r = (j : Masters) (q : PlainHistory) → mid.kept.masters ≡ j → StandsFor mid.kept q → StepsAt tells j q AskEpoch mid last r
 
     keeps_end : (c : Image) → KeepsStep k (after_load h load) AskEpoch c → KeepsAt k h load (WORKLOAD_USERS + load.count) c
-    keeps_end c (inl keeps) = inl (inr keeps)
-    keeps_end c (inr keeps) = inl (inr keeps)
+    keeps_end c (inl keeps) = inl (keeps_stands k (after_load h load) c keeps)
+    keeps_end c (inr keeps) = inl (keeps_stands k (after_load h load) c keeps)
 
     leaves_end : (fault : StepFault) → StepsAt tells k (after_load h load) AskEpoch mid last (Err fault)
         → Holds tells k (after_load h load) mid.disk → (c : Image) → tells.may_leave last.disk c → KeepsAt k h load (WORKLOAD_USERS + load.count) c
@@ -207,8 +213,10 @@ module _ {D : Type 0} (tells : DiskTells D) (k : Masters) (h : PlainHistory) (lo
       all_on (WORKLOAD_USERS + load.count) (omega arith) tally mid last masters old now new s sent AskEpoch traces,
       stops_in (WORKLOAD_USERS + load.count) (omega arith) tally mid last masters old now new s sent AskEpoch (λ bytes front. inr (refl, front)) none_made
           (λ j stands. sent_unread mid.kept.masters j AskEpoch (HasMade tells mid.kept.masters j AskEpoch mid.disk last.disk) now new
-          (λ holds c left. ((steps mid.kept.masters j refl stands).1.holds holds).each c left) (traces j stands))
-          (λ holds c left. inl (inr (((steps k (after_load h load) masters s.stands).1.holds holds).each c left))),
+          (λ holds c left. holds_each tells mid.kept.masters j last.disk
+          ((steps mid.kept.masters j refl stands).1.holds holds) c left) (traces j stands))
+          (λ holds c left. inl (holds_stands tells k (after_load h load) last.disk
+          ((steps k (after_load h load) masters s.stands).1.holds holds) c left)),
     )
 
     pub sent_end_stops : (r : Result Reply StepFault) (fault : StepFault) → r ≡ Err fault → AreSteps r

@@ -20,10 +20,11 @@ use Rattle.ov_history.specs.Plain.{PlainHistory}
 use Rattle.ov_model.specs.Lines.{lines}
 use Rattle.ov_model.specs.Step.{after, after_all, reply_to}
 use Rattle.ov_model.proofs.Runs.{after_all-more, lines-more}
-use Rattle.ov_machine.specs.Disks.{Holds, KeepsPlain, KeepsStep}
+use Rattle.ov_machine.specs.Disks.{Holds, KeepsStep, StandsForPlain}
 use Rattle.ov_machine.specs.Machine.{IsCommand, KeptOn, LeavesStep, StandsFor, StepsAt}
 use Rattle.ov_machine.specs.declared.fault.StepFault.{StepFault}
 use Rattle.ov_machine.specs.declared.fault.StepFault.TheVariants.{Disk, Memory, Tag, Trace}
+use Rattle.ov_machine.proofs.Stays.{holds_stands, keeps_stands}
 use Rattle.ov_answering.proofs.Answering.{commands_come}
 use Rattle.ov_load.specs.Loading.{KeepsSome, LoadedTo, Loads, TalliesAt, after_first, after_load}
 use Rattle.ov_load.specs.Tallying.{AreAtMost, Takes, TalliesNothing, counted, counted_all}
@@ -126,7 +127,7 @@ module _ {D : Type 0} (tells : DiskTells D) where
       stands = stands;
       holds = λ holds. holds;
       moments = λ holds. started tells first.disk (KeepsSome k h load)
-          (λ c left. (0, omega arith, inr (holds.each c left)));
+          (λ c left. (0, omega arith, holds_stands tells k h first.disk holds c left));
     }
 
     module _ (place next : ℕ) (is : next ≡ place + 1) (low : place < WORKLOAD_USERS + load.count)
@@ -142,8 +143,12 @@ module _ {D : Type 0} (tells : DiskTells D) where
       after_is = ap (after_all h) (first_more load.number place next is) ∙ after_all-more h (first_commands load.number place) command
 
       step_some : (c : Image) → KeepsStep k q command c → KeepsSome k h load c
-      step_some c (inl keeps) = (place, omega (arith, low), inr keeps)
-      step_some c (inr keeps) = (next, omega (arith, low, is), inr (subst (λ x. KeepsPlain k x c) (sym after_is) keeps))
+      step_some c (inl keeps) = (place, omega (arith, low), keeps_stands k q c keeps)
+      step_some c (inr keeps) = (
+        next,
+        omega (arith, low, is),
+        subst (λ x. StandsForPlain k x c) (sym after_is) (keeps_stands k (after q command) c keeps),
+      )
 
       moments_so : LeavesStep tells k q command mid.disk last.disk → Holds tells k h first.disk
           → LeavesOnly tells first.disk last.disk (KeepsSome k h load)

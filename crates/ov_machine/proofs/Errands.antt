@@ -1,4 +1,4 @@
--- The four errands of an owner, at any store.
+-- The five errands of an owner, at any store.
 use Rattle.std.proofs.Common.{◌≡◌, ◌∙◌, ℕ, Bool, true, false, not, List, length, None, Result, Ok, Err, refl, sym, ap, subst, inl, inr}
 use Rattle.std.specs.Prelude.{◌⊎◌, is_some}
 use Rattle.std.proofs.lemmas.List.{length-map}
@@ -30,7 +30,7 @@ use Rattle.ov_protocol.specs.Serving.{Serving}
 use Rattle.ov_protocol.specs.Answers.{Answers}
 use Rattle.ov_protocol.specs.Asking.{AnswersAsk, AnswersCover, known_at, numbers_for, plan_for, refusal_to}
 use Rattle.ov_peer.specs.Disks.{MayNeedDisk}
-use Rattle.ov_owner.specs.Errands.{Errand, created, creating, enrolling, granting, known_of, plan_of, revoking, sealed_by}
+use Rattle.ov_owner.specs.Errands.{Errand, created, creating, enrolling, granting, known_of, plan_of, removing, revoking, sealed_by}
 use Rattle.ov_owner.specs.Steps.{IsErrandFor}
 use Rattle.ov_owner.specs.declared.fault.OwnerFault.{OwnerFault}
 use Rattle.ov_owner.specs.declared.fault.OwnerFault.TheVariants as faults
@@ -101,6 +101,14 @@ revoke_honest user file = record {
       (λ none. record { at_epoch = refl; free = none; parts = tt });
 }
 
+remove_honest : (file : List ℕ) → IsHonest (removing file)
+remove_honest file = record {
+  quiet = λ none. none;
+  fits = λ s. ask_fits s.catalogue (questions.Remove file);
+  tells = λ s a is. asked s.catalogue (questions.Remove file) a _ is
+      (λ none. record { at_epoch = refl; free = none; parts = tt });
+}
+
 -- a creation has the parts of its plan, and its text has the length of the file
 covered : (c : Catalogue) (base file : List ℕ) (list : ℕ) (bytes : List ℕ)
     → refusal_at c (Created file list (length bytes)) ≡ None
@@ -144,4 +152,5 @@ honest base (commands.Create file names bytes) e is =
     subst IsHonest (sym is) (create_honest base file names bytes)
 honest base (commands.Grant user file) e is = subst IsHonest (sym is) (grant_honest base user file)
 honest base (commands.Revoke user file) e is = subst IsHonest (sym is) (revoke_honest user file)
+honest base (commands.Remove file) e is = subst IsHonest (sym is) (remove_honest file)
 honest base command e is = absurd is

@@ -51,7 +51,7 @@ use Rattle.ov_machine.proofs.Quiet.{asked_stays, quiet_asked, says}
 use Rattle.ov_machine.proofs.Stays.{fails_same, rose_since, shows_same, stays_then}
 
 -- the third test of a read comes only where the file is there
-file_there : (a b c : Bool)
+pub file_there : (a b c : Bool)
     → first_of_tests ((NoUser, a) ∷ (NoFile, b) ∷ (NoPath, c) ∷ []) ≡ None → b ≡ false
 file_there true b c none = cc
 file_there false true c none = cc

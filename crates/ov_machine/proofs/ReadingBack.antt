@@ -2,20 +2,23 @@
 use Rattle.std.proofs.Common.{◌≡◌, ◌∙◌, ℕ, List, [], ◌∷◌, Bool, true, false, not, Option, Some, None, Result, Ok, Err, refl, sym, ap, subst, inl, inr, arith}
 use Rattle.std.specs.Prelude.{◌⊎◌}
 use Rattle.std.proofs.lemmas.List.{nil_from_length}
+use Rattle.ov_base.proofs.Tests.{true_of_not}
 use Rattle.ov_base.specs.declared.refusal.Refusal.{Refusal}
 use Rattle.ov_base.specs.declared.refusal.Refusal.TheVariants.{NoUser}
 use Rattle.ov_disk.specs.Tells.{DiskTells}
 use Rattle.ov_record.specs.Updates.{SealedUpdate}
 use Rattle.ov_history.specs.Asking.{key_refusal, user_named}
 use Rattle.ov_history.specs.Catalogue.{Catalogue, matrix_shown}
-use Rattle.ov_history.specs.History.{Matrix, matrix_of}
-use Rattle.ov_history.specs.Lists.{file_number, is_user, user_number}
+use Rattle.ov_history.specs.Fading.{faded_of}
+use Rattle.ov_history.specs.FadingLaws.{IsRight}
+use Rattle.ov_history.specs.History.{History, Matrix, matrix_of}
+use Rattle.ov_history.specs.Lists.{file_number, is_file, is_user, user_number}
 use Rattle.ov_history.specs.Masters.{Masters}
-use Rattle.ov_history.specs.Plain.{PlainHistory, history_of}
+use Rattle.ov_history.specs.Plain.{PlainHistory, bytes_of, history_of}
 use Rattle.ov_history.specs.Refusals.{IsLegal, Test, first_of_tests, read_refusal}
 use Rattle.ov_history.specs.Sealed.{SealedHistory}
 use Rattle.ov_history.specs.Sealing.{sealed}
-use Rattle.ov_history.proofs.Sealing.{sealed_comes_of_one}
+use Rattle.ov_history.proofs.Fading.{right_histories_read_alike}
 use Rattle.ov_script.specs.declared.command.Command.TheVariants.{Read}
 use Rattle.ov_script.specs.declared.reply.Reply.TheVariants.{Bytes, Refused}
 use Rattle.ov_model.specs.Step.{bytes_reply, reply_or, reply_to}
@@ -45,7 +48,7 @@ use Rattle.ov_owner.specs.declared.fault.OwnerFault.TheVariants as faults
 use Rattle.ov_peer.proofs.Following.{followed-nil}
 use Rattle.ov_machine.specs.Machine.{Kept, KeptOn, StandsFor, opened_of}
 use Rattle.ov_machine.specs.Seats.{AllStay, Stays, served}
-use Rattle.ov_machine.proofs.Fetching.{HasRootsAt}
+use Rattle.ov_machine.proofs.Fetching.{HasRootsAt, file_there}
 use Rattle.ov_machine.proofs.Stays.{serves_still, shows_told}
 use Rattle.ov_machine.proofs.AsTold.{service_at}
 use Rattle.ov_machine.proofs.Stepping.{serves_at, shows}
@@ -134,7 +137,7 @@ right_all : (k : Masters) (p : PlainHistory) (g : SealedHistory) (histories : Li
     → IsLegal (history_of p) → g ≡ sealed k p → AllAre g histories → AreRight k histories
 right_all k p g [] legal is all = tt
 right_all k p g (other ∷ histories) legal is (same, all) =
-    ((p, legal, same ∙ is), right_all k p g histories legal is all)
+    ((p, legal, ap (λ (it : SealedHistory). faded_of it) (same ∙ is)), right_all k p g histories legal is all)
 
 -- the history of the last Chain, if there was one, is this one
 abbrev is_none_or : SealedHistory → Option SealedHistory → Type 0
@@ -154,16 +157,42 @@ last_so g before (a ∷ asks) (other ∷ histories) (same, all) is =
     last_so g (now_if (is_chain a.request) other before) asks histories all
     (now_so (is_chain a.request) g other before same is)
 
+-- a read isn't refused so, or is
+abbrev is_answered_so : History → List ℕ → List ℕ → Option Refusal → Type 0
+is_answered_so h user file why =
+    let m = matrix_of h in read_refusal m (user_number m user) (file_number m file) ≡ why
+
+-- two histories that are one without bytes, and have the same bytes of each file that is there,
+-- answer a read alike
+reads_alike : (p q : PlainHistory) (user file : List ℕ) (result : Result (List ℕ) ClientFault)
+    → history_of p ≡ history_of q
+    → ((n : ℕ) → is_file (matrix_of (history_of p)) n ≡ true → bytes_of p n ≡ bytes_of q n)
+    → IsReadAt q user file result → IsReadAt p user file result
+reads_alike p q user file (Ok bytes) same read (none, is) =
+    let m = matrix_of (history_of p) in
+    let allowed : is_answered_so (history_of p) user file None =
+    subst (λ (h : History). is_answered_so h user file None) (sym same) none in
+    let there : is_file m (file_number m file) ≡ true =
+    true_of_not (is_file m (file_number m file)) (file_there _ _ _ allowed) in (
+      allowed,
+      is ∙ ap (λ (h : History). bytes_of q (file_number (matrix_of h) file)) (sym same)
+          ∙ sym (read (file_number m file) there),
+    )
+reads_alike p q user file (Err (client.Refused why)) same read is =
+    subst (λ (h : History). is_answered_so h user file (Some why)) (sym same) is
+reads_alike p q user file (Err fault) same read is = absurd is
+
 -- what the machine answers at the last Chain it answers at this history
 at_one_so : (k : Masters) (p : PlainHistory) (o : Option SealedHistory) (user file : List ℕ)
-    (result : Result (List ℕ) ClientFault)
+    (result : Result (List ℕ) ClientFault) → IsLegal (history_of p)
     → is_none_or (sealed k p) o → MachineAnswers k o user file result → IsReadAt p user file result
-at_one_so k p o user file result (inl none) (q, legal, is, reads) = absurd (cc (none, is))
-at_one_so k p o user file result (inr some) (q, legal, is, reads) =
-    let both : Some (sealed k p) ≡ Some (sealed k q) = sym some ∙ is in
-    let same : sealed k p ≡ sealed k q = cc both in
-    subst (λ (x : PlainHistory). IsReadAt x user file result)
-    (sym (sealed_comes_of_one k p q same)) reads
+at_one_so k p o user file result legal (inl none) (q, g, is, right, reads) = absurd (cc (none, is))
+at_one_so k p o user file result legal (inr some) (q, g, is, right, reads) =
+    let both : Some g ≡ Some (sealed k p) = sym is ∙ some in
+    let same : g ≡ sealed k p = cc both in
+    let alike = right_histories_read_alike k p q (sealed k p) (legal, refl)
+    (subst (λ (it : SealedHistory). IsRight k q it) same right) in
+    reads_alike p q user file result alike.0 alike.1 reads
 
 -- ---- the read
 
@@ -175,18 +204,18 @@ IsReadThere p user file (Err (client.Damaged stored computed)) = ⊥
 IsReadThere p user file (Err fault) = Unit {0}
 
 there_so : (k : Masters) (p : PlainHistory) (o : Option SealedHistory) (user file : List ℕ)
-    (result : Result (List ℕ) ClientFault)
+    (result : Result (List ℕ) ClientFault) → IsLegal (history_of p)
     → is_none_or (sealed k p) o → IsAsMachine k o user file result
     → IsReadThere p user file result
-there_so k p o user file (Ok bytes) at_p is = at_one_so k p o user file (Ok bytes) at_p is
-there_so k p o user file (Err (client.Refused why)) at_p is =
-    at_one_so k p o user file (Err (client.Refused why)) at_p is
-there_so k p o user file (Err (client.Damaged stored computed)) at_p is = is
-there_so k p o user file (Err client.Link) at_p is = tt
-there_so k p o user file (Err (client.BadReply place)) at_p is = tt
-there_so k p o user file (Err client.Device) at_p is = tt
-there_so k p o user file (Err (client.Unsettled generations)) at_p is = tt
-there_so k p o user file (Err client.Memory) at_p is = tt
+there_so k p o user file (Ok bytes) legal at_p is = at_one_so k p o user file (Ok bytes) legal at_p is
+there_so k p o user file (Err (client.Refused why)) legal at_p is =
+    at_one_so k p o user file (Err (client.Refused why)) legal at_p is
+there_so k p o user file (Err (client.Damaged stored computed)) legal at_p is = is
+there_so k p o user file (Err client.Link) legal at_p is = tt
+there_so k p o user file (Err (client.BadReply place)) legal at_p is = tt
+there_so k p o user file (Err client.Device) legal at_p is = tt
+there_so k p o user file (Err (client.Unsettled generations)) legal at_p is = tt
+there_so k p o user file (Err client.Memory) legal at_p is = tt
 
 -- a read of a machine that stands for the history, with the keys of its user's roots
 pub read_there : {D : Type 0} (tells : DiskTells D)
@@ -205,7 +234,7 @@ read_there tells old p stands user file r reader asks o
     let is = reads_are_the_machines k r file asks o result v last histories reader.keys refl talks
     along (right_all k p v.history histories stands.0.0 refl all) in
     subst (λ (name : List ℕ). IsReadThere p name file result) reader.name
-    (there_so k p (last_chain None asks histories) r.name file result
+    (there_so k p (last_chain None asks histories) r.name file result stands.0.0
     (last_so (sealed k p) None asks histories all (inl refl)) is)
 
 -- bytes and refusals are the machine's replies

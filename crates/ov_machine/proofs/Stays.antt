@@ -1,5 +1,5 @@
 -- Stores of which all stays but the disk, to which nothing is written.
-use Rattle.std.proofs.Common.{◌≡◌, ◌∙◌, ◌≤◌, ℕ, List, Option, Some, None, refl, sym, ap, subst, arith}
+use Rattle.std.proofs.Common.{◌≡◌, ◌∙◌, ◌≤◌, ℕ, List, Option, Some, None, refl, sym, ap, subst, arith, inr}
 use Rattle.std.specs.Prelude.{IsSome, IsSomeAnd, IfSome, is_some}
 use Rattle.ov_base.specs.Causes.{Rose}
 use Rattle.ov_disk.specs.Disk.{Image}
@@ -13,7 +13,7 @@ use Rattle.ov_protocol.proofs.GoingOn.{services_are_served}
 use Rattle.ov_server.specs.Answering.{serving_of}
 use Rattle.ov_server.specs.Locally.{IsServedBy}
 use Rattle.ov_store.specs.Opened.{Opened}
-use Rattle.ov_machine.specs.Disks.{Holds}
+use Rattle.ov_machine.specs.Disks.{Holds, KeepsPlain, StandsForPlain}
 use Rattle.ov_machine.specs.Seats.{Stays}
 
 -- ---- bytes that are told
@@ -42,6 +42,13 @@ shows_told s v (serves, told) =
       all_told : (o : Option (List (List ℕ))) (x : Serving) → IsSome o → told_as o x ≡ x
       all_told None x tells = absurd (cc tells)
       all_told (Some bytes) x tells = refl
+
+-- ---- images
+
+-- an image that keeps the history stands for it
+pub keeps_stands : (k : Masters) (p : PlainHistory) (c : Image) → KeepsPlain k p c
+    → StandsForPlain k p c
+keeps_stands k p c (g, right, keeps) = (g, right, inr keeps)
 
 -- ---- counts
 
@@ -91,11 +98,23 @@ module _ {D : Type 0} (tells : DiskTells D) where
 
   -- ---- its disk
 
+  -- each image that a crash may leave of a disk that holds the history keeps it
+  pub holds_each : (k : Masters) (p : PlainHistory) (disk : D) → Holds tells k p disk
+      → (c : Image) → tells.may_leave disk c → KeepsPlain k p c
+  holds_each k p disk holds c left = (holds.kept, holds.right, holds.each c left)
+
+  -- and stands for it
+  pub holds_stands : (k : Masters) (p : PlainHistory) (disk : D) → Holds tells k p disk
+      → (c : Image) → tells.may_leave disk c → StandsForPlain k p c
+  holds_stands k p disk holds c left = (holds.kept, holds.right, inr (holds.each c left))
+
   module _ (old new : D) (quiet : IsUntouched tells old new) where
     -- a disk holds the history that it held
     pub holds_still : (k : Masters) (p : PlainHistory) → Holds tells k p old → Holds tells k p new
     holds_still k p holds = record {
       told = (holds.told.0, quiet.reads_same ∙ holds.told.1);
+      kept = holds.kept;
+      right = holds.right;
       each = λ c left. holds.each c (quiet.no_more c left);
     }
 

@@ -5,6 +5,7 @@ use Rattle.ov_disk.specs.Disk.{Image}
 use Rattle.ov_disk.proofs.Runs.{weaker}
 use Rattle.ov_disk.specs.Tells.{DiskTells}
 use Rattle.ov_images.specs.Images.{Keeps, keys_of}
+use Rattle.ov_record.specs.Updates.{SealedUpdate}
 use Rattle.ov_script.specs.declared.command.Command.{Command}
 use Rattle.ov_script.specs.declared.reply.Reply.{Reply}
 use Rattle.ov_script.specs.declared.reply.Reply.TheVariants.{Refused}
@@ -13,18 +14,19 @@ use Rattle.ov_history.specs.Laws.{ShowsHistory}
 use Rattle.ov_history.specs.Masters.{Masters}
 use Rattle.ov_history.specs.Plain.{PlainHistory, PlainUpdate, history_of, measured_all, with_plain}
 use Rattle.ov_history.specs.Refusals.{IsLegal}
+use Rattle.ov_history.specs.Fading.{faded_of}
 use Rattle.ov_history.specs.Kept.{AreKept}
 use Rattle.ov_history.specs.Sealed.{KeepsBytes, SealedHistory, StandsFor as SealedFor}
 use Rattle.ov_history.specs.Sealed.{stored_all}
-use Rattle.ov_history.specs.Sealing.{sealed}
-use Rattle.ov_history.proofs.Keeping.{kept_stands_for}
+use Rattle.ov_history.specs.Sealing.{IsSealedAs, sealed}
 use Rattle.ov_history.proofs.PlainLaws.{measured_all-append}
 use Rattle.ov_model.specs.Step.{after, step}
+use Rattle.ov_model.proofs.Agreeing.{agreement_goes_on, right_is_sealed, right_keeps, right_shows}
 use Rattle.ov_model.proofs.Legality.{legal-after}
 use Rattle.ov_wire.specs.Requests.{request_bytes}
 use Rattle.ov_wire.specs.RequestReading.{request_of}
 use Rattle.ov_protocol.specs.Replies.{updates_asked}
-use Rattle.ov_protocol.specs.Serving.{Service, Serving, followed, later}
+use Rattle.ov_protocol.specs.Serving.{Service, Serving, followed}
 use Rattle.ov_protocol.specs.Updating.{spelled_by}
 use Rattle.ov_protocol.proofs.Untold.{told_still}
 use Rattle.ov_protocol.proofs.Reading.{request_back}
@@ -43,12 +45,12 @@ use Rattle.ov_machine.specs.Seats.{Stays}
 use Rattle.ov_machine.specs.Replying.{change_reply}
 use Rattle.ov_machine.specs.declared.fault.StepFault.{StepFault}
 use Rattle.ov_machine.specs.declared.fault.StepFault.TheVariants.{Disk, Memory, Tag, Trace}
-use Rattle.ov_machine.proofs.AsTold.{after_it, all_told, as_far_as_told, refused_so, reply_is, sealed_is, serves_as_told, service_at, shows_as_told, stands_as_told, stands_then}
+use Rattle.ov_machine.proofs.AsTold.{all_told, as_far_as_told, refused_so, reply_is, sealed_is, serves_as_told, service_at, shows_as_told, stands_as_told, stands_then}
 use Rattle.ov_machine.proofs.Changed.{Changes, IsFailed, IsMade, IsSentTo, cut, refused, sent}
 use Rattle.ov_machine.proofs.Errands.{IsHonest}
 use Rattle.ov_machine.proofs.Making.{ComesTo}
-use Rattle.ov_machine.proofs.Stays.{are_told, fails_same, holds_still, quiet_then}
-use Rattle.ov_machine.proofs.Stays.{serves_still, shows_same}
+use Rattle.ov_machine.proofs.Stays.{are_told, fails_same, holds_each, holds_still, if_told}
+use Rattle.ov_machine.proofs.Stays.{quiet_then, serves_still, shows_same}
 use Rattle.ov_machine.proofs.Staying.{same_kept}
 use Rattle.ov_machine.proofs.Updating.{now_so, stays, stays_left}
 
@@ -99,6 +101,20 @@ module _ {D : Type 0} (tells : DiskTells D) (old new : KeptOn D) (p : PlainHisto
   abbrev as_told : StandsAsTold old.kept p
   as_told = as_far_as_told old.kept p stands
 
+  -- what is kept is also that of a store after the history that the disk holds
+  kept_shown : (holds : Holds tells k p old.disk)
+      → SealedFor k.surface old.kept.catalogue holds.kept
+  kept_shown holds = (
+    right_is_sealed k p holds.kept legal holds.right,
+    stands.0.1 ∙ sym (right_shows k p holds.kept legal holds.right),
+  )
+
+  kept_stored : (holds : Holds tells k p old.disk)
+      → IfSome old.kept.stored (λ bytes. KeepsBytes k.surface bytes holds.kept)
+  kept_stored holds =
+      if_told old.kept.stored (AreKept k p) (λ bytes. KeepsBytes k.surface bytes holds.kept) stands.1
+      (λ bytes are. are ∙ sym (right_keeps k p holds.kept legal holds.right))
+
   -- ---- an update
 
   module _ (result : Result ℕ OwnerFault)
@@ -116,21 +132,28 @@ module _ {D : Type 0} (tells : DiskTells D) (old new : KeptOn D) (p : PlainHisto
     holds_there : Holds tells k p old.disk → Holds tells k p mid.disk
     holds_there = holds_still tells old.disk mid.disk x.stays.writes.disk k p
 
-    -- it stands for the history, on a disk that holds it
-    stands_there : Holds tells k p old.disk → Serves tells (sealed k p) mid
+    -- it stands for the history that the disk holds
+    stands_there : (holds : Holds tells k p old.disk) → Serves tells holds.kept mid
     stands_there holds = record {
-      catalogue = subst (λ (y : Opened D). SealedFor y.keys.surface y.catalogue (sealed k p))
-          (sym x.stays.writes.same) (kept_stands_for k p old.kept.catalogue stands.0);
+      catalogue = subst (λ (y : Opened D). SealedFor y.keys.surface y.catalogue holds.kept)
+          (sym x.stays.writes.same) (kept_shown holds);
       bytes = subst (λ (y : Opened D). IfSome y.stored (λ bytes. KeepsBytes y.keys.surface bytes
-          (sealed k p))) (sym x.stays.writes.same) (serves_at old p stands).0.keeps;
+          holds.kept)) (sym x.stays.writes.same) (kept_stored holds);
       told = serves_there.1 ∙ sym (ap is_some (holds_there holds).told.1);
-      disk = λ _ i read c left. subst (λ (y : Opened D). Keeps y.keys (sealed k p) c)
-          (sym x.stays.writes.same) ((holds_there holds).each c left);
+      disk = λ _ i read c left. subst (λ (y : Opened D). Keeps y.keys holds.kept c)
+          (sym x.stays.writes.same) (holds.each c (x.stays.writes.disk.no_more c left));
       after_fault = λ failed. absurd (true≢false (sym failed ∙ sound_there));
     }
 
     after_is : followed (sealed k p) (x.update ∷ []) ≡ sealed k (after p command)
     after_is = sealed_is tells old new p as_told masters command e ours is_honest result x
+
+    -- what the disk holds, with the update, is right for the history after the command
+    right_then : (holds : Holds tells k p old.disk)
+        → IsSealedAs k (after p command) (followed holds.kept (x.update ∷ []))
+    right_then holds =
+        agreement_goes_on holds.kept (sealed k p) x.update holds.right
+        ∙ ap (λ (g : SealedHistory). faded_of g) after_is
 
     -- what the request asks for is the update
     asks_it : updates_asked (request_of (request_bytes (update_request k.surface x.epoch x.update))) ≡ x.update ∷ []
@@ -138,19 +161,22 @@ module _ {D : Type 0} (tells : DiskTells D) (old new : KeptOn D) (p : PlainHisto
         ap updates_asked (request_back (update_request k.surface x.epoch x.update) x.form.1)
         ∙ ap spelled_by (read_back x.update x.form.0)
 
-    either : (c : Image)
-        → KeepsWith (keys_of k) (sealed k p) (updates_asked (request_of (request_bytes (update_request k.surface x.epoch x.update)))) c
+    either : (holds : Holds tells k p old.disk) (c : Image)
+        → KeepsWith (keys_of k) holds.kept (updates_asked (request_of (request_bytes (update_request k.surface x.epoch x.update)))) c
         → KeepsStep k p command c
-    either c (inl keeps) = inl keeps
-    either c (inr keeps) =
-        inr (subst (λ (g : SealedHistory). Keeps (keys_of k) g c)
-        (ap (followed (sealed k p)) asks_it ∙ after_is) keeps)
+    either holds c (inl keeps) = inl (holds.kept, holds.right, keeps)
+    either holds c (inr keeps) =
+        inr (
+          followed holds.kept (x.update ∷ []),
+          right_then holds,
+          subst (λ (us : List SealedUpdate). Keeps (keys_of k) (followed holds.kept us) c) asks_it keeps,
+        )
 
-    either_there : (c : Image)
-        → KeepsWith mid.keys (sealed k p) (updates_asked (request_of (request_bytes (update_request k.surface x.epoch x.update)))) c
+    either_there : (holds : Holds tells k p old.disk) (c : Image)
+        → KeepsWith mid.keys holds.kept (updates_asked (request_of (request_bytes (update_request k.surface x.epoch x.update)))) c
         → KeepsStep k p command c
-    either_there c keeps =
-        either c (subst (λ (y : Opened D). KeepsWith y.keys (sealed k p)
+    either_there holds c keeps =
+        either holds c (subst (λ (y : Opened D). KeepsWith y.keys holds.kept
         (updates_asked (request_of (request_bytes (update_request k.surface x.epoch x.update)))) c)
         x.stays.writes.same keeps)
 
@@ -158,22 +184,20 @@ module _ {D : Type 0} (tells : DiskTells D) (old new : KeptOn D) (p : PlainHisto
         → LeavesStep tells k p command old.disk new.disk
     leaves_so holds =
         let moments = weaker tells mid.disk new.disk
-        (KeepsWith mid.keys (sealed k p) (updates_asked (request_of (request_bytes (update_request k.surface x.epoch x.update)))))
+        (KeepsWith mid.keys holds.kept (updates_asked (request_of (request_bytes (update_request k.surface x.epoch x.update)))))
         (KeepsStep k p command)
-        (x.asks.any_moment (sealed k p) (stands_there holds) sound_there (holds_there holds).told.0
+        (x.asks.any_moment holds.kept (stands_there holds) sound_there (holds_there holds).told.0
         (holds_there holds).told.1)
-        either_there in
+        (either_there holds) in
         let all = quiet_then tells old.disk mid.disk x.stays.writes.disk new.disk
-        (KeepsStep k p command) (λ c left. inl (holds.each c left)) moments in record {
+        (KeepsStep k p command) (λ c left. inl (holds_each tells k p old.disk holds c left))
+        moments in record {
           moments = all;
           now = now_so tells old.disk new.disk (KeepsStep k p command) all;
         }
 
-    -- what is served then is the history after the command
+    -- what is kept then is the history after the command
     module _ (made : IsMade tells k.surface e is_honest mid t x.epoch x.update x.reply result) where
-      served_is : (later (service_at k p) made.answered.frame.made).history ≡ sealed k (after p command)
-      served_is = after_it tells old new p as_told masters command e ours is_honest result x made
-
       -- the store still tells its bytes
       tells_on : IsSome t.stored
       tells_on =
@@ -191,12 +215,15 @@ module _ {D : Type 0} (tells : DiskTells D) (old new : KeptOn D) (p : PlainHisto
       holds_so holds =
           let there = holds_there holds in
           let image = made.answered.told there.told.0 there.told.1 in
-          let more = made.answered.lasts (sealed k p) (stands_there holds) in
+          let more = made.answered.lasts holds.kept (stands_there holds) in
           let still : t.failed ≡ false = made.answered.failed ∙ sound_there in record {
             told = image;
+            kept = followed holds.kept (x.update ∷ []);
+            right = right_then holds;
             each = λ c left.
-                subst (λ (g : SealedHistory). Keeps (keys_of k) g c) served_is
-                (subst (λ (x : Masters). Keeps (keys_of x) (followed (sealed k p) made.answered.frame.made) c)
+                subst (λ (us : List SealedUpdate). Keeps (keys_of k) (followed holds.kept us) c)
+                made.makes
+                (subst (λ (y : Masters). Keeps (keys_of y) (followed holds.kept made.answered.frame.made) c)
                 masters (more.disk still image.0 image.1 c left));
           }
 
@@ -263,7 +290,8 @@ module _ {D : Type 0} (tells : DiskTells D) (old new : KeptOn D) (p : PlainHisto
 
     by : (x : Result Reply StepFault) → StepsAt tells k p command old new x
         → Holds tells k p old.disk → (c : Image) → tells.may_leave new.disk c → KeepsPlain k (after p command) c
-    by (Ok reply) goes holds c left = (goes.1.holds holds).each c left
+    by (Ok reply) goes holds c left =
+        holds_each tells k (after p command) new.disk (goes.1.holds holds) c left
     by (Err Disk) leaves holds c left = either_way c ((leaves holds).now c left)
     by (Err Trace) leaves holds c left = either_way c ((leaves holds).now c left)
     by (Err Memory) leaves holds c left = either_way c ((leaves holds).now c left)
@@ -306,6 +334,7 @@ module _ {D : Type 0} (tells : DiskTells D) (old new : KeptOn D) (p : PlainHisto
       by_reply : IsMade tells k.surface e is_honest x.mid t x.epoch x.update x.reply result
           ⊎ IsFailed tells k.surface e is_honest x.mid t x.epoch x.update x.reply result
           → HasMade tells k p command old.disk new.disk
-      by_reply (inl made) = λ holds c left. (holds_so result x made holds).each c left
+      by_reply (inl made) = λ holds c left.
+          holds_each tells k (after p command) new.disk (holds_so result x made holds) c left
       by_reply (inr failed) =
           absurd (unmade (failed.faulted.same ∙ shows_same tells s x.mid x.stays))

@@ -11,7 +11,7 @@ use Rattle.ov_history.specs.Plain.{PlainHistory}
 use Rattle.ov_model.specs.Step.{after, reply_to}
 use Rattle.ov_machine.specs.Disks.{HasMade, Holds, KeepsPlain, KeepsStep}
 use Rattle.ov_machine.specs.Machine.{KeptOn, StandsFor, LeavesStep, StepsAt}
-use Rattle.ov_machine.proofs.Stays.{holds_still, quiet_leaves}
+use Rattle.ov_machine.proofs.Stays.{holds_each, holds_still, quiet_leaves}
 
 module _ {D : Type 0} (tells : DiskTells D) where
   -- what a run leaves that any moment since its start left so
@@ -23,7 +23,8 @@ module _ {D : Type 0} (tells : DiskTells D) where
   pub still_made : (k : Masters) (p : PlainHistory) (command : Command) (old new : D)
       → after p command ≡ p → IsUntouched tells old new → HasMade tells k p command old new
   still_made k p command old new same quiet = λ holds c left.
-      subst (λ q. KeepsPlain k q c) (sym same) (holds.each c (quiet.no_more c left))
+      subst (λ q. KeepsPlain k q c) (sym same)
+      (holds_each tells k p old holds c (quiet.no_more c left))
 
   module _ (old new : KeptOn D) (quiet : IsUntouched tells old.disk new.disk) (k : Masters)
       (p : PlainHistory) (command : Command) where
@@ -31,8 +32,8 @@ module _ {D : Type 0} (tells : DiskTells D) where
     pub stays_left : Holds tells k p old.disk → LeavesStep tells k p command old.disk new.disk
     stays_left holds = record {
       moments = quiet_leaves tells old.disk new.disk quiet (KeepsStep k p command)
-          (λ c left. inl (holds.each c left));
-      now = λ c left. inl (holds.each c (quiet.no_more c left));
+          (λ c left. inl (holds_each tells k p old.disk holds c left));
+      now = λ c left. inl (holds_each tells k p old.disk holds c (quiet.no_more c left));
     }
 
     -- the command is answered, and the history stays

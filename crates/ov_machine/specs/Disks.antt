@@ -7,18 +7,21 @@ use Rattle.ov_images.specs.Images.{IsImageOf, Keeps, keys_of}
 use Rattle.ov_script.specs.declared.command.Command.{Command}
 use Rattle.ov_history.specs.Masters.{Masters}
 use Rattle.ov_history.specs.Plain.{PlainHistory}
-use Rattle.ov_history.specs.Sealing.{sealed}
+use Rattle.ov_history.specs.Sealed.{SealedHistory}
+use Rattle.ov_history.specs.Sealing.{IsSealedAs}
 use Rattle.ov_model.specs.Step.{after}
 
 -- ---- images
 
--- the image keeps the history as it is sealed under the two masters
+-- the image keeps the history as it is sealed under the two masters, but for the tags and the bytes
+-- of files that are gone
 abbrev pub KeepsPlain : Masters → PlainHistory → Image → Type 0
-KeepsPlain k p c = Keeps (keys_of k) (sealed k p) c
+KeepsPlain k p c = (g : SealedHistory) × IsSealedAs k p g × Keeps (keys_of k) g c
 
--- the image stands for the history as it is sealed under the two masters
+-- the image stands for the history as it is sealed under the two masters, but for the tags and the
+-- bytes of files that are gone
 abbrev pub StandsForPlain : Masters → PlainHistory → Image → Type 0
-StandsForPlain k p c = IsImageOf (keys_of k) (sealed k p) c
+StandsForPlain k p c = (g : SealedHistory) × IsSealedAs k p g × IsImageOf (keys_of k) g c
 
 -- the image keeps the history from before a command, or that after it
 abbrev pub KeepsStep : Masters → PlainHistory → Command → Image → Type 0
@@ -31,10 +34,13 @@ abbrev pub TellsNothing : Option Image → Type 0
 TellsNothing reads = Told reads (λ _. ⊥)
 
 module _ {D : Type 0} (tells : DiskTells D) where
-  -- the disk tells its bytes, and each image that a crash may leave of it keeps the history
+  -- The disk tells its bytes, and each image that a crash may leave of it keeps one history: this
+  -- one as it is sealed, but for the tags and the bytes of files that are gone.
   pub record Holds (k : Masters) (p : PlainHistory) (disk : D) : Type 0 where
     pub told : (i : Image) × (tells.reads disk ≡ Some i)
-    pub each : (c : Image) → tells.may_leave disk c → KeepsPlain k p c
+    pub kept : SealedHistory
+    pub right : IsSealedAs k p kept
+    pub each : (c : Image) → tells.may_leave disk c → Keeps (keys_of k) kept c
 
   -- where the disk held the history, each image that a crash may leave of it now keeps the history
   -- after the command

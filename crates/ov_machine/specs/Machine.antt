@@ -10,7 +10,7 @@ use Rattle.ov_keyfile.specs.KeyFile.{IsKeyFile}
 use Rattle.ov_keyfile.specs.declared.masters.Masters.{Masters as KeyMasters}
 use Rattle.ov_record.specs.Updates.{SealedUpdate}
 use Rattle.ov_script.specs.declared.command.Command.{Command}
-use Rattle.ov_script.specs.declared.command.Command.TheVariants.{Enrol, Create, Grant, Revoke}
+use Rattle.ov_script.specs.declared.command.Command.TheVariants.{Enrol, Create, Grant, Revoke, Remove}
 use Rattle.ov_script.specs.declared.command.Command.TheVariants.{Read, List as ListNames}
 use Rattle.ov_script.specs.declared.command.Command.TheVariants.{Epoch as AskEpoch}
 use Rattle.ov_script.specs.declared.reply.Reply.{Reply}
@@ -81,6 +81,7 @@ IsCommand (Enrol user) = Unit {0}
 IsCommand (Create file list bytes) = IsCreation list bytes
 IsCommand (Grant user file) = Unit {0}
 IsCommand (Revoke user file) = Unit {0}
+IsCommand (Remove file) = Unit {0}
 IsCommand (Read user file) = Unit {0}
 IsCommand (ListNames file) = Unit {0}
 IsCommand AskEpoch = Unit {0}

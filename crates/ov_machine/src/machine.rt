@@ -62,6 +62,7 @@ fn change_of(command: &Command) -> Option<Change<'_>>
         }),
         Command::Grant { user, file } => Some(Change::Grant { user, file }),
         Command::Revoke { user, file } => Some(Change::Revoke { user, file }),
+        Command::Remove { file } => Some(Change::Remove { file }),
         Command::Read { user: _, file: _ } | Command::List { file: _ } | Command::Epoch => None,
     }
 }

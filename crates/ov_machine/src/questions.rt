@@ -84,7 +84,8 @@ impl<D: Disk> Machine<D> {
                 bytes: _,
             }
             | Command::Grant { user: _, file: _ }
-            | Command::Revoke { user: _, file: _ } => unreachable!(),
+            | Command::Revoke { user: _, file: _ }
+            | Command::Remove { file: _ } => unreachable!(),
         }
     }
 }

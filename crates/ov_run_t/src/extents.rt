@@ -9,8 +9,8 @@ use std::alloc::Global;
 use std::process::Abort;
 use std::test::Fail;
 
-// Asserts how a script over this disk is answered, how long Blobs is then, and how Book ends.
-fn assert_step(
+/// Asserts how a script over this disk is answered, how long Blobs is then, and how Book ends.
+pub fn assert_step(
     rt: &impl Abort,
     alloc: Global,
     words: &[String],

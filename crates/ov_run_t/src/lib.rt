@@ -15,6 +15,8 @@ mod frames;
 #[cfg(test)]
 mod full;
 #[cfg(test)]
+mod removed;
+#[cfg(test)]
 mod running;
 #[cfg(test)]
 mod scripts;

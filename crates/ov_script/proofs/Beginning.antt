@@ -6,10 +6,10 @@ use Rattle.std.proofs.lemmas.List.{length-replicate}
 use Rattle.ov_base.specs.declared.limits.TheConstants.{MAX_LINE_BYTES}
 use Rattle.ov_base.specs.Names.{IsName}
 use Rattle.ov_script.specs.declared.command.Command.{Command}
-use Rattle.ov_script.specs.declared.command.Command.TheVariants.{Enrol, Create, Grant, Revoke, Read, List as Command-List, Epoch}
+use Rattle.ov_script.specs.declared.command.Command.TheVariants.{Enrol, Create, Grant, Revoke, Remove, Read, List as Command-List, Epoch}
 use Rattle.ov_script.specs.declared.first_line.FirstLine.{FirstLine}
 use Rattle.ov_script.specs.declared.first_line.FirstLine.TheVariants.{Whole, WithBody}
-use Rattle.ov_script.specs.declared.front.Word.TheVariants.{Enrol as Word-Enrol, Create as Word-Create, Grant as Word-Grant, Revoke as Word-Revoke, Read as Word-Read, List as Word-List, Epoch as Word-Epoch}
+use Rattle.ov_script.specs.declared.front.Word.TheVariants.{Enrol as Word-Enrol, Create as Word-Create, Grant as Word-Grant, Revoke as Word-Revoke, Remove as Word-Remove, Read as Word-Read, List as Word-List, Epoch as Word-Epoch}
 use Rattle.ov_script.specs.declared.front.Front.TheVariants.{Start}
 use Rattle.ov_script.specs.ItemLines.{SaysWhole, SaysLine, Completes}
 use Rattle.ov_script.specs.Items.{IsItem, BeginsWithItem, CanBegin}
@@ -38,6 +38,7 @@ whole_fits line (Enrol user) (u, e) = (Word-Enrol, user, e, one_name user u)
 whole_fits line (Create file names body) p = absurd p
 whole_fits line (Grant user file) (u, f, e) = (Word-Grant, user ++ 32 ∷ file, e, two_names user file u f)
 whole_fits line (Revoke user file) (u, f, e) = (Word-Revoke, user ++ 32 ∷ file, e, two_names user file u f)
+whole_fits line (Remove file) (f, e) = (Word-Remove, file, e, one_name file f)
 whole_fits line (Read user file) (u, f, e) = (Word-Read, user ++ 32 ∷ file, e, two_names user file u f)
 whole_fits line (Command-List file) (f, e) = (Word-List, file, e, one_name file f)
 whole_fits line Epoch e = (Word-Epoch, [], e, refl)
@@ -78,6 +79,7 @@ fits_said line short (Word-Grant, rest, e, p) =
     let t = are_two_names rest p in (Whole (Grant t.user t.file), (t.user_named, t.file_named, e ∙ ap (λ l. codes "grant " ++ l) t.whole))
 fits_said line short (Word-Revoke, rest, e, p) =
     let t = are_two_names rest p in (Whole (Revoke t.user t.file), (t.user_named, t.file_named, e ∙ ap (λ l. codes "revoke " ++ l) t.whole))
+fits_said line short (Word-Remove, rest, e, p) = (Whole (Remove rest), (is_one_name rest p, e))
 fits_said line short (Word-Read, rest, e, p) =
     let t = are_two_names rest p in (Whole (Read t.user t.file), (t.user_named, t.file_named, e ∙ ap (λ l. codes "read " ++ l) t.whole))
 fits_said line short (Word-List, rest, e, p) = (Whole (Command-List rest), (is_one_name rest p, e))

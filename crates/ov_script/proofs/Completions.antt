@@ -9,7 +9,7 @@ use Rattle.ov_script.specs.LineEnds.{fewest_after, fewest_behind, fewest_from, f
 use Rattle.ov_script.specs.LineFronts.{spelling}
 use Rattle.ov_script.specs.WrittenLists.{AreNames, with_commas, list_text}
 use Rattle.ov_script.specs.declared.front.Word.{Word}
-use Rattle.ov_script.specs.declared.front.Word.TheVariants.{Enrol, Create, Grant, Revoke, Read, List as Word-List, Epoch}
+use Rattle.ov_script.specs.declared.front.Word.TheVariants.{Enrol, Create, Grant, Revoke, Remove, Read, List as Word-List, Epoch}
 use Rattle.ov_script.specs.declared.front.Stem.{Stem}
 use Rattle.ov_script.specs.declared.front.Stem.TheVariants.{E, R, Re}
 use Rattle.ov_script.specs.declared.front.Then.{Then}
@@ -82,6 +82,7 @@ behind_needs Enrol text p = name_needs (Follows End) 0 0 text (next_needs End) p
 behind_needs Create text p = name_needs (Follows Readers) 4 0 text (next_needs Readers) p
 behind_needs Grant text p = name_needs (Follows LastName) 2 0 text (next_needs LastName) p
 behind_needs Revoke text p = name_needs (Follows LastName) 2 0 text (next_needs LastName) p
+behind_needs Remove text p = name_needs (Follows End) 0 0 text (next_needs End) p
 behind_needs Read text p = name_needs (Follows LastName) 2 0 text (next_needs LastName) p
 behind_needs Word-List text p = name_needs (Follows End) 0 0 text (next_needs End) p
 behind_needs Epoch text p = omega arith
@@ -97,15 +98,18 @@ stem_needs : (stem : Stem) (text : List ℕ) → RestOfStem stem text → fewest
 stem_needs E text (inl p) = let n : 6 ≤ length text = word_needs Enrol 1 text p in omega arith
 stem_needs E text (inr p) = word_needs Epoch 1 text p
 stem_needs R text (inl p) = word_needs Read 1 text p
-stem_needs R text (inr p) = let n : 9 ≤ length text = word_needs Revoke 1 text p in omega arith
+stem_needs R text (inr (inl p)) = word_needs Remove 1 text p
+stem_needs R text (inr (inr p)) = let n : 9 ≤ length text = word_needs Revoke 1 text p in omega arith
 stem_needs Re text (inl p) = word_needs Read 2 text p
-stem_needs Re text (inr p) = let n : 8 ≤ length text = word_needs Revoke 2 text p in omega arith
+stem_needs Re text (inr (inl p)) = word_needs Remove 2 text p
+stem_needs Re text (inr (inr p)) = let n : 8 ≤ length text = word_needs Revoke 2 text p in omega arith
 
 shortest_word : (word : Word) → 5 ≤ length (spelling word) + fewest_behind word
 shortest_word Enrol = omega arith
 shortest_word Create = omega arith
 shortest_word Grant = omega arith
 shortest_word Revoke = omega arith
+shortest_word Remove = omega arith
 shortest_word Read = omega arith
 shortest_word Word-List = omega arith
 shortest_word Epoch = omega arith
@@ -166,6 +170,7 @@ some_behind Enrol = some_name (Follows End) 0 (some_next End)
 some_behind Create = some_name (Follows Readers) 4 (some_next Readers)
 some_behind Grant = some_name (Follows LastName) 2 (some_next LastName)
 some_behind Revoke = some_name (Follows LastName) 2 (some_next LastName)
+some_behind Remove = some_name (Follows End) 0 (some_next End)
 some_behind Read = some_name (Follows LastName) 2 (some_next LastName)
 some_behind Word-List = some_name (Follows End) 0 (some_next End)
 some_behind Epoch = ([], refl, refl)

@@ -4,7 +4,7 @@ use Rattle.std.specs.Prelude.{codes}
 use Rattle.std.specs.Fmt.{decimal}
 use Rattle.std.proofs.lemmas.List.{append_cancel_left}
 use Rattle.ov_script.specs.declared.command.Command.{Command}
-use Rattle.ov_script.specs.declared.command.Command.TheVariants.{Enrol, Create, Grant, Revoke, Read, List as Command-List, Epoch}
+use Rattle.ov_script.specs.declared.command.Command.TheVariants.{Enrol, Create, Grant, Revoke, Remove, Read, List as Command-List, Epoch}
 use Rattle.ov_script.specs.declared.first_line.FirstLine.{FirstLine}
 use Rattle.ov_script.specs.declared.first_line.FirstLine.TheVariants.{Whole, WithBody}
 use Rattle.ov_script.specs.ItemLines.{SaysWhole, SaysCreate, SaysLine, Completes}
@@ -44,6 +44,8 @@ item_parts item (Grant user file) p =
     record { line = spaced (codes "grant" ∷ user ∷ file ∷ []); tail = []; said = Whole (Grant user file); says = (p.0, p.1, refl); whole = p.2; completes = (refl, refl) }
 item_parts item (Revoke user file) p =
     record { line = spaced (codes "revoke" ∷ user ∷ file ∷ []); tail = []; said = Whole (Revoke user file); says = (p.0, p.1, refl); whole = p.2; completes = (refl, refl) }
+item_parts item (Remove file) p =
+    record { line = spaced (codes "remove" ∷ file ∷ []); tail = []; said = Whole (Remove file); says = (p.0, refl); whole = p.1; completes = (refl, refl) }
 item_parts item (Read user file) p =
     record { line = spaced (codes "read" ∷ user ∷ file ∷ []); tail = []; said = Whole (Read user file); says = (p.0, p.1, refl); whole = p.2; completes = (refl, refl) }
 item_parts item (Command-List file) p =
@@ -55,6 +57,7 @@ whole_item line (Enrol user) p = (p.0, ap (λ l. l ++ 10 ∷ []) p.1)
 whole_item line (Create file names body) p = absurd p
 whole_item line (Grant user file) p = (p.0, p.1, ap (λ l. l ++ 10 ∷ []) p.2)
 whole_item line (Revoke user file) p = (p.0, p.1, ap (λ l. l ++ 10 ∷ []) p.2)
+whole_item line (Remove file) p = (p.0, ap (λ l. l ++ 10 ∷ []) p.1)
 whole_item line (Read user file) p = (p.0, p.1, ap (λ l. l ++ 10 ∷ []) p.2)
 whole_item line (Command-List file) p = (p.0, ap (λ l. l ++ 10 ∷ []) p.1)
 whole_item line Epoch p = ap (λ l. l ++ 10 ∷ []) p

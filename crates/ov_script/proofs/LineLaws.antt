@@ -6,7 +6,7 @@ use Rattle.std.proofs.lemmas.List.{append_cancel_left}
 use Rattle.ov_base.specs.declared.limits.TheConstants.{MAX_LINE_BYTES}
 use Rattle.ov_base.specs.Names.{IsName}
 use Rattle.ov_script.specs.declared.command.Command.{Command}
-use Rattle.ov_script.specs.declared.command.Command.TheVariants.{Enrol, Create, Grant, Revoke, Read, List as Command-List, Epoch}
+use Rattle.ov_script.specs.declared.command.Command.TheVariants.{Enrol, Create, Grant, Revoke, Remove, Read, List as Command-List, Epoch}
 use Rattle.ov_script.specs.declared.first_line.FirstLine.{FirstLine}
 use Rattle.ov_script.specs.declared.first_line.FirstLine.TheVariants.{Whole, WithBody}
 use Rattle.ov_script.specs.ItemLines.{SaysWhole, SaysCreate, SaysLine}
@@ -27,6 +27,7 @@ whole_no_lf line (Enrol user) p = subst NoLf (sym p.1) (Lacks-append 10 (codes "
 whole_no_lf line (Create file names body) p = absurd p
 whole_no_lf line (Grant user file) p = subst NoLf (sym p.2) (Lacks-append 10 (codes "grant ") (user ++ 32 ∷ file) (lacks_by_test 10 (codes "grant ") refl) (two_no_lf user file p.0 p.1))
 whole_no_lf line (Revoke user file) p = subst NoLf (sym p.2) (Lacks-append 10 (codes "revoke ") (user ++ 32 ∷ file) (lacks_by_test 10 (codes "revoke ") refl) (two_no_lf user file p.0 p.1))
+whole_no_lf line (Remove file) p = subst NoLf (sym p.1) (Lacks-append 10 (codes "remove ") file (lacks_by_test 10 (codes "remove ") refl) (name_no_lf file p.0))
 whole_no_lf line (Read user file) p = subst NoLf (sym p.2) (Lacks-append 10 (codes "read ") (user ++ 32 ∷ file) (lacks_by_test 10 (codes "read ") refl) (two_no_lf user file p.0 p.1))
 whole_no_lf line (Command-List file) p = subst NoLf (sym p.1) (Lacks-append 10 (codes "list ") file (lacks_by_test 10 (codes "list ") refl) (name_no_lf file p.0))
 whole_no_lf line Epoch p = subst NoLf (sym p) (lacks_by_test 10 (codes "epoch") refl)
@@ -62,6 +63,7 @@ whole_short line (Enrol user) p = one_short line (codes "enrol ") user (omega ar
 whole_short line (Create file names body) p = absurd p
 whole_short line (Grant user file) p = two_short line (codes "grant ") user file (omega arith) p.0 p.1 p.2
 whole_short line (Revoke user file) p = two_short line (codes "revoke ") user file (omega arith) p.0 p.1 p.2
+whole_short line (Remove file) p = one_short line (codes "remove ") file (omega arith) p.0 p.1
 whole_short line (Read user file) p = two_short line (codes "read ") user file (omega arith) p.0 p.1 p.2
 whole_short line (Command-List file) p = one_short line (codes "list ") file (omega arith) p.0 p.1
 whole_short line Epoch p = let size : length line ≡ 5 = ap length p in omega arith
@@ -81,6 +83,7 @@ key_of (Enrol user) = key (codes "enrol")
 key_of (Create file names body) = key (codes "create")
 key_of (Grant user file) = key (codes "grant")
 key_of (Revoke user file) = key (codes "revoke")
+key_of (Remove file) = key (codes "remove")
 key_of (Read user file) = key (codes "read")
 key_of (Command-List file) = key (codes "list")
 key_of Epoch = key (codes "epoch")
@@ -90,6 +93,7 @@ whole_key line (Enrol user) p = ap key p.1
 whole_key line (Create file names body) p = absurd p
 whole_key line (Grant user file) p = ap key p.2
 whole_key line (Revoke user file) p = ap key p.2
+whole_key line (Remove file) p = ap key p.1
 whole_key line (Read user file) p = ap key p.2
 whole_key line (Command-List file) p = ap key p.1
 whole_key line Epoch p = ap key p
@@ -106,6 +110,7 @@ whole_once line (Grant u f) (Grant v g) p q =
 whole_once line (Revoke u f) (Revoke v g) p q =
     let both = two_once line (codes "revoke ") u f v g p.0 q.0 p.2 q.2 in
     let users : u ≡ v = both.0 in let files : f ≡ g = both.1 in cc
+whole_once line (Remove f) (Remove g) p q = let same : f ≡ g = append_cancel_left (codes "remove ") f g (sym p.1 ∙ q.1) in cc
 whole_once line (Read u f) (Read v g) p q =
     let both = two_once line (codes "read ") u f v g p.0 q.0 p.2 q.2 in
     let users : u ≡ v = both.0 in let files : f ≡ g = both.1 in cc

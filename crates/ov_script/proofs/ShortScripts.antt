@@ -3,7 +3,7 @@ use Rattle.std.proofs.Common.{◌≡◌, ℕ, ◌+◌, ◌-◌, ◌<◌, ◌≤�
 use Rattle.std.specs.Prelude.{codes}
 use Rattle.std.specs.Fmt.{digits}
 use Rattle.ov_base.specs.declared.limits.TheConstants.{MAX_SCRIPT_BYTES}
-use Rattle.ov_script.specs.declared.command.Command.TheVariants.{Enrol, Create, Grant, Revoke, Read, List as Command-List, Epoch}
+use Rattle.ov_script.specs.declared.command.Command.TheVariants.{Enrol, Create, Grant, Revoke, Remove, Read, List as Command-List, Epoch}
 use Rattle.ov_script.specs.Items.{IsItem, BeginsWithItem, CanBegin}
 use Rattle.ov_script.specs.WrittenLists.{IsList}
 use Rattle.ov_script.specs.Reading.{IsBad, cut, Reads, IsScript, AtEnd, BadAt, TooLong}
@@ -66,6 +66,9 @@ grant_item = (refl, refl, refl)
 revoke_item : IsItem (codes "revoke b f" ++ 10 ∷ []) (Revoke (codes "b") (codes "f"))
 revoke_item = (refl, refl, refl)
 
+remove_item : IsItem (codes "remove f" ++ 10 ∷ []) (Remove (codes "f"))
+remove_item = (refl, refl)
+
 list_item : IsItem (codes "list f" ++ 10 ∷ []) (Command-List (codes "f"))
 list_item = (refl, refl)
 
@@ -97,6 +100,13 @@ behind_nobody = dead_cannot (codes "create f -,") (lacks_by_test 10 (codes "crea
 
 comma_in_a_grant : CanBegin (codes "grant a,") → ⊥
 comma_in_a_grant = dead_cannot (codes "grant a,") (lacks_by_test 10 (codes "grant a,") refl) refl
+
+-- a removal names no user
+space_in_a_removal : CanBegin (codes "remove f ") → ⊥
+space_in_a_removal = dead_cannot (codes "remove f ") (lacks_by_test 10 (codes "remove f ") refl) refl
+
+three_words_may_come : CanBegin (codes "re")
+three_words_may_come = alive_can (codes "re") refl
 
 -- ---- fronts of a size
 

@@ -6,7 +6,7 @@ use Rattle.ov_base.specs.Names.{IsName}
 use Rattle.ov_script.specs.Items.{spaced}
 use Rattle.ov_script.specs.WrittenLists.{IsList}
 use Rattle.ov_script.specs.declared.command.Command.{Command}
-use Rattle.ov_script.specs.declared.command.Command.TheVariants.{Enrol, Create, Grant, Revoke, Read, List as Command-List, Epoch}
+use Rattle.ov_script.specs.declared.command.Command.TheVariants.{Enrol, Create, Grant, Revoke, Remove, Read, List as Command-List, Epoch}
 use Rattle.ov_script.specs.declared.first_line.FirstLine.{FirstLine}
 use Rattle.ov_script.specs.declared.first_line.FirstLine.TheVariants.{Whole, WithBody}
 
@@ -18,6 +18,7 @@ SaysWhole line (Grant user file) =
     IsName user × IsName file × (line ≡ spaced (codes "grant" ∷ user ∷ file ∷ []))
 SaysWhole line (Revoke user file) =
     IsName user × IsName file × (line ≡ spaced (codes "revoke" ∷ user ∷ file ∷ []))
+SaysWhole line (Remove file) = IsName file × (line ≡ spaced (codes "remove" ∷ file ∷ []))
 SaysWhole line (Read user file) =
     IsName user × IsName file × (line ≡ spaced (codes "read" ∷ user ∷ file ∷ []))
 SaysWhole line (Command-List file) = IsName file × (line ≡ spaced (codes "list" ∷ file ∷ []))

@@ -5,7 +5,7 @@ use Rattle.ov_base.specs.declared.limits.TheConstants.{MAX_FILE_BYTES, MAX_LINE_
 use Rattle.ov_base.specs.Names.{IsName}
 use Rattle.ov_script.specs.WrittenLists.{IsList}
 use Rattle.ov_script.specs.declared.command.Command.{Command}
-use Rattle.ov_script.specs.declared.command.Command.TheVariants.{Enrol, Create, Grant, Revoke, Read, List as Command-List, Epoch}
+use Rattle.ov_script.specs.declared.command.Command.TheVariants.{Enrol, Create, Grant, Revoke, Remove, Read, List as Command-List, Epoch}
 
 -- The words, with one space between two of them.
 abbrev pub spaced : List (List ℕ) → List ℕ
@@ -34,6 +34,7 @@ IsItem bytes (Grant user file) =
     IsName user × IsName file × (bytes ≡ line_of (codes "grant" ∷ user ∷ file ∷ []))
 IsItem bytes (Revoke user file) =
     IsName user × IsName file × (bytes ≡ line_of (codes "revoke" ∷ user ∷ file ∷ []))
+IsItem bytes (Remove file) = IsName file × (bytes ≡ line_of (codes "remove" ∷ file ∷ []))
 IsItem bytes (Read user file) =
     IsName user × IsName file × (bytes ≡ line_of (codes "read" ∷ user ∷ file ∷ []))
 IsItem bytes (Command-List file) = IsName file × (bytes ≡ line_of (codes "list" ∷ file ∷ []))

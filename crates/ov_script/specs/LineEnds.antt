@@ -4,7 +4,7 @@ use Rattle.std.specs.Prelude.{ℕ, ◌+◌, ◌-◌, zero, suc, Bool, false, nat
 use Rattle.ov_base.specs.declared.limits.TheConstants.{MAX_LINE_BYTES}
 use Rattle.ov_script.specs.LineFronts.{spelling}
 use Rattle.ov_script.specs.declared.front.Word.{Word}
-use Rattle.ov_script.specs.declared.front.Word.TheVariants.{Enrol, Create, Grant, Revoke, Read, List as Word-List, Epoch}
+use Rattle.ov_script.specs.declared.front.Word.TheVariants.{Enrol, Create, Grant, Revoke, Remove, Read, List as Word-List, Epoch}
 use Rattle.ov_script.specs.declared.front.Stem.{Stem}
 use Rattle.ov_script.specs.declared.front.Stem.TheVariants.{E, R, Re}
 use Rattle.ov_script.specs.declared.front.Then.{Then}
@@ -25,6 +25,7 @@ fewest_behind Enrol = 1
 fewest_behind Create = 5
 fewest_behind Grant = 3
 fewest_behind Revoke = 3
+fewest_behind Remove = 1
 fewest_behind Read = 3
 fewest_behind Word-List = 1
 fewest_behind Epoch = 0

@@ -4,7 +4,7 @@ use Rattle.std.specs.Prelude.{ℕ, ◌+◌, ◌-◌, ◌*◌, zero, suc, Bool, t
 use Rattle.ov_base.specs.declared.limits.TheConstants.{MAX_FILE_BYTES}
 use Rattle.ov_base.specs.Names.{is_letter_or_digit, is_name_byte}
 use Rattle.ov_script.specs.declared.front.Word.{Word}
-use Rattle.ov_script.specs.declared.front.Word.TheVariants.{Enrol, Create, Grant, Revoke, Read, List as Word-List, Epoch}
+use Rattle.ov_script.specs.declared.front.Word.TheVariants.{Enrol, Create, Grant, Revoke, Remove, Read, List as Word-List, Epoch}
 use Rattle.ov_script.specs.declared.front.Stem.{Stem}
 use Rattle.ov_script.specs.declared.front.Stem.TheVariants.{E, R, Re}
 use Rattle.ov_script.specs.declared.front.Then.{Then}
@@ -20,6 +20,7 @@ spelling Enrol = codes "enrol "
 spelling Create = codes "create "
 spelling Grant = codes "grant "
 spelling Revoke = codes "revoke "
+spelling Remove = codes "remove "
 spelling Read = codes "read "
 spelling Word-List = codes "list "
 spelling Epoch = codes "epoch"
@@ -30,6 +31,7 @@ behind Enrol = InName End 0
 behind Create = InName Readers 0
 behind Grant = InName LastName 0
 behind Revoke = InName LastName 0
+behind Remove = InName End 0
 behind Read = InName LastName 0
 behind Word-List = InName End 0
 behind Epoch = Done
@@ -54,7 +56,7 @@ first_bytes =
 abbrev pub next_bytes : Stem → List (ℕ × Front)
 next_bytes E = (110, InWord Enrol 2) ∷ (112, InWord Epoch 2) ∷ []
 next_bytes R = (101, InStem Re) ∷ []
-next_bytes Re = (97, InWord Read 3) ∷ (118, InWord Revoke 3) ∷ []
+next_bytes Re = (97, InWord Read 3) ∷ (109, InWord Remove 3) ∷ (118, InWord Revoke 3) ∷ []
 
 -- What is read behind one more byte of a word, by whether it is the word's next one and the last.
 abbrev pub word_by : Bool → Bool → Word → ℕ → Front

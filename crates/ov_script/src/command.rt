@@ -24,6 +24,10 @@ pub enum Command {
         user: Name,
         file: Name,
     },
+    /// `remove FILE`: the file is gone, and its name is free again.
+    Remove {
+        file: Name,
+    },
     /// `read USER FILE`: the user asks for the file's bytes.
     Read {
         user: Name,

@@ -63,6 +63,14 @@ fn revoke(line: &[u8]) -> Option<Command>
     Some(Command::Revoke { user, file })
 }
 
+fn remove(line: &[u8]) -> Option<Command>
+    ensures found { IfSome result (SaysWhole line.now) }
+    ensures none { IfNone result ((file : List ℕ) → SaysWhole line.now (Command.Remove file) → ⊥) }
+{
+    let file = Name::read(behind(line, b"remove ")?)?;
+    Some(Command::Remove { file })
+}
+
 fn read(line: &[u8]) -> Option<Command>
     ensures found { IfSome result (SaysWhole line.now) }
     ensures none { IfNone result ((user file : List ℕ)
@@ -103,6 +111,9 @@ fn command(line: &[u8]) -> Option<Command>
         return Some(command);
     }
     if let Some(command) = revoke(line) {
+        return Some(command);
+    }
+    if let Some(command) = remove(line) {
         return Some(command);
     }
     if let Some(command) = read(line) {

@@ -13,6 +13,7 @@ pub enum Word {
     Create,
     Grant,
     Revoke,
+    Remove,
     Read,
     List,
     Epoch,
@@ -23,9 +24,9 @@ pub enum Word {
 pub enum Stem {
     /// The `e` of `enrol` and `epoch`.
     E,
-    /// The `r` of `read` and `revoke`.
+    /// The `r` of `read`, `remove` and `revoke`.
     R,
-    /// The `re` of `read` and `revoke`.
+    /// The `re` of `read`, `remove` and `revoke`.
     Re,
 }
 
@@ -74,6 +75,7 @@ pub fn spelling(word: Word) -> &'static [u8]
         Word::Create => b"create ",
         Word::Grant => b"grant ",
         Word::Revoke => b"revoke ",
+        Word::Remove => b"remove ",
         Word::Read => b"read ",
         Word::List => b"list ",
         Word::Epoch => b"epoch",
@@ -85,7 +87,7 @@ fn behind(word: Word) -> Front
     ensures { result ≡ behind word }
 {
     let next = match word {
-        Word::Enrol | Word::List => Then::End,
+        Word::Enrol | Word::Remove | Word::List => Then::End,
         Word::Create => Then::Readers,
         Word::Grant | Word::Revoke | Word::Read => Then::LastName,
         Word::Epoch => return Front::Done,
@@ -117,6 +119,7 @@ fn in_stem(stem: Stem, byte: u8) -> Front
         (Stem::E, b'p') => (Word::Epoch, 2),
         (Stem::R, b'e') => return Front::InStem(Stem::Re),
         (Stem::Re, b'a') => (Word::Read, 3),
+        (Stem::Re, b'm') => (Word::Remove, 3),
         (Stem::Re, b'v') => (Word::Revoke, 3),
         _ => return Front::Never,
     };

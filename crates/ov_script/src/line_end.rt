@@ -22,7 +22,7 @@ fn fewest_behind(word: Word) -> usize
 {
     match word {
         Word::Epoch => 0,
-        Word::Enrol | Word::List => 1,
+        Word::Enrol | Word::Remove | Word::List => 1,
         Word::Grant | Word::Revoke | Word::Read => 3,
         Word::Create => 5,
     }

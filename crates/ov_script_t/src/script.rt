@@ -58,6 +58,10 @@ fn put_command(command: &Command, out: &mut Vec<u8>) -> Result<(), Fail> {
         }
         Command::Grant { user, file } => put_names(b"grant", user, file, out)?,
         Command::Revoke { user, file } => put_names(b"revoke", user, file, out)?,
+        Command::Remove { file } => {
+            put_word(b"remove", out)?;
+            put_word(file.as_bytes(), out)?;
+        }
         Command::Read { user, file } => put_names(b"read", user, file, out)?,
         Command::List { file } => {
             put_word(b"list", out)?;
@@ -104,7 +108,7 @@ fn expect_told(rt: &impl Abort, alloc: Global, text: &[u8], says: &[u8]) -> Resu
 }
 
 /// A script, and what it says.
-const ROWS: [(&[u8], &[u8]); 9] = [
+const ROWS: [(&[u8], &[u8]); 10] = [
     (b"", b"end"),
     (b"enrol alice\nenrol bob\n", b"enrol alice ;enrol bob ;end"),
     (
@@ -114,6 +118,10 @@ const ROWS: [(&[u8], &[u8]); 9] = [
     (
         b"grant a f\nrevoke a f\nread a f\nlist f\nepoch\n",
         b"grant a f ;revoke a f ;read a f ;list f ;epoch ;end",
+    ),
+    (
+        b"revoke a remove\nremove revoke\nread a f\nremove a\n",
+        b"revoke a remove ;remove revoke ;read a f ;remove a ;end",
     ),
     (b"create f - 0\n\nlist f\n", b"create f + ;list f ;end"),
     (b"create f b,a,b,c,a 1\nx\n", b"create f b/a/c/+ x ;end"),
@@ -161,7 +169,7 @@ fn creates_that_are_none(rt: HostRuntime) -> Result<(), Fail> {
 }
 
 /// Scripts whose first line is no other item.
-const NO_ITEMS: [&[u8]; 13] = [
+const NO_ITEMS: [&[u8]; 18] = [
     b"read a\n",
     b"read a f g\n",
     b"read  a f\n",
@@ -174,6 +182,11 @@ const NO_ITEMS: [&[u8]; 13] = [
     b"\n",
     b"quit\n",
     b"reed a f\n",
+    b"remove\n",
+    b"remove a f\n",
+    b"remove f,g\n",
+    b"removef\n",
+    b"reboke a f\n",
     b"erol a\n",
 ];
 

@@ -42,6 +42,7 @@ fn told(command: &Command, alloc: Global) -> Result<Vec<u8>, Fail> {
         Command::Revoke { user, file } => {
             put_words(&[b"revoke", user.as_bytes(), file.as_bytes()], &mut out)?
         }
+        Command::Remove { file } => put_words(&[b"remove", file.as_bytes()], &mut out)?,
         Command::Read { user, file } => {
             put_words(&[b"read", user.as_bytes(), file.as_bytes()], &mut out)?
         }

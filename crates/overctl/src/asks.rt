@@ -12,6 +12,8 @@ pub enum Asks {
     File,
     /// Another list of a file.
     List,
+    /// That a file goes.
+    Removal,
     /// What the store has, with both masters.
     Answer,
     /// What the store shows to whoever asks.
@@ -28,6 +30,7 @@ pub fn asks_of(act: &Act) -> Asks {
         Act::Enrol { user: _ } => Asks::User,
         Act::Create { file: _, list: _ } => Asks::File,
         Act::Grant { user: _, file: _ } | Act::Revoke { user: _, file: _ } => Asks::List,
+        Act::Remove { file: _ } => Asks::Removal,
         Act::List { file: _ } | Act::Key { user: _ } => Asks::Answer,
         Act::Read { file: _ } => Asks::Bytes,
         Act::Check => Asks::Nothing,
@@ -50,6 +53,7 @@ pub fn file_of(act: &Act) -> &str {
         Act::Enrol { user: _ } | Act::Key { user: _ } | Act::Check => "",
         Act::Grant { user: _, file }
         | Act::Revoke { user: _, file }
+        | Act::Remove { file }
         | Act::Create { file, list: _ }
         | Act::List { file }
         | Act::Read { file } => text_of(file),

@@ -124,6 +124,7 @@ fn doubt_of(asks: Asks) -> &'static str {
         Asks::User => "it may be done: repeat it, and `refused 1 Taken` says that it was",
         Asks::File => FILE_IN_DOUBT,
         Asks::List => "it may be done: look with `overctl list` before you repeat it",
+        Asks::Removal => "it may be done: repeat it, and `refused 3 NoFile` says that it was",
         Asks::Answer | Asks::Names | Asks::Bytes => "the store is as it was: try again",
         Asks::Nothing => "try again",
     }
@@ -155,7 +156,7 @@ fn say_hint_of_link<W: Write>(end: &Ending<'_>, f: &mut Formatter<W>) -> fmt::Re
 fn say_hint_of_reply<W: Write>(end: &Ending<'_>, f: &mut Formatter<W>) -> fmt::Result {
     f.write_str("see that overstored listens there, with the `--version` of overctl")?;
     match end.asks {
-        Asks::User | Asks::File | Asks::List => {
+        Asks::User | Asks::File | Asks::List | Asks::Removal => {
             write!(f, "; if it does, {}", doubt_of(end.asks))
         }
         Asks::Bytes => write!(f, ", and that {} is of its store", end.keys),
@@ -167,7 +168,7 @@ fn say_hint_of_reply<W: Write>(end: &Ending<'_>, f: &mut Formatter<W>) -> fmt::R
 fn say_hint_of_disk<W: Write>(asks: Asks, f: &mut Formatter<W>) -> fmt::Result {
     let doubt = doubt_of(asks);
     match asks {
-        Asks::User | Asks::File | Asks::List => {
+        Asks::User | Asks::File | Asks::List | Asks::Removal => {
             write!(f, "have the server started again; {doubt}")
         }
         Asks::Answer | Asks::Names | Asks::Bytes | Asks::Nothing => f.write_str(doubt),
@@ -177,7 +178,7 @@ fn say_hint_of_disk<W: Write>(asks: Asks, f: &mut Formatter<W>) -> fmt::Result {
 // What to do where standard output isn't written.
 fn hint_of_output(asks: Asks) -> &'static str {
     match asks {
-        Asks::User | Asks::File | Asks::List => doubt_of(asks),
+        Asks::User | Asks::File | Asks::List | Asks::Removal => doubt_of(asks),
         Asks::Answer | Asks::Names | Asks::Bytes | Asks::Nothing => WRITABLE,
     }
 }

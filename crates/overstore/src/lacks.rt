@@ -38,7 +38,7 @@ enum Form {
 // What the words behind a command are to be.
 fn forms_of(command: &str) -> Option<&'static [Form]> {
     match command {
-        "enrol" | "list" => Some(&[Form::Name]),
+        "enrol" | "remove" | "list" => Some(&[Form::Name]),
         "grant" | "revoke" | "read" => Some(&[Form::Name, Form::Name]),
         "create" => Some(&[Form::Name, Form::List, Form::Length]),
         "epoch" => Some(&[]),

@@ -15,6 +15,7 @@ its list has.
                               and an LF behind the line: `ok EPOCH`
   grant USER FILE             adds the user to the file's list: `ok EPOCH`
   revoke USER FILE            takes the user off the file's list: `ok EPOCH`
+  remove FILE                 removes the file, whose name is free again: `ok EPOCH`
   read USER FILE              gives a file: `data USER FILE LENGTH`, and its bytes
   list FILE                   gives the file's list: `list FILE LIST`
   epoch                       gives the epoch: `epoch EPOCH`
@@ -32,8 +33,8 @@ run is in `trace.bin`.
 answers them in a script's place. It prints how many updates were accepted, how many
 commands refused, files given and lists given, the epoch, and the SHA-256 of all
 reply lines. NUMBER is below 18446744073709551616, COUNT is 1 to 20000.
-Warning: `load` works on the store of this folder, and its users and files stay
-there for good. Run it in an empty folder.
+Warning: `load` works on the store of this folder, where its users stay for good
+and its files until they are removed. Run it in an empty folder.
 
 Where standard error is a terminal and standard output isn't, `run` counts there
 the replies that were put, by thousands; with `--quiet` it doesn't. That word stands

@@ -8,6 +8,7 @@
 //! | a load | 2,000 commands twice on one disk, and the disk opened again | `loads` |
 //! | a stopped grant | a grant that coats 300 of 301 files, stopped behind each call of the disk | `stops` |
 //! | all sets | a file for each set of twelve users but those of one | `main` |
+//! | 16,384 numbers | of files that are created and removed one after another | `main` |
 //! | 64 files | of 1 MiB each, and one more | `main` |
 //! | 300 creations | of 1 MiB each: the script is too long | `main` |
 //!
@@ -64,6 +65,8 @@ fn main(rt: HostRuntime) -> Result<(), Fail> {
     stops::tell(&rt)?;
     let sets = scripts::all_sets(alloc)?;
     tell_script(&rt, "all sets of twelve users", "delta", &sets, 0)?;
+    let numbers = scripts::all_numbers(alloc)?;
+    tell_script(&rt, "16,384 numbers given out", "delta", &numbers, 0)?;
     let files = scripts::full_of_bytes(alloc)?;
     tell_script(&rt, "64 files of 1 MiB and more", "delta", &files, 0)?;
     let creation = scripts::creation(alloc)?;

@@ -1,4 +1,5 @@
 //! Scripts that are too long to be written down.
+use ov_base::limits::MAX_FILES;
 use std::alloc::{AllocError, Global};
 
 const USERS: u32 = 12;
@@ -47,6 +48,20 @@ pub fn all_sets(alloc: Global) -> Result<Vec<u8>, AllocError> {
         }
     }
     text.extend_from_slice(b"enrol z\ncreate again u0,u1 0\n\nread u11 f4095\n")?;
+    Ok(text)
+}
+
+/// A file that stays at first, and one name that is created and removed until all 16,384 numbers of
+/// files were given out: the next creation is refused though one file is there, and so it is where
+/// none is.
+pub fn all_numbers(alloc: Global) -> Result<Vec<u8>, AllocError> {
+    let mut text = Vec::new(alloc);
+    text.extend_from_slice(b"enrol a\ncreate kept a 1\nx\n")?;
+    for _ in 1..MAX_FILES {
+        text.extend_from_slice(b"create f a 0\n\nremove f\n")?;
+    }
+    let end = b"create f a 0\n\nremove kept\ncreate f a 0\n\nlist f\nread a kept\n";
+    text.extend_from_slice(end)?;
     Ok(text)
 }
 

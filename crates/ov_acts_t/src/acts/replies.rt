@@ -43,6 +43,9 @@ pub const ACCEPTED: &[u8] = &[0x84, 0, 0, 0, 8];
 
 pub const REFUSED: &[u8] = &[0x88, 1];
 
+/// The refusal of a file that isn't there, or is gone.
+pub const NO_FILE: &[u8] = &[0x88, 3];
+
 pub const BAD_TAG: &[u8] = &[0x8a];
 
 pub const DEVICE_FAULT: &[u8] = &[0x8d];

@@ -77,7 +77,7 @@ const NO_CREATE: Row = Row {
 };
 
 /// Updates that are made.
-static UPDATES: [Row; 4] = [
+static UPDATES: [Row; 5] = [
     ENROL,
     Row {
         words: &["grant", "here:1", "keys", "a", "f1"],
@@ -85,6 +85,10 @@ static UPDATES: [Row; 4] = [
     },
     Row {
         words: &["revoke", "here:1", "keys", "a", "f1"],
+        ..ENROL
+    },
+    Row {
+        words: &["remove", "here:1", "keys", "f1"],
         ..ENROL
     },
     CREATE,
@@ -154,6 +158,29 @@ static REFUSALS: [Row; 3] = [
 /// The rows of statuses 2 to 4.
 pub fn refusals() -> &'static [Row] {
     &REFUSALS
+}
+
+/// Files that are gone: one that is to be removed, and one that goes while it is read, between the
+/// chains and the bytes.
+static GONE: [Row; 2] = [
+    Row {
+        words: &["remove", "here:1", "keys", "f1"],
+        replies: &[WELCOME, NO_FILE],
+        status: 3,
+        out: b"refused 3 NoFile\n",
+        ..ENROL
+    },
+    Row {
+        replies: &[CHAINED, NO_FILE, NO_FILE],
+        status: 3,
+        out: b"refused 3 NoFile\n",
+        ..READ
+    },
+];
+
+/// The rows of files that are gone.
+pub fn gone() -> &'static [Row] {
+    &GONE
 }
 
 /// A key file and a file at PATH that cannot be read, and lines that cannot be written.

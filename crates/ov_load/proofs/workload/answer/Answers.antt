@@ -1,4 +1,5 @@
 use Rattle.std.proofs.Common.{refl, rules, ℕ}
+use Rattle.ov_machine.proofs.Stays.{holds_each}
 use Rattle.ov_load.proofs.LoadTracing.{sent_unlined}
 use Rattle.ov_load.proofs.WorkloadSteps.{tallied, unanswered_as, unlined}
 use Rattle.ov_load.proofs.workload.answer.Goals as goal
@@ -22,5 +23,6 @@ returns-in_err-line-clause-answer g c = λ k h at stands.
 pub returns-in_err-line-clause-traced : goal.returns-in_err-line-clause-traced
 returns-in_err-line-clause-traced g c = λ h stands.
     sent_unlined c.args.machine.now.kept.masters h c.args.command _ _ _ _ (search rules)
-    (λ holds image left. ((c.in_ok-reply.ensures.steps c.args.machine.now.kept.masters h refl stands).1.holds holds).each image left)
+    (λ holds image left. holds_each g.D.Disk.tells _ _ _
+    ((c.in_ok-reply.ensures.steps c.args.machine.now.kept.masters h refl stands).1.holds holds) image left)
     (c.in_ok-reply.ensures.traced h stands)

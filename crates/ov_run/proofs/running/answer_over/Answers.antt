@@ -8,7 +8,7 @@ use Rattle.ov_answering.specs.Ending.{EndsAs}
 use Rattle.ov_answering.specs.Printing.{IsStoreStatus}
 use Rattle.ov_answering.specs.Tracing.{TracesAs}
 use Rattle.ov_answering.proofs.Answered.{ends_of_run, pace_of_run, text_answers, trace_of_run}
-use Rattle.ov_answering.proofs.Beginning.{disk_said, ends_in_fault, over_begun, over_refused, over_stands, tells_nothing}
+use Rattle.ov_answering.proofs.Beginning.{disk_said, ends_in_fault, opens_image, over_begun, over_refused, over_stands, tells_nothing}
 use Rattle.ov_answering.proofs.EndingByScript.{fault_at_once}
 use Rattle.ov_answering.proofs.Judging.{judged_open, judged_refused}
 use Rattle.ov_answering.proofs.Pacing.{untouched}
@@ -58,7 +58,8 @@ returns-in-Err-clause-text g c = λ p opens.
     (untouched g.I.Source.tells p _ _ _ _)
     (untraced_fault (plain_masters c.args.masters) p (g.I.Source.tells.left c.args.input.now) _ _ _ _
     (ends_in_fault c.in-Err.refused.fault _ _ _
-    ((c.in-Err.ensures.fault opens.image opens.told).opens (p, opens.legal, opens.mode_is, opens.stands))
+    ((c.in-Err.ensures.fault opens.image opens.told).opens
+    (opens_image g.D.Disk.tells (plain_masters c.args.masters) c.args.mode p c.args.disk opens))
     c.put_fault.ensures.ends))
 
 pub returns-in-Ok-clause-script : goal.returns-in-Ok-clause-script
