@@ -14,7 +14,7 @@ use Rattle.ov_history.specs.Refusals.{IsLegal}
 use Rattle.ov_history.specs.Kept.{AreKept, IsKept}
 use Rattle.ov_history.specs.Sealed.{KeepsBytes, SealedHistory, catalogue_of, stored_of}
 use Rattle.ov_history.specs.Sealing.{IsSealedAs}
-use Rattle.ov_model.proofs.Agreeing.{right_keeps, right_shows}
+use Rattle.ov_history.proofs.Agreeing.{right_keeps, right_shows}
 use Rattle.ov_store.specs.Beginning.{IsNew, LeavesHistory}
 use Rattle.ov_store.specs.Opened.{Opened, Serves}
 use Rattle.ov_store.specs.declared.fault.BeginFault.{BeginFault}

@@ -18,7 +18,8 @@ use Rattle.ov_history.specs.Sealing.{sealed, sealed_from, sealed_update}
 use Rattle.ov_history.proofs.MatrixLaws.{files_of-layers_of}
 use Rattle.ov_history.proofs.Pushing.{matrix_of-push, with_updates, with_updates-all}
 use Rattle.ov_history.proofs.Sealing.{measured-sealed}
-use Rattle.ov_model.proofs.Agreeing.{made-faded, made_after, outer-faded, outer_all-faded, outer_of-faded}
+use Rattle.ov_history.proofs.Agreeing.{made-faded, made_after}
+use Rattle.ov_history.proofs.Fading.{outer_all_dim, outer_faded, outer_faded_of}
 use Rattle.ov_store.specs.Owners.{AllAreOwned, HasFalseUpdate, IsOwners, with_first}
 
 -- ---- one update
@@ -27,8 +28,8 @@ use Rattle.ov_store.specs.Owners.{AllAreOwned, HasFalseUpdate, IsOwners, with_fi
 outer_so : (b : Bool) (k : Masters) (y : Layers) (u : SealedUpdate) (plain : PlainUpdate)
     → faded_if b u ≡ faded_if b (sealed_update k y plain) → outer (brief u) ≡ measured plain
 outer_so b k y u plain is =
-    sym (outer-faded b u) ∙ ap (λ (v : SealedUpdate). outer (brief v)) is
-    ∙ outer-faded b (sealed_update k y plain) ∙ measured-sealed k y plain
+    sym (outer_faded (λ n. b) b u) ∙ ap (λ (v : SealedUpdate). outer (brief v)) is
+    ∙ outer_faded (λ n. b) b (sealed_update k y plain) ∙ measured-sealed k y plain
 
 -- updates that are one but for what fades make as many files
 made_so : (b : Bool) (u v : SealedUpdate) → faded_if b u ≡ faded_if b v → made_by u ≡ made_by v
@@ -125,9 +126,9 @@ owners_are_right k g fit owned =
     let (plain, accepted, sent) = owned_from k is_out start 0 g.updates refl fit owned in
     let updates : List SealedUpdate = sealed_from k start plain in
     let outers : outer_all g.updates ≡ outer_all updates =
-    sym (outer_all-faded is_out 0 g.updates)
+    sym (outer_all_dim is_out 0 g.updates)
     ∙ ap (λ (us : List SealedUpdate). outer_all us) (sym sent)
-    ∙ outer_all-faded is_out 0 updates in (
+    ∙ outer_all_dim is_out 0 updates in (
       record { mode = g.mode; first = g.first; updates = plain },
       accepted,
       ap (λ (us : List SealedUpdate). record { mode = g.mode; first = g.first; updates = us })
@@ -146,8 +147,8 @@ pub right_are_owners : (k : Masters) (p : PlainHistory) (g : SealedHistory) → 
     → AllAreOwned k (is_gone_from g) (start_of (outer_of g)) g.updates
 right_are_owners k p g (legal, right) =
     let outers : outer_of g ≡ outer_of (sealed k p) =
-    sym (outer_of-faded g) ∙ ap (λ (it : SealedHistory). outer_of it) right
-    ∙ outer_of-faded (sealed k p) in
+    sym (outer_faded_of g) ∙ ap (λ (it : SealedHistory). outer_of it) right
+    ∙ outer_faded_of (sealed k p) in
     let start : History = empty p.mode p.first in
     let updates : List SealedUpdate = sealed_from k start p.updates in
     let agree : faded_all (is_gone_from g) 0 g.updates ≡ faded_all (is_gone_from g) 0 updates =

@@ -30,7 +30,7 @@ use Rattle.ov_history.proofs.Published.{published_is_matrix}
 use Rattle.ov_history.proofs.TrueHistories.{tokens_are_true}
 use Rattle.ov_model.specs.Lines.{lines}
 use Rattle.ov_model.specs.Step.{after_all, reply_to}
-use Rattle.ov_model.proofs.Agreeing.{right_shows}
+use Rattle.ov_history.proofs.Agreeing.{right_shows}
 use Rattle.ov_model.proofs.Runs.{lines-more}
 use Rattle.ov_report.specs.Ends.{EndsIn, EndsOr}
 use Rattle.ov_report.specs.Faults.{disk_line, memory_line}

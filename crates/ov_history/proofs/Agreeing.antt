@@ -55,7 +55,7 @@ faded_both true false (SealedRevoke user file) goes = refl
 faded_both true false (SealedRemove file) goes = refl
 
 -- what fades makes as many files
-made-faded : (b : Bool) (u : SealedUpdate) → made_by (faded_if b u) ≡ made_by u
+pub made-faded : (b : Bool) (u : SealedUpdate) → made_by (faded_if b u) ≡ made_by u
 made-faded false u = refl
 made-faded true (SealedEnrol user) = refl
 made-faded true (SealedCreate file list tokens tag text) = refl
@@ -80,7 +80,7 @@ abbrev made_all : List SealedUpdate → ℕ
 made_all [] = 0
 made_all (u ∷ updates) = made_by u + made_all updates
 
-made_after : (m : Matrix) (u : SealedUpdate)
+pub made_after : (m : Matrix) (u : SealedUpdate)
     → length (changed m (outer (brief u))).files ≡ length m.files + made_by u
 made_after m (SealedEnrol user) = omega arith
 made_after m (SealedCreate file list tokens tag text) =

@@ -427,7 +427,7 @@ agreeing_keep_the_same master g h file f fit other agree is =
 -- ---- histories without what fades
 
 module _ (is_out : ℕ → Bool) where
-  outer_all_dim : (number : ℕ) (updates : List SealedUpdate)
+  pub outer_all_dim : (number : ℕ) (updates : List SealedUpdate)
       → outer_all (faded_all is_out number updates) ≡ outer_all updates
   outer_all_dim number [] = refl
   outer_all_dim number (u ∷ updates) =

@@ -21,7 +21,7 @@ use Rattle.ov_history.specs.Sealed.{stored_all}
 use Rattle.ov_history.specs.Sealing.{IsSealedAs, sealed}
 use Rattle.ov_history.proofs.PlainLaws.{measured_all-append}
 use Rattle.ov_model.specs.Step.{after, step}
-use Rattle.ov_model.proofs.Agreeing.{agreement_goes_on, right_is_sealed, right_keeps, right_shows}
+use Rattle.ov_history.proofs.Agreeing.{agreement_goes_on, right_is_sealed, right_keeps, right_shows}
 use Rattle.ov_model.proofs.Legality.{legal-after}
 use Rattle.ov_wire.specs.Requests.{request_bytes}
 use Rattle.ov_wire.specs.RequestReading.{request_of}
