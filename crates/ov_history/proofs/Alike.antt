@@ -3,8 +3,8 @@
 use Rattle.std.proofs.Common.{◌≡◌, ◌∙◌, ℕ, zero, suc, List, [], ◌∷◌, ◌++◌, length, refl, sym}
 use Rattle.std.proofs.Common.{arith, length-append}
 use Rattle.std.specs.Prelude.{Option, Some, None, is_some, option_map}
-use Rattle.ov_record.specs.Updates.{SealedUpdate, SealedEnrol, SealedCreate, SealedGrant}
-use Rattle.ov_record.specs.Updates.{SealedRevoke, SealedRemove}
+use Rattle.ov_history.specs.Sent.{SealedUpdate, SealedEnrol, SealedCreate, SealedGrant}
+use Rattle.ov_history.specs.Sent.{SealedRevoke, SealedRemove}
 use Rattle.ov_history.specs.Places.{change_at, gone, living_at}
 use Rattle.ov_history.specs.History.{File, Matrix, changed, changed_all, delisted, listed, matrix_of}
 use Rattle.ov_history.specs.History.{no_one}

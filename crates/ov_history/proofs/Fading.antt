@@ -16,8 +16,8 @@ use Rattle.ov_history.specs.Catalogue.{filed_at, granted, grown_catalogue, new_f
 use Rattle.ov_history.specs.Catalogue.{no_filed, outline, place_of_file, places, refiled}
 use Rattle.ov_history.specs.Catalogue.{settled_file, settled_files, settled_under}
 use Rattle.ov_history.specs.Catalogue.{with_surfaces}
-use Rattle.ov_record.specs.Updates.{SealedUpdate, SealedEnrol, SealedCreate, SealedGrant}
-use Rattle.ov_record.specs.Updates.{SealedRevoke, SealedRemove}
+use Rattle.ov_history.specs.Sent.{SealedUpdate, SealedEnrol, SealedCreate, SealedGrant}
+use Rattle.ov_history.specs.Sent.{SealedRevoke, SealedRemove}
 use Rattle.ov_history.specs.Sealed.{SealedHistory, IsSealed, catalogue_all, catalogue_of, outer_of}
 use Rattle.ov_history.specs.Sealed.{sent_all, sent_of}
 use Rattle.ov_history.specs.Rewrites.{with_text}

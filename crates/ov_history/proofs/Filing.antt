@@ -4,7 +4,7 @@ use Rattle.std.proofs.Common.{length, refl, sym, ◌∙◌, ap, subst, arith, in
 use Rattle.std.specs.Prelude.{Option, Some, None, slice_index_or}
 use Rattle.std.proofs.lemmas.List.{get_or_append_left}
 use Rattle.ov_graph.proofs.GraphLaws.{last_item}
-use Rattle.ov_record.specs.Updates.{SealedUpdate}
+use Rattle.ov_history.specs.Sent.{SealedUpdate}
 use Rattle.ov_tokens.specs.declared.label.Kind.TheVariants.{Access}
 use Rattle.ov_tokens.specs.Labels.{label_of}
 use Rattle.ov_surface.specs.Coats.{base_text, stored_under}

@@ -12,7 +12,7 @@ use Rattle.ov_graph.specs.Contents.{joined, plan_of}
 use Rattle.ov_base_layer.specs.declared.grant.Grant.{Grant}
 use Rattle.ov_base_layer.specs.Holders.{access_of, accesses_of}
 use Rattle.ov_base_layer.specs.Seals.{cover_tokens}
-use Rattle.ov_record.specs.Updates.{SealedUpdate}
+use Rattle.ov_history.specs.Sent.{SealedUpdate}
 use Rattle.ov_history.specs.History.{Created, Enrolled, Granted, History, start_of, with_update}
 use Rattle.ov_history.specs.Layers.{Layers, Place, appended, given, grown, holders, layers_after}
 use Rattle.ov_history.specs.Layers.{layers_of, lists_after, lists_of, moved, no_place}

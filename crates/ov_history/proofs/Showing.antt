@@ -3,7 +3,7 @@ use Rattle.std.proofs.Common.{◌≡◌, ℕ, zero, suc, Bool, true, false, List
 use Rattle.std.proofs.Common.{length, refl, sym, ◌∙◌, ap, subst, arith}
 use Rattle.std.specs.Prelude.{Option, None}
 use Rattle.ov_base.specs.Sets.{with, without}
-use Rattle.ov_record.specs.Updates.{SealedUpdate}
+use Rattle.ov_history.specs.Sent.{SealedUpdate}
 use Rattle.ov_history.specs.Places.{change_at}
 use Rattle.ov_history.specs.History.{File, History, Matrix, changed, delisted, epoch_of, listed}
 use Rattle.ov_history.specs.History.{matrix_of, start_of, with_update}

@@ -5,8 +5,8 @@ use Rattle.std.specs.Prelude.{Option, None, slice_index_or}
 use Rattle.std.proofs.lemmas.Bool.{cases_lt}
 use Rattle.std.proofs.lemmas.List.{get_or_append_left, get_or_past}
 use Rattle.ov_graph.proofs.GraphLaws.{last_item}
-use Rattle.ov_record.specs.Updates.{SealedUpdate, SealedEnrol, SealedCreate, SealedGrant}
-use Rattle.ov_record.specs.Updates.{SealedRevoke}
+use Rattle.ov_history.specs.Sent.{SealedUpdate, SealedEnrol, SealedCreate, SealedGrant}
+use Rattle.ov_history.specs.Sent.{SealedRevoke}
 use Rattle.ov_surface.specs.Coats.{stored_under}
 use Rattle.ov_surface.proofs.CoatLaws.{length-coated}
 use Rattle.ov_history.specs.Layers.{lists_after, lists_of, same_surface, surface_at}
@@ -28,7 +28,7 @@ use Rattle.ov_history.specs.Rewrites.{surface_left}
 use Rattle.ov_history.specs.Places.{living_at}
 use Rattle.ov_history.specs.Places.{change_at}
 use Rattle.ov_history.specs.Places.{gone}
-use Rattle.ov_record.specs.Updates.{SealedRemove}
+use Rattle.ov_history.specs.Sent.{SealedRemove}
 
 -- ---- files and texts
 

@@ -5,7 +5,8 @@ use Rattle.std.specs.Prelude.{Some, None, Bool, true, IsTrue}
 use Rattle.ov_base.specs.declared.mode.Mode.{Mode}
 use Rattle.ov_base.specs.declared.refusal.Refusal.{Refusal}
 use Rattle.ov_base.specs.Refusals.{refusal_number}
-use Rattle.ov_record.specs.Updates.{SealedUpdate}
+use Rattle.ov_record.specs.Updates.{SealedUpdate as SpelledUpdate}
+use Rattle.ov_record.specs.Briefs.{brief as spelled_brief, text_of as spelled_text}
 use Rattle.ov_tokens.specs.declared.label.Kind.TheVariants.{Surface}
 use Rattle.ov_tokens.specs.declared.label.Label.{Label}
 use Rattle.ov_history.specs.Places.{living_at}
@@ -13,7 +14,8 @@ use Rattle.ov_history.specs.History.{History, Matrix, Update, epoch_of, matrix_o
 use Rattle.ov_history.specs.Lists.{is_listed}
 use Rattle.ov_history.specs.Layers.{layers_of}
 use Rattle.ov_history.specs.Refusals.{read_refusal, read_tests, refusal_of, tests_of}
-use Rattle.ov_history.specs.Briefs.{Brief, brief, outer}
+use Rattle.ov_history.specs.Sent.{SealedUpdate, numbered}
+use Rattle.ov_history.specs.Briefs.{Brief, brief, numbered_brief, outer, text_of}
 use Rattle.ov_history.specs.Catalogue.{Filed, Catalogue, catalogue_after, empty_catalogue}
 use Rattle.ov_history.specs.Catalogue.{matrix_shown, outline}
 use Rattle.ov_history.specs.Rewrites.{Rewrite, files_after, rewrites_of}
@@ -64,6 +66,15 @@ ClosureIsLeast =
     → ((label : Label) → IsRootOf c user label → IsTrue (test label))
     → IsClosed c (λ label. IsTrue (test label))
     → (label : Label) → Holds c user label → IsTrue (test label)
+
+-- ---- spelled updates
+
+-- an update by number has the brief and the text of the one that is spelled
+abbrev pub UpdatesAreNumbered : Type 0
+UpdatesAreNumbered =
+    (names : List (List ℕ)) (u : SpelledUpdate)
+    → (brief (numbered names u) ≡ numbered_brief names (spelled_brief u))
+    × (text_of (numbered names u) ≡ spelled_text u)
 
 -- ---- histories
 

@@ -1,0 +1,24 @@
+-- Updates as a history has them: they name their files by number.
+use Rattle.std.specs.Prelude.{ℕ, List, Option}
+use Rattle.ov_tokens.specs.declared.token.Token.{Token}
+use Rattle.ov_record.specs.Updates.{SealedUpdate as SpelledUpdate, SealedEnrol as SpelledEnrol}
+use Rattle.ov_record.specs.Updates.{SealedCreate as SpelledCreate, SealedGrant as SpelledGrant}
+use Rattle.ov_record.specs.Updates.{SealedRevoke as SpelledRevoke, SealedRemove as SpelledRemove}
+
+-- An update as its owner sends it: the list of a new file as a set of users, and with what the
+-- owner adds to it, which are the tokens, the file's tag, and its bytes in the base layer.
+pub data SealedUpdate : Type 0 where
+  SealedEnrol : (user : List ℕ) → SealedUpdate
+  SealedCreate : (file : List ℕ) → (list : ℕ) → (tokens : List Token) → (tag text : List ℕ)
+      → SealedUpdate
+  SealedGrant : (user file : ℕ) → (token : Option Token) → SealedUpdate
+  SealedRevoke : (user file : ℕ) → SealedUpdate
+  SealedRemove : (file : ℕ) → SealedUpdate
+
+-- the update that is spelled so, in a store whose files have these names by number
+abbrev pub numbered : List (List ℕ) → SpelledUpdate → SealedUpdate
+numbered names (SpelledEnrol user) = SealedEnrol user
+numbered names (SpelledCreate file list tokens tag text) = SealedCreate file list tokens tag text
+numbered names (SpelledGrant user file token) = SealedGrant user file token
+numbered names (SpelledRevoke user file) = SealedRevoke user file
+numbered names (SpelledRemove file) = SealedRemove file
