@@ -1,6 +1,7 @@
 -- What an update by number has of the one that is spelled.
 use Rattle.std.proofs.Common.{refl}
 use Rattle.ov_record.specs.Updates.{SealedEnrol, SealedCreate, SealedGrant, SealedRevoke, SealedRemove}
+use Rattle.ov_record.specs.Updates.{SealedReplace}
 use Rattle.ov_history.specs.Laws.{UpdatesAreNumbered}
 
 pub updates_are_numbered : UpdatesAreNumbered
@@ -9,3 +10,4 @@ updates_are_numbered names (SealedCreate file list tokens tag text) = (refl, ref
 updates_are_numbered names (SealedGrant user file token) = (refl, refl)
 updates_are_numbered names (SealedRevoke user file) = (refl, refl)
 updates_are_numbered names (SealedRemove file) = (refl, refl)
+updates_are_numbered names (SealedReplace name tokens tag text) = (refl, refl)

@@ -14,9 +14,9 @@ use Rattle.ov_base_layer.specs.Seals.{cover_tokens}
 use Rattle.ov_history.specs.Places.{change_at, gone, living_at}
 use Rattle.ov_history.specs.History.{File, Matrix}
 use Rattle.ov_history.specs.Layers.{Place, Layers, node_for, with_wants, wants_of, surface_at}
-use Rattle.ov_history.specs.Layers.{same_surface, lists_of, lists_after, list_at}
+use Rattle.ov_history.specs.Layers.{same_surface, lists_of, lists_after, list_at, list_in}
 use Rattle.ov_history.specs.Briefs.{Brief, BriefEnrol, BriefCreate, BriefGrant, BriefRevoke, outer}
-use Rattle.ov_history.specs.Briefs.{BriefRemove}
+use Rattle.ov_history.specs.Briefs.{BriefRemove, BriefReplace}
 
 -- the nodes of a layer: their sets, and the edges into each
 pub record Nodes : Type 0 where
@@ -139,7 +139,7 @@ new_file c name list tag size = record {
 
 -- The catalogue with what an update adds: a new user has a node alone in each layer, a new file
 -- has the base node of its list and no surface yet, and a grant brings an access token or none. A
--- file that is removed is gone.
+-- file that is removed is gone. So is one that is replaced, and a new one has its name and its list.
 abbrev pub grown_catalogue : Catalogue → Brief → Catalogue
 grown_catalogue c (BriefEnrol user) = record c {
   epoch = c.epoch + 1;
@@ -160,6 +160,12 @@ grown_catalogue c (BriefGrant user file token) = record c {
 grown_catalogue c (BriefRevoke user file) = record c { epoch = c.epoch + 1 }
 grown_catalogue c (BriefRemove file) =
     record c { epoch = c.epoch + 1; files = change_at gone file c.files }
+grown_catalogue c (BriefReplace file tokens tag size) = record c {
+  epoch = c.epoch + 1;
+  base = with_node c.base (list_in (outline c) file) tokens;
+  files = change_at gone file c.files
+      ++ Some (new_file c (filed_at c file).name (list_in (outline c) file) tag size) ∷ [];
+}
 
 -- ---- surfaces
 

@@ -4,6 +4,8 @@ use Rattle.ov_tokens.specs.declared.token.Token.{Token}
 use Rattle.ov_record.specs.Updates.{SealedUpdate as SpelledUpdate, SealedEnrol as SpelledEnrol}
 use Rattle.ov_record.specs.Updates.{SealedCreate as SpelledCreate, SealedGrant as SpelledGrant}
 use Rattle.ov_record.specs.Updates.{SealedRevoke as SpelledRevoke, SealedRemove as SpelledRemove}
+use Rattle.ov_record.specs.Updates.{SealedReplace as SpelledReplace}
+use Rattle.ov_history.specs.Places.{place_of}
 
 -- An update as its owner sends it: the list of a new file as a set of users, and with what the
 -- owner adds to it, which are the tokens, the file's tag, and its bytes in the base layer.
@@ -14,11 +16,15 @@ pub data SealedUpdate : Type 0 where
   SealedGrant : (user file : ℕ) → (token : Option Token) → SealedUpdate
   SealedRevoke : (user file : ℕ) → SealedUpdate
   SealedRemove : (file : ℕ) → SealedUpdate
+  SealedReplace : (file : ℕ) → (tokens : List Token) → (tag text : List ℕ) → SealedUpdate
 
--- the update that is spelled so, in a store whose files have these names by number
+-- The update that is spelled so, in a store whose files have these names by number. A replacement is
+-- spelled with the name of its file; of a name that isn't there it has one past the last number.
 abbrev pub numbered : List (List ℕ) → SpelledUpdate → SealedUpdate
 numbered names (SpelledEnrol user) = SealedEnrol user
 numbered names (SpelledCreate file list tokens tag text) = SealedCreate file list tokens tag text
 numbered names (SpelledGrant user file token) = SealedGrant user file token
 numbered names (SpelledRevoke user file) = SealedRevoke user file
 numbered names (SpelledRemove file) = SealedRemove file
+numbered names (SpelledReplace name tokens tag text) =
+    SealedReplace (place_of name names) tokens tag text

@@ -5,7 +5,8 @@ use Rattle.ov_base.specs.Sets.{Has}
 use Rattle.ov_ctr.specs.Ctr.{counter_block}
 use Rattle.ov_tokens.specs.declared.label.Label.{Label}
 use Rattle.ov_history.specs.Places.{living_at}
-use Rattle.ov_history.specs.History.{Update, Created, Removed, File, History, epoch_of, matrix_of}
+use Rattle.ov_history.specs.History.{Update, Created, Removed, Replaced, File, History, epoch_of}
+use Rattle.ov_history.specs.History.{file_at, matrix_of}
 use Rattle.ov_history.specs.History.{with_update}
 use Rattle.ov_history.specs.Layers.{holders, surface_at, layers_of}
 use Rattle.ov_history.specs.Refusals.{IsLegal}
@@ -42,15 +43,28 @@ FilesBegin =
     (h : History) (name : List ℕ) (list size : ℕ)
     → HasFile (with_update h (Created name list size)) (length (matrix_of h).files)
 
--- a file that is there stays there, after any further updates of which none removes it
+-- a file that replaces another is there, and has the next number
+abbrev pub FilesBeginAnew : Type 0
+FilesBeginAnew =
+    (h : History) (file size : ℕ)
+    → HasFile (with_update h (Replaced file size)) (length (matrix_of h).files)
+
+-- a file that is there stays there, after any further updates of which none removes or replaces it
 abbrev pub FilesStay : Type 0
 FilesStay =
     (h : History) (more : List Update) (file : ℕ)
-    → HasFile h file → (Contains more (Removed file) → ⊥) → HasFile (longer h more) file
+    → HasFile h file → (Contains more (Removed file) → ⊥)
+    → ((size : ℕ) → Contains more (Replaced file size) → ⊥) → HasFile (longer h more) file
 
 -- a file that is removed is gone
 abbrev pub RemovedIsGone : Type 0
 RemovedIsGone = (h : History) (file : ℕ) → HasFile (with_update h (Removed file)) file → ⊥
+
+-- a file that is replaced is gone
+abbrev pub ReplacedIsGone : Type 0
+ReplacedIsGone =
+    (h : History) (file size : ℕ)
+    → HasFile h file → HasFile (with_update h (Replaced file size)) file → ⊥
 
 -- ---- generations
 
@@ -76,6 +90,13 @@ abbrev pub GenerationsBegin : Type 0
 GenerationsBegin =
     (h : History) (name : List ℕ) (list size : ℕ)
     → let next = with_update h (Created name list size) in
+    (place_in next (length (matrix_of h).files)).generation ≡ epoch_of next
+
+-- a file that replaces another has the epoch after that update for its generation
+abbrev pub GenerationsBeginAnew : Type 0
+GenerationsBeginAnew =
+    (h : History) (file size : ℕ)
+    → let next = with_update h (Replaced file size) in
     (place_in next (length (matrix_of h).files)).generation ≡ epoch_of next
 
 -- ---- numbers
@@ -126,6 +147,16 @@ BaseNodeIsOfList =
     HasFile after (length (matrix_of h).files)
     → slice_get (layers_of after).base (place_in after (length (matrix_of h).files)).node
     ≡ Some list
+
+-- the base node of a file that replaces another is the node of the list that the other had then,
+-- after any further updates
+abbrev pub BaseNodeIsOfOldList : Type 0
+BaseNodeIsOfOldList =
+    (h : History) (file size : ℕ) (more : List Update)
+    → let after = longer (with_update h (Replaced file size)) more in
+    HasFile after (length (matrix_of h).files)
+    → slice_get (layers_of after).base (place_in after (length (matrix_of h).files)).node
+    ≡ Some (file_at (matrix_of h) file).list
 
 -- ---- pads
 
