@@ -212,13 +212,18 @@ module _ (is_out : ℕ → Bool) where
         record (grown_catalogue c (BriefCreate file list tokens tag (length text)))
         { files = files }) (more false is)
 
-  -- the catalogue with a new file of this name and list behind these
-  abbrev anew : Catalogue → List ℕ → ℕ → List Token → List ℕ → ℕ → List (Option Filed) → Catalogue
-  anew c name list tokens tag size files = record c {
+  -- the catalogue with the node of this list and with these files, after an update
+  abbrev noded : Catalogue → ℕ → List Token → List (Option Filed) → Catalogue
+  noded c list tokens files = record c {
     epoch = c.epoch + 1;
     base = with_node c.base list tokens;
-    files = files ++ Some (new_file c name list tag size) ∷ [];
+    files = files;
   }
+
+  -- the same with a new file of this name and list behind these
+  abbrev anew : Catalogue → List ℕ → ℕ → List Token → List ℕ → ℕ → List (Option Filed) → Catalogue
+  anew c name list tokens tag size files =
+      noded c list tokens (files ++ Some (new_file c name list tag size) ∷ [])
 
   -- a file that replaces another, which is out or not
   replaced_dim : (c : Catalogue) (file : ℕ) (tokens : List Token) (tag text : List ℕ) (b : Bool)
@@ -240,22 +245,16 @@ module _ (is_out : ℕ → Bool) where
         (list_in (outline c) file) tokens these size files) (dim_gone 0 file c.files)
 
     more : (b : Bool) → is_out (length c.files) ≡ b
-        → record c {
-          epoch = c.epoch + 1;
-          base = with_node c.base (list_in (outline c) file) tokens;
-          files = dim_all 0 (change_at gone file c.files)
-              ++ dim_if b (Some (new_file c (filed_at c file).name (list_in (outline c) file) tag
-              (length text))) ∷ [];
-        } ≡ dim (grown_catalogue c (BriefReplace file tokens tag (length text)))
+        → noded c (list_in (outline c) file) tokens
+        (dim_all 0 (change_at gone file c.files)
+        ++ dim_if b (Some (new_file c (filed_at c file).name (list_in (outline c) file) tag
+        (length text))) ∷ [])
+        ≡ dim (grown_catalogue c (BriefReplace file tokens tag (length text)))
     more b is =
         let left : List (Option Filed) = change_at gone file c.files in
         let new : Filed =
         new_file c (filed_at c file).name (list_in (outline c) file) tag (length text) in
-        ap (λ (files : List (Option Filed)). record c {
-          epoch = c.epoch + 1;
-          base = with_node c.base (list_in (outline c) file) tokens;
-          files = files;
-        })
+        ap (λ (files : List (Option Filed)). noded c (list_in (outline c) file) tokens files)
         (ap (λ b. dim_all 0 left ++ dim_if b (Some new) ∷ [])
         (sym (number_is (length left) b (ap is_out (length-change_at gone file c.files) ∙ is)))
         ∙ sym (dim_append 0 left (Some new)))

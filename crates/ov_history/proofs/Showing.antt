@@ -156,11 +156,12 @@ rows-at (f ∷ files) (list ∷ lists) (suc n) = rows-at files lists n
 
 -- the row of a file that replaces another has the other's name and list
 row_anew : (size : ℕ) (f : Option Filed) (list : Option ℕ) → is_some list ≡ is_some f
-    → record {
+    → resized size (unwrap_or (row f list) no_file)
+    ≡ record {
       name = (unwrap_or f no_filed).name;
       length = size;
       list = unwrap_or list nobody;
-    } ≡ resized size (unwrap_or (row f list) no_file)
+    }
 row_anew size None None both = refl
 row_anew size None (Some list) both = absurd (cc)
 row_anew size (Some f) None both = absurd (cc)
@@ -197,7 +198,7 @@ rows_grown c (BriefReplace file tokens tag size) lists many both =
     ∙ ap (λ (rest : List (Option File)). rest ++ Some (row_with f list) ∷ [])
     (rows-gone file c.files lists)
     ∙ ap (λ (new : File). change_at gone file (rows c.files lists) ++ Some new ∷ [])
-    (row_anew size (living_at c.files file) (living_at lists file) (both file)
+    (sym (row_anew size (living_at c.files file) (living_at lists file) (both file))
     ∙ ap (λ (o : Option File). resized size (unwrap_or o no_file))
     (sym (rows-at c.files lists file))))
 

@@ -268,7 +268,7 @@ gone_stays_gone h more file below there =
 -- ---- the node of a list that a file had
 
 -- the list of a file off the layers is that of the matrix
-list_of-file : (h : History) (file : ℕ)
+pub list_of-file : (h : History) (file : ℕ)
     → list_in (layers_of h) file ≡ (file_at (matrix_of h) file).list
 list_of-file h file =
     ap (λ (lists : List (Option ℕ)). list_among lists file) (lists_of-layers_of h)

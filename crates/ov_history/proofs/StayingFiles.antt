@@ -28,11 +28,10 @@ files_begin h name list size =
     (last_item (matrix_of h).files (Some (record { name = name; length = size; list = list })) n None
     refl))
 
--- the files that a replacement leaves, and the new one
-abbrev pub anew : Matrix → ℕ → ℕ → List (Option File)
-anew m file size = change_at gone file m.files ++ Some (resized size (file_at m file)) ∷ []
-
-pub length-anew : (m : Matrix) (file size : ℕ) → length (anew m file size) ≡ suc (length m.files)
+-- a replacement makes one file more
+pub length-anew : (m : Matrix) (file size : ℕ)
+    → length (change_at gone file m.files ++ Some (resized size (file_at m file)) ∷ [])
+    ≡ suc (length m.files)
 length-anew m file size =
     let left : List (Option File) = change_at gone file m.files in
     omega (
@@ -109,7 +108,7 @@ replaced_is_gone h file size was there =
     omega (arith, below_some m.files file was, length-change_at gone file m.files) in
     let still : is_file (changed m (Replaced file size)) file ≡ true =
     subst (λ (next : Matrix). is_file next file ≡ true) (matrix_of-push h (Replaced file size)) there in
-    let none : living_at (anew m file size) file ≡ None =
+    let none : living_at (left ++ Some (resized size (file_at m file)) ∷ []) file ≡ None =
     get_or_append_left left (Some (resized size (file_at m file)) ∷ []) None file below
     ∙ change_at-here gone file m.files None refl in
     absurd (cc)

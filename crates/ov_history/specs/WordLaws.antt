@@ -1,7 +1,7 @@
 -- The laws that say what the layers of a history are, in the words of its updates.
 use Rattle.std.specs.Prelude.{◌≡◌, ◌≢◌, ◌⊎◌, ◌↔◌, ℕ, ◌<◌, ◌≤◌, ◌^◌, List, [], length, slice_get, slice_index}
 use Rattle.std.specs.Prelude.{Contains, Some}
-use Rattle.ov_base.specs.Sets.{Has}
+use Rattle.ov_base.specs.Sets.{Has, single}
 use Rattle.ov_ctr.specs.Ctr.{counter_block}
 use Rattle.ov_tokens.specs.declared.label.Label.{Label}
 use Rattle.ov_history.specs.Places.{living_at}
@@ -12,8 +12,8 @@ use Rattle.ov_history.specs.Layers.{holders, surface_at, layers_of}
 use Rattle.ov_history.specs.Refusals.{IsLegal}
 use Rattle.ov_history.specs.Masters.{Masters}
 use Rattle.ov_history.specs.Plain.{PlainHistory, PlainUpdate, history_of}
-use Rattle.ov_history.specs.Words.{AreDistinct, HasFile, IsPadded, WasGranted, longer, longer_plain}
-use Rattle.ov_history.specs.Words.{place_in, wanted_of}
+use Rattle.ov_history.specs.Words.{AreDistinct, HasFile, IsPadded, WasGranted, WasListed, longer}
+use Rattle.ov_history.specs.Words.{longer_plain, place_in, wanted_of}
 
 -- a base node is held by its set's users, and by those who were granted a file of this node
 abbrev pub HoldersAreGranted : Type 0
@@ -21,6 +21,14 @@ HoldersAreGranted =
     (h : History) (node user : ℕ)
     → Has (holders (layers_of h) node) user
     ↔ (Has (slice_index (layers_of h).base node) user ⊎ WasGranted h node user)
+
+-- a user in the set of a base node is alone in it, or was in the list of a file of this node at its
+-- creation, or at the replacement that made it
+abbrev pub SetsAreOfLists : Type 0
+SetsAreOfLists =
+    (h : History) (node user : ℕ)
+    → Has (slice_index (layers_of h).base node) user
+    → (slice_index (layers_of h).base node ≡ single user) ⊎ WasListed h node user
 
 -- each file has the surface node of its wanted set, and none where none is wanted
 abbrev pub SurfaceIsWanted : Type 0
