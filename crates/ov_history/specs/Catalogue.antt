@@ -139,7 +139,7 @@ new_file c name list tag size = record {
 
 -- The catalogue with what an update adds: a new user has a node alone in each layer, a new file
 -- has the base node of its list and no surface yet, and a grant brings an access token or none. A
--- file that is removed is gone. So is one that is replaced, and a new one has its name and its list.
+-- file that is removed is gone. So is one that is replaced, and a new one has its name and list.
 abbrev pub grown_catalogue : Catalogue → Brief → Catalogue
 grown_catalogue c (BriefEnrol user) = record c {
   epoch = c.epoch + 1;

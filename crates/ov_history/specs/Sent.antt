@@ -18,8 +18,8 @@ pub data SealedUpdate : Type 0 where
   SealedRemove : (file : ℕ) → SealedUpdate
   SealedReplace : (file : ℕ) → (tokens : List Token) → (tag text : List ℕ) → SealedUpdate
 
--- The update that is spelled so, in a store whose files have these names by number. A replacement is
--- spelled with the name of its file; of a name that isn't there it has one past the last number.
+-- The update that is spelled so, in a store whose files have these names by number. A replacement
+-- is spelled with the name of its file; of a name that isn't there it has one past the last number.
 abbrev pub numbered : List (List ℕ) → SpelledUpdate → SealedUpdate
 numbered names (SpelledEnrol user) = SealedEnrol user
 numbered names (SpelledCreate file list tokens tag text) = SealedCreate file list tokens tag text

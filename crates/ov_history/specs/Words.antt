@@ -36,8 +36,8 @@ WasGranted h node user =
     × (h.updates ≡ before ++ Granted user file ∷ after)
     × (node_of (layers_of (cut_to h before)) file ≡ node)
 
--- the list of the file that an update makes, where it makes one: the list that it is created for, or
--- that of the file which it replaces
+-- the list of the file that an update makes, where it makes one: the list that it is created for,
+-- or that of the file which it replaces
 abbrev pub made_for : History → Update → Option ℕ
 made_for h (Enrolled user) = None
 made_for h (Created file list size) = Some list

@@ -36,8 +36,8 @@ pub enum Update<const W: usize> {
     Remove {
         file: u32,
     },
-    /// A file gets new bytes, for the users who are in its list. The old one is removed, and the new
-    /// one has its name and the next number. Tokens, tag and bytes are as those of a creation.
+    /// A file gets new bytes, for the users who are in its list. The old one is removed, and the
+    /// new one has its name and the next number. Tokens, tag and bytes are as those of a creation.
     Replace {
         name: Name,
         tokens: Tokens,
