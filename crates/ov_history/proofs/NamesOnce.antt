@@ -42,7 +42,7 @@ named_step x files name some false is rest =
     rest (λ same. absurd (true≢false (sym ((bytes_eq-Decides name (name_left x)).1 same) ∙ is)))
 
 -- the place of a name that a file has is that of a file
-named_there : (files : List (Option File)) (name : List ℕ) → (name ≡ [] → ⊥) → (n : ℕ) (f : File)
+pub named_there : (files : List (Option File)) (name : List ℕ) → (name ≡ [] → ⊥) → (n : ℕ) (f : File)
     → living_at files n ≡ Some f → f.name ≡ name
     → is_some (living_at files (place_of name (file_names files))) ≡ true
 named_there [] name some n f is same = absurd (cc)
@@ -90,7 +90,7 @@ once_more files new free once m n f g is are same some = elim (at_last files new
       (sym (named_there files new.name (λ none. some (named ∙ none)) n f is named) ∙ free)
 
 -- a file that is there
-there_is : (o : Option File) → is_some o ≡ true → (old : File) × (o ≡ Some old)
+pub there_is : (o : Option File) → is_some o ≡ true → (old : File) × (o ≡ Some old)
 there_is None some = absurd (cc)
 there_is (Some old) some = (old, refl)
 

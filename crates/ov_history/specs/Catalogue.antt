@@ -13,6 +13,7 @@ use Rattle.ov_base_layer.specs.Holders.{accesses_of}
 use Rattle.ov_base_layer.specs.Seals.{cover_tokens}
 use Rattle.ov_history.specs.Places.{change_at, gone, living_at}
 use Rattle.ov_history.specs.History.{File, Matrix}
+use Rattle.ov_history.specs.Lists.{file_names}
 use Rattle.ov_history.specs.Layers.{Place, Layers, node_for, with_wants, wants_of, surface_at}
 use Rattle.ov_history.specs.Layers.{same_surface, lists_of, lists_after, list_at, list_in}
 use Rattle.ov_history.specs.Briefs.{Brief, BriefEnrol, BriefCreate, BriefGrant, BriefRevoke, outer}
@@ -103,6 +104,10 @@ files_shown y (f ∷ files) = option_map (file_shown y) f ∷ files_shown y file
 -- the matrix that the catalogue shows
 abbrev pub matrix_shown : Catalogue → Matrix
 matrix_shown c = record { users = c.users; files = files_shown (outline c) c.files }
+
+-- the names of the files that the catalogue shows, by number; a gone one has the empty name
+abbrev pub file_names_shown : Catalogue → List (List ℕ)
+file_names_shown c = file_names (matrix_shown c).files
 
 -- ---- what an update adds
 

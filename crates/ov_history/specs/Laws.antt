@@ -6,16 +6,17 @@ use Rattle.ov_base.specs.declared.mode.Mode.{Mode}
 use Rattle.ov_base.specs.declared.refusal.Refusal.{Refusal}
 use Rattle.ov_base.specs.Refusals.{refusal_number}
 use Rattle.ov_record.specs.Updates.{SealedUpdate as SpelledUpdate}
-use Rattle.ov_record.specs.Briefs.{brief as spelled_brief, text_of as spelled_text}
+use Rattle.ov_record.specs.Briefs.{brief as brief_as_spelled, text_of as text_as_spelled}
 use Rattle.ov_tokens.specs.declared.label.Kind.TheVariants.{Surface}
 use Rattle.ov_tokens.specs.declared.label.Label.{Label}
 use Rattle.ov_history.specs.Places.{living_at}
 use Rattle.ov_history.specs.History.{History, Matrix, Update, epoch_of, matrix_of}
-use Rattle.ov_history.specs.Lists.{is_listed}
+use Rattle.ov_history.specs.Lists.{file_names, is_listed}
 use Rattle.ov_history.specs.Layers.{layers_of}
-use Rattle.ov_history.specs.Refusals.{read_refusal, read_tests, refusal_of, tests_of}
-use Rattle.ov_history.specs.Sent.{SealedUpdate, numbered}
-use Rattle.ov_history.specs.Briefs.{Brief, brief, numbered_brief, outer, text_of}
+use Rattle.ov_history.specs.Refusals.{IsLegal, read_refusal, read_tests, refusal_of, tests_of}
+use Rattle.ov_history.specs.Sent.{SealedUpdate, numbered, spelled}
+use Rattle.ov_history.specs.Briefs.{Brief, IsNamed, brief, numbered_brief, outer, spelled_brief}
+use Rattle.ov_history.specs.Briefs.{text_of}
 use Rattle.ov_history.specs.Catalogue.{Filed, Catalogue, catalogue_after, empty_catalogue}
 use Rattle.ov_history.specs.Catalogue.{matrix_shown, outline}
 use Rattle.ov_history.specs.Rewrites.{Rewrite, files_after, rewrites_of}
@@ -73,8 +74,32 @@ ClosureIsLeast =
 abbrev pub UpdatesAreNumbered : Type 0
 UpdatesAreNumbered =
     (names : List (List ℕ)) (u : SpelledUpdate)
-    → (brief (numbered names u) ≡ numbered_brief names (spelled_brief u))
-    × (text_of (numbered names u) ≡ spelled_text u)
+    → (brief (numbered names u) ≡ numbered_brief names (brief_as_spelled u))
+    × (text_of (numbered names u) ≡ text_as_spelled u)
+
+-- the spelling of an update has the spelling of its brief, and its text
+abbrev pub UpdatesAreSpelled : Type 0
+UpdatesAreSpelled =
+    (names : List (List ℕ)) (u : SealedUpdate)
+    → (brief_as_spelled (spelled names u) ≡ spelled_brief names (brief u))
+    × (text_as_spelled (spelled names u) ≡ text_of u)
+
+-- An update that was spelled, and isn't refused by number, is spelled so: by the names of the files
+-- after the history.
+abbrev pub SpelledOnce : Type 0
+SpelledOnce =
+    (h : History) (u : SpelledUpdate)
+    → let names = file_names (matrix_of h).files in
+    refusal_of h (outer (brief (numbered names u))) ≡ None → spelled names (numbered names u) ≡ u
+
+-- After a legal history the spelling of an update that isn't refused is that of no other, by number,
+-- where a file that it replaces has a name.
+abbrev pub NumberedOnce : Type 0
+NumberedOnce =
+    (h : History) (u : SealedUpdate)
+    → let names = file_names (matrix_of h).files in
+    IsLegal h → refusal_of h (outer (brief u)) ≡ None → IsNamed names (brief u)
+    → numbered names (spelled names u) ≡ u
 
 -- ---- histories
 

@@ -1,5 +1,5 @@
 -- Updates as a history has them: they name their files by number.
-use Rattle.std.specs.Prelude.{ℕ, List, Option}
+use Rattle.std.specs.Prelude.{ℕ, List, [], Option, slice_index_or}
 use Rattle.ov_tokens.specs.declared.token.Token.{Token}
 use Rattle.ov_record.specs.Updates.{SealedUpdate as SpelledUpdate, SealedEnrol as SpelledEnrol}
 use Rattle.ov_record.specs.Updates.{SealedCreate as SpelledCreate, SealedGrant as SpelledGrant}
@@ -28,3 +28,13 @@ numbered names (SpelledRevoke user file) = SealedRevoke user file
 numbered names (SpelledRemove file) = SealedRemove file
 numbered names (SpelledReplace name tokens tag text) =
     SealedReplace (place_of name names) tokens tag text
+
+-- the spelling of an update in a store whose files have these names by number
+abbrev pub spelled : List (List ℕ) → SealedUpdate → SpelledUpdate
+spelled names (SealedEnrol user) = SpelledEnrol user
+spelled names (SealedCreate file list tokens tag text) = SpelledCreate file list tokens tag text
+spelled names (SealedGrant user file token) = SpelledGrant user file token
+spelled names (SealedRevoke user file) = SpelledRevoke user file
+spelled names (SealedRemove file) = SpelledRemove file
+spelled names (SealedReplace file tokens tag text) =
+    SpelledReplace (slice_index_or names file []) tokens tag text
