@@ -9,15 +9,17 @@ use Rattle.ov_record.specs.Updates.{SealedEnrol as SpelledEnrol, SealedCreate as
 use Rattle.ov_record.specs.Updates.{SealedGrant as SpelledGrant, SealedRevoke as SpelledRevoke}
 use Rattle.ov_record.specs.Updates.{SealedRemove as SpelledRemove, SealedReplace as SpelledReplace}
 use Rattle.ov_history.specs.Places.{here_or_after, living_at, place_of}
-use Rattle.ov_history.specs.History.{File, History, Replaced, epoch_of, matrix_of}
+use Rattle.ov_history.specs.History.{File, History, Matrix, Replaced, epoch_of, matrix_of}
 use Rattle.ov_history.specs.Lists.{file_names, is_file, name_left}
 use Rattle.ov_history.specs.Layers.{layers_of}
 use Rattle.ov_history.specs.Refusals.{IsLegal, tests_of}
 use Rattle.ov_history.specs.Sent.{SealedEnrol, SealedCreate, SealedGrant, SealedRevoke, SealedRemove}
 use Rattle.ov_history.specs.Sent.{SealedReplace}
-use Rattle.ov_history.specs.Laws.{NumberedOnce, SpelledOnce, UpdatesAreNumbered, UpdatesAreSpelled}
+use Rattle.ov_history.specs.Laws.{NamesAreShown, NumberedOnce, SpelledOnce, UpdatesAreNumbered}
+use Rattle.ov_history.specs.Laws.{UpdatesAreSpelled}
 use Rattle.ov_history.proofs.ChangeLaws.{below_some}
 use Rattle.ov_history.proofs.NamesOnce.{named_there, names_are_once, there_is}
+use Rattle.ov_history.proofs.Showing.{history_is_shown}
 use Rattle.ov_history.proofs.SoundTests.{none_applies}
 
 pub updates_are_numbered : UpdatesAreNumbered
@@ -35,6 +37,10 @@ updates_are_spelled names (SealedGrant user file token) = (refl, refl)
 updates_are_spelled names (SealedRevoke user file) = (refl, refl)
 updates_are_spelled names (SealedRemove file) = (refl, refl)
 updates_are_spelled names (SealedReplace file tokens tag text) = (refl, refl)
+
+pub names_are_shown : NamesAreShown
+names_are_shown master c g stands =
+    ap (λ (m : Matrix). file_names m.files) (history_is_shown master c g stands).matrix
 
 -- ---- names by number
 

@@ -18,10 +18,10 @@ use Rattle.ov_history.specs.Sent.{SealedUpdate, numbered, spelled}
 use Rattle.ov_history.specs.Briefs.{Brief, IsNamed, brief, numbered_brief, outer, spelled_brief}
 use Rattle.ov_history.specs.Briefs.{text_of}
 use Rattle.ov_history.specs.Catalogue.{Filed, Catalogue, catalogue_after, empty_catalogue}
-use Rattle.ov_history.specs.Catalogue.{matrix_shown, outline}
+use Rattle.ov_history.specs.Catalogue.{file_names_shown, matrix_shown, outline}
 use Rattle.ov_history.specs.Rewrites.{Rewrite, files_after, rewrites_of}
 use Rattle.ov_history.specs.Sealed.{SealedHistory, IsSealed, HasParts, StandsFor, catalogue_of}
-use Rattle.ov_history.specs.Sealed.{blank, outer_of, with_sealed, refusal_shown}
+use Rattle.ov_history.specs.Sealed.{blank, file_names_of, outer_of, with_sealed, refusal_shown}
 use Rattle.ov_history.specs.Closure.{Reaches, ReachesAll, Holds, HoldsFile, IsClosed, IsRootOf}
 use Rattle.ov_history.specs.Closure.{IsRootOfSome, protecting}
 use Rattle.ov_history.specs.Sound.{IsSound}
@@ -83,6 +83,12 @@ UpdatesAreSpelled =
     (names : List (List ℕ)) (u : SealedUpdate)
     → (brief_as_spelled (spelled names u) ≡ spelled_brief names (brief u))
     × (text_as_spelled (spelled names u) ≡ text_of u)
+
+-- a catalogue that stands for a sealed history shows the names of its files
+abbrev pub NamesAreShown : Type 0
+NamesAreShown =
+    (master : List ℕ) (c : Catalogue) (g : SealedHistory)
+    → StandsFor master c g → file_names_shown c ≡ file_names_of g
 
 -- An update that was spelled, and isn't refused by number, is spelled so: by the names of the files
 -- after the history.
