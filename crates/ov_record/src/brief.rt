@@ -52,26 +52,6 @@ pub enum Brief<const W: usize> {
 }
 
 impl<const W: usize> Brief<W> {
-    fn of_replacement(
-        name: Name,
-        tokens: Tokens,
-        tag: [u8; 32],
-        bytes: Octets,
-    ) -> (Brief<W>, Option<Octets>)
-        requires { length bytes ≤ MAX_FILE_BYTES }
-        ensures brief { plain_brief result.0 ≡ BriefReplace name tokens tag (length bytes) }
-        ensures text { result.1 ≡ Some bytes }
-    {
-        let length = bytes.as_slice().len() as u32;
-        let replacement = Brief::Replace {
-            name,
-            tokens,
-            tag,
-            length,
-        };
-        (replacement, Some(bytes))
-    }
-
     /// The update without the bytes of its file, and those bytes, where it creates or replaces one.
     pub fn of(update: Update<W>) -> (Brief<W>, Option<Octets>)
         requires { IsFitting (brief (sealed_update update)) }
@@ -107,6 +87,26 @@ impl<const W: usize> Brief<W> {
                 bytes,
             } => Brief::of_replacement(name, tokens, tag, bytes),
         }
+    }
+
+    fn of_replacement(
+        name: Name,
+        tokens: Tokens,
+        tag: [u8; 32],
+        bytes: Octets,
+    ) -> (Brief<W>, Option<Octets>)
+        requires { length bytes ≤ MAX_FILE_BYTES }
+        ensures brief { plain_brief result.0 ≡ BriefReplace name tokens tag (length bytes) }
+        ensures text { result.1 ≡ Some bytes }
+    {
+        let length = bytes.as_slice().len() as u32;
+        let replacement = Brief::Replace {
+            name,
+            tokens,
+            tag,
+            length,
+        };
+        (replacement, Some(bytes))
     }
 
     /// How many bytes the file has, where the update creates or replaces one.
