@@ -15,8 +15,8 @@ shared updates =
     Enrolled (97 ∷ []) ∷ Enrolled (98 ∷ []) ∷ Created (102 ∷ []) 1 2 ∷ Granted 1 0 ∷ updates
 
 -- the files of the matrix after these updates
-abbrev pub files_after : List Update → List (Option File)
-files_after updates =
+abbrev pub matrix_files : List Update → List (Option File)
+matrix_files updates =
     (matrix_of (record { mode = Delta; first = 0; updates = updates })).files
 
 -- The replacement has the next number, and node 2 of both users. At the old file's node, and at
@@ -33,7 +33,7 @@ NewNodesHaveEdges = (plan_of (in_delta (shared [])).base 3).from ≡ 0 ∷ 1 ∷
 -- creation the second user would have lost it.
 abbrev pub ReplacementsKeepLists : Type 0
 ReplacementsKeepLists =
-    files_after (shared (Replaced 0 3 ∷ []))
+    matrix_files (shared (Replaced 0 3 ∷ []))
     ≡ None ∷ Some (record { name = 102 ∷ []; length = 3; list = 3 }) ∷ []
 
 -- A file that is created after a replacement and its removal has number 2. Were a number given out
