@@ -3,15 +3,15 @@
 use Rattle.std.proofs.Common.{◌≡◌, ◌∙◌, ℕ, zero, suc, List, [], ◌∷◌, ◌++◌, length, refl, sym}
 use Rattle.std.proofs.Common.{arith, length-append}
 use Rattle.std.specs.Prelude.{Option, Some, None, is_some, option_map}
-use Rattle.ov_record.specs.Updates.{SealedUpdate, SealedEnrol, SealedCreate, SealedGrant}
-use Rattle.ov_record.specs.Updates.{SealedRevoke, SealedRemove}
+use Rattle.ov_history.specs.Sent.{SealedUpdate, SealedEnrol, SealedCreate, SealedGrant}
+use Rattle.ov_history.specs.Sent.{SealedRevoke, SealedRemove, SealedReplace}
 use Rattle.ov_history.specs.Places.{change_at, gone, living_at}
 use Rattle.ov_history.specs.History.{File, Matrix, changed, changed_all, delisted, listed, matrix_of}
-use Rattle.ov_history.specs.History.{no_one}
-use Rattle.ov_history.specs.Layers.{lists_after, lists_of, wants_of, with_wants}
+use Rattle.ov_history.specs.History.{file_at, no_one, resized}
+use Rattle.ov_history.specs.Layers.{list_in, lists_after, lists_of, wants_of, with_wants}
 use Rattle.ov_history.specs.Briefs.{brief, outer}
 use Rattle.ov_history.specs.Catalogue.{Catalogue, Filed, catalogue_after, empty_catalogue}
-use Rattle.ov_history.specs.Catalogue.{grown_catalogue, new_file, outline, settled_files}
+use Rattle.ov_history.specs.Catalogue.{filed_at, grown_catalogue, new_file, outline, settled_files}
 use Rattle.ov_history.specs.Sealed.{SealedHistory, catalogue_all, catalogue_of, outer_all, outer_of}
 use Rattle.ov_history.proofs.ChangeLaws.{is_some-change, length-change_at}
 use Rattle.ov_history.proofs.Storing.{length-settled_files}
@@ -84,6 +84,17 @@ grown_alike c m (SealedRemove file) alike = (
   length-change_at gone file c.files ∙ alike.0 ∙ sym (length-change_at gone file m.files),
   gone_alike file c.files m.files alike.0 alike.1,
 )
+grown_alike c m (SealedReplace file tokens tag text) alike =
+    let f : Filed =
+    new_file c (filed_at c file).name (list_in (outline c) file) tag (length text) in
+    let g : File = resized (length text) (file_at m file) in
+    let filed : List (Option Filed) = change_at gone file c.files in
+    let shown : List (Option File) = change_at gone file m.files in
+    let many : length filed ≡ length shown =
+    length-change_at gone file c.files ∙ alike.0 ∙ sym (length-change_at gone file m.files) in (
+      omega (arith, many, length-append filed (Some f ∷ []), length-append shown (Some g ∷ [])),
+      more_alike filed shown f g many (gone_alike file c.files m.files alike.0 alike.1),
+    )
 
 module _ (master : List ℕ) where
   alike_all : (c : Catalogue) (m : Matrix) (updates : List SealedUpdate)

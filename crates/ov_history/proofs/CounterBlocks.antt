@@ -21,11 +21,12 @@ use Rattle.ov_history.proofs.Pushing.{matrix_of-push, with_updates, with_updates
 use Rattle.ov_history.proofs.SoundTests.{none_applies}
 use Rattle.std.proofs.Common.{◌<◌}
 use Rattle.ov_history.proofs.Staying.{numbers_stay}
+use Rattle.ov_history.proofs.StayingFiles.{length-anew}
 use Rattle.ov_history.proofs.ChangeLaws.{below_some}
 use Rattle.std.specs.Prelude.{option_map}
 use Rattle.std.specs.Prelude.{Some}
 use Rattle.ov_history.specs.Places.{gone}
-use Rattle.ov_history.specs.History.{Removed}
+use Rattle.ov_history.specs.History.{Removed, Replaced}
 
 -- ---- the number of files
 
@@ -46,6 +47,11 @@ few_after h (Revoked user file) none few =
     omega (arith, length-change_at (option_map (delisted user)) file (matrix_of h).files)
 few_after h (Removed file) none few =
     omega (arith, length-change_at gone file (matrix_of h).files)
+few_after h (Replaced file size) none few =
+    let m : Matrix = matrix_of h in
+    let full : nat_le MAX_FILES (length m.files) ≡ false =
+    (none_applies (tests_of m (layers_of h) (epoch_of h) (Replaced file size)) none).1.0 in
+    omega (arith, gt_of_false MAX_FILES (length m.files) full, length-anew m file size)
 
 few_all : (h : History) (updates : List Update) → AllAccepted h updates
     → length (matrix_of h).files ≤ MAX_FILES

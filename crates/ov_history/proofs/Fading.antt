@@ -4,20 +4,20 @@ use Rattle.std.proofs.Common.{refl, sym, ◌∙◌, ap, subst, arith, length-app
 use Rattle.std.specs.Prelude.{Option, Some, None, option_map, is_some, not, replicate, unwrap_or}
 use Rattle.std.proofs.lemmas.List.{length-replicate}
 use Rattle.ov_history.specs.Places.{change_at, gone, living_at}
-use Rattle.ov_history.specs.History.{Created, File, Matrix, Update, matrix_of}
+use Rattle.ov_history.specs.History.{Created, File, Matrix, Replaced, Update, matrix_of}
 use Rattle.ov_tokens.specs.declared.token.Token.{Token}
 use Rattle.ov_history.specs.Lists.{is_file}
-use Rattle.ov_history.specs.Layers.{Layers, Place, lists_after, lists_of}
+use Rattle.ov_history.specs.Layers.{Layers, Place, list_in, lists_after, lists_of}
 use Rattle.ov_history.specs.Layers.{same_surface, surface_at, wants_of, with_wants}
-use Rattle.ov_history.specs.Briefs.{BriefCreate, brief, outer, text_of}
+use Rattle.ov_history.specs.Briefs.{BriefCreate, BriefReplace, brief, outer, text_of}
 use Rattle.ov_history.specs.Catalogue.{Catalogue, Filed, catalogue_after, empty_catalogue}
 use Rattle.ov_history.specs.Catalogue.{file_shown, settled_catalogue}
 use Rattle.ov_history.specs.Catalogue.{filed_at, granted, grown_catalogue, new_file}
 use Rattle.ov_history.specs.Catalogue.{no_filed, outline, place_of_file, places, refiled}
 use Rattle.ov_history.specs.Catalogue.{settled_file, settled_files, settled_under}
-use Rattle.ov_history.specs.Catalogue.{with_surfaces}
-use Rattle.ov_record.specs.Updates.{SealedUpdate, SealedEnrol, SealedCreate, SealedGrant}
-use Rattle.ov_record.specs.Updates.{SealedRevoke, SealedRemove}
+use Rattle.ov_history.specs.Catalogue.{with_node, with_surfaces}
+use Rattle.ov_history.specs.Sent.{SealedUpdate, SealedEnrol, SealedCreate, SealedGrant}
+use Rattle.ov_history.specs.Sent.{SealedRevoke, SealedRemove, SealedReplace}
 use Rattle.ov_history.specs.Sealed.{SealedHistory, IsSealed, catalogue_all, catalogue_of, outer_of}
 use Rattle.ov_history.specs.Sealed.{sent_all, sent_of}
 use Rattle.ov_history.specs.Rewrites.{with_text}
@@ -165,6 +165,17 @@ module _ (is_out : ℕ → Bool) where
         node_by None = refl
         node_by (Some f) = refl
 
+  name_dim : (c : Catalogue) (file : ℕ) → (filed_at (dim c) file).name ≡ (filed_at c file).name
+  name_dim c file =
+      name_by (living_at (dim c).files file)
+      ∙ ap (λ (o : Option (List ℕ)). unwrap_or o [])
+      (dim_seen (λ f. f.name) (λ f. refl) 0 c.files file)
+      ∙ sym (name_by (living_at c.files file)) where
+        name_by : (o : Option Filed)
+            → (unwrap_or o no_filed).name ≡ unwrap_or (option_map (λ f. f.name) o) []
+        name_by None = refl
+        name_by (Some f) = refl
+
   -- ---- one update
 
   number_is : (many : ℕ) (b : Bool) → is_out many ≡ b → is_out (0 + many) ≡ b
@@ -200,6 +211,63 @@ module _ (is_out : ℕ → Bool) where
         ap (λ (files : List (Option Filed)).
         record (grown_catalogue c (BriefCreate file list tokens tag (length text)))
         { files = files }) (more false is)
+
+  -- the catalogue with the node of this list and with these files, after an update
+  abbrev noded : Catalogue → ℕ → List Token → List (Option Filed) → Catalogue
+  noded c list tokens files = record c {
+    epoch = c.epoch + 1;
+    base = with_node c.base list tokens;
+    files = files;
+  }
+
+  -- the same with a new file of this name and list behind these
+  abbrev anew : Catalogue → List ℕ → ℕ → List Token → List ℕ → ℕ → List (Option Filed) → Catalogue
+  anew c name list tokens tag size files =
+      noded c list tokens (files ++ Some (new_file c name list tag size) ∷ [])
+
+  -- a file that replaces another, which is out or not
+  replaced_dim : (c : Catalogue) (file : ℕ) (tokens : List Token) (tag text : List ℕ) (b : Bool)
+      → is_out (length c.files) ≡ b
+      → grown_catalogue (dim c) (brief (faded_if b (SealedReplace file tokens tag text)))
+      ≡ dim (grown_catalogue c (BriefReplace file tokens tag (length text)))
+  replaced_dim c file tokens tag text b is = by_test b is where
+    -- what it adds to the dim files
+    grows : (these : List ℕ) (size : ℕ)
+        → grown_catalogue (dim c) (BriefReplace file tokens these size)
+        ≡ anew c (filed_at c file).name (list_in (outline c) file) tokens these size
+        (dim_all 0 (change_at gone file c.files))
+    grows these size =
+        ap (λ (y : Layers). anew c (filed_at (dim c) file).name (list_in y file) tokens these size
+        (change_at gone file (dim_all 0 c.files))) (outline_dim c)
+        ∙ ap (λ (name : List ℕ). anew c name (list_in (outline c) file) tokens these size
+        (change_at gone file (dim_all 0 c.files))) (name_dim c file)
+        ∙ ap (λ (files : List (Option Filed)). anew c (filed_at c file).name
+        (list_in (outline c) file) tokens these size files) (dim_gone 0 file c.files)
+
+    more : (b : Bool) → is_out (length c.files) ≡ b
+        → noded c (list_in (outline c) file) tokens
+        (dim_all 0 (change_at gone file c.files)
+        ++ dim_if b (Some (new_file c (filed_at c file).name (list_in (outline c) file) tag
+        (length text))) ∷ [])
+        ≡ dim (grown_catalogue c (BriefReplace file tokens tag (length text)))
+    more b is =
+        let left : List (Option Filed) = change_at gone file c.files in
+        let new : Filed =
+        new_file c (filed_at c file).name (list_in (outline c) file) tag (length text) in
+        ap (λ (files : List (Option Filed)). noded c (list_in (outline c) file) tokens files)
+        (ap (λ b. dim_all 0 left ++ dim_if b (Some new) ∷ [])
+        (sym (number_is (length left) b (ap is_out (length-change_at gone file c.files) ∙ is)))
+        ∙ sym (dim_append 0 left (Some new)))
+
+    by_test : (b : Bool) → is_out (length c.files) ≡ b
+        → grown_catalogue (dim c) (brief (faded_if b (SealedReplace file tokens tag text)))
+        ≡ dim (grown_catalogue c (BriefReplace file tokens tag (length text)))
+    by_test true is =
+        ap (λ size. grown_catalogue (dim c) (BriefReplace file tokens no_tag size))
+        (length-replicate (length text) 0)
+        ∙ grows no_tag (length text)
+        ∙ more true is
+    by_test false is = grows tag (length text) ∙ more false is
 
   -- an update that makes no file doesn't fade
   grown_dim : (c : Catalogue) (u : SealedUpdate)
@@ -241,6 +309,8 @@ module _ (is_out : ℕ → Bool) where
         ≡ dim (grown_catalogue c (brief (SealedRemove file)))
     by_test true = left
     by_test false = left
+  grown_dim c (SealedReplace file tokens tag text) =
+      replaced_dim c file tokens tag text (is_out (length c.files)) refl
 
   -- without parts it is the same update
   pub outer_faded : (b : Bool) (u : SealedUpdate) → outer (brief (faded_if b u)) ≡ outer (brief u)
@@ -251,6 +321,8 @@ module _ (is_out : ℕ → Bool) where
   outer_faded true (SealedGrant user file token) = refl
   outer_faded true (SealedRevoke user file) = refl
   outer_faded true (SealedRemove file) = refl
+  outer_faded true (SealedReplace file tokens tag text) =
+      ap (λ size. Replaced file size) (length-replicate (length text) 0)
 
   after_dim : (master : List ℕ) (c : Catalogue) (u : SealedUpdate)
       → catalogue_after master (dim c) (brief (faded_if (is_out (length c.files)) u))
@@ -290,6 +362,14 @@ module _ (is_out : ℕ → Bool) where
         by_update (SealedRevoke user file) = omega arith
         by_update (SealedRemove file) =
             omega (arith, length-change_at gone file c.files)
+        by_update (SealedReplace file tokens tag text) =
+            let new : Filed =
+            new_file c (filed_at c file).name (list_in (outline c) file) tag (length text) in
+            omega (
+              arith,
+              length-change_at gone file c.files,
+              length-append (change_at gone file c.files) (Some new ∷ []),
+            )
 
   all_dim : (master : List ℕ) (c : Catalogue) (updates : List SealedUpdate)
       → catalogue_all master (dim c) (faded_all is_out (length c.files) updates)
@@ -368,6 +448,17 @@ module _ (is_out : ℕ → Bool) (n : ℕ) (here : is_out n ≡ false) where
   text_dim texts other (SealedRevoke user file) false is many same = (omega arith, omega arith, same)
   text_dim texts other (SealedRemove file) true is many same = (omega arith, omega arith, same)
   text_dim texts other (SealedRemove file) false is many same = (omega arith, omega arith, same)
+  text_dim texts other (SealedReplace file tokens tag text) true is many same = (
+    omega (arith, length-append texts (replicate (length text) 0 ∷ [])),
+    length-append other (text ∷ []),
+    get_or_more texts other (replicate (length text) 0) text many n same
+        (λ at. absurd (true≢false (sym is ∙ ap is_out (sym at) ∙ here))),
+  )
+  text_dim texts other (SealedReplace file tokens tag text) false is many same = (
+    omega (arith, length-append texts (text ∷ [])),
+    length-append other (text ∷ []),
+    get_or_more texts other text text many n same (λ at. refl),
+  )
 
   texts_dim : (texts other : List (List ℕ)) (updates : List SealedUpdate)
       → length texts ≡ length other → at_n texts ≡ at_n other
@@ -443,6 +534,7 @@ module _ (is_out : ℕ → Bool) where
   parts_dim y true (SealedGrant user file token) parts = parts
   parts_dim y true (SealedRevoke user file) parts = parts
   parts_dim y true (SealedRemove file) parts = parts
+  parts_dim y true (SealedReplace file tokens tag text) parts = parts
 
   fit_dim : (h : History) (number : ℕ) (updates : List SealedUpdate) → AllFit h updates
       → AllFit h (faded_all is_out number updates)

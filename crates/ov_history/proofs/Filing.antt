@@ -4,7 +4,7 @@ use Rattle.std.proofs.Common.{length, refl, sym, ◌∙◌, ap, subst, arith, in
 use Rattle.std.specs.Prelude.{Option, Some, None, slice_index_or}
 use Rattle.std.proofs.lemmas.List.{get_or_append_left}
 use Rattle.ov_graph.proofs.GraphLaws.{last_item}
-use Rattle.ov_record.specs.Updates.{SealedUpdate}
+use Rattle.ov_history.specs.Sent.{SealedUpdate}
 use Rattle.ov_tokens.specs.declared.label.Kind.TheVariants.{Access}
 use Rattle.ov_tokens.specs.Labels.{label_of}
 use Rattle.ov_surface.specs.Coats.{base_text, stored_under}
@@ -13,7 +13,7 @@ use Rattle.ov_surface.proofs.CoatLaws.{both_come_off}
 use Rattle.ov_history.specs.Plain.{PlainCreate, PlainEnrol, PlainGrant, PlainHistory, PlainRevoke}
 use Rattle.ov_history.specs.Plain.{PlainUpdate, bytes_of, history_of, texts_after, texts_of}
 use Rattle.ov_history.specs.Plain.{with_plain}
-use Rattle.ov_history.specs.Layers.{Layers, layers_of, lists_after, lists_of}
+use Rattle.ov_history.specs.Layers.{Layers, layers_of, list_in, lists_after, lists_of}
 use Rattle.ov_history.specs.Layers.{wants_of, with_wants}
 use Rattle.ov_history.specs.Briefs.{brief, outer, text_of}
 use Rattle.ov_history.specs.Catalogue.{Catalogue, Filed, catalogue_after, grown_catalogue}
@@ -26,7 +26,7 @@ use Rattle.ov_history.specs.Kept.{opened, padded}
 use Rattle.ov_history.specs.Closure.{surface_label}
 use Rattle.ov_history.specs.KeptLaws.{BytesLieUnderPads, EachIsStored, FilesAreFiled}
 use Rattle.ov_history.specs.KeptLaws.{ReadersGetBytes}
-use Rattle.ov_history.specs.Catalogue.{new_file}
+use Rattle.ov_history.specs.Catalogue.{filed_at, new_file}
 use Rattle.ov_history.specs.Sealing.{sealed_tag, sealed_text}
 use Rattle.ov_history.proofs.ChangeLaws.{gone_other, length-change_at, some-there}
 use Rattle.ov_history.proofs.GoingOn.{sent-push}
@@ -38,7 +38,7 @@ use Rattle.ov_history.proofs.Storing.{IsSameFile, settled_still, with_last, leng
 use Rattle.ov_history.specs.Places.{living_at}
 use Rattle.ov_history.specs.Places.{change_at}
 use Rattle.ov_history.specs.Places.{gone}
-use Rattle.ov_history.specs.Plain.{PlainRemove}
+use Rattle.ov_history.specs.Plain.{PlainRemove, PlainReplace}
 
 -- ---- one file
 
@@ -142,6 +142,17 @@ grown_sent k c bytes texts (PlainCreate file list plain) all =
 grown_sent k c bytes texts (PlainGrant user file) all = all
 grown_sent k c bytes texts (PlainRevoke user file) all = all
 grown_sent k c bytes texts (PlainRemove file) all = gone_sent k c.files bytes texts file all
+grown_sent k c bytes texts (PlainReplace file plain) all =
+    let list : ℕ = list_in (outline c) file in
+    let tag : List ℕ = sealed_tag k (outline c) list plain in
+    let text : List ℕ = sealed_text k (outline c) list plain in
+    let name : List ℕ = (filed_at c file).name in
+    more_sent k (change_at gone file c.files) bytes texts
+    (Some (new_file c name list tag (length text))) plain text
+    (gone_sent k c.files bytes texts file all)
+    (λ f is.
+    subst (λ n. IsSentAs k n f plain text) (sym (length-change_at gone file c.files))
+    (new_sent k c name list (length text) plain f is))
 
 sent_after : (k : Masters) (c : Catalogue) (bytes texts : List (List ℕ)) (u : PlainUpdate)
     → AllSent k c.files bytes texts

@@ -1,5 +1,5 @@
 -- A file's generation is the epoch since when it has its wanted set.
-use Rattle.std.proofs.Common.{◌≡◌, ◌≢◌, ◌==◌, ℕ, ◌<◌, Bool, true, false, List, [], ◌∷◌}
+use Rattle.std.proofs.Common.{◌≡◌, ◌≢◌, ◌==◌, ℕ, ◌<◌, Bool, true, false, List, [], ◌∷◌, ◌++◌}
 use Rattle.std.proofs.Common.{length, get_or, refl, sym, ◌∙◌, ap, subst, arith, true≢false}
 use Rattle.std.proofs.Common.{length-append}
 use Rattle.std.specs.Prelude.{Contains, Option, Some, None, slice_index}
@@ -16,7 +16,7 @@ use Rattle.ov_history.specs.Layers.{Layers, Place, grown, layers_after, layers_o
 use Rattle.ov_history.specs.Layers.{lists_of, moved, no_place, node_for, same_surface, settled_at}
 use Rattle.ov_history.specs.Layers.{surface_at, wants_of}
 use Rattle.ov_history.specs.Words.{place_in, wanted_of}
-use Rattle.ov_history.specs.WordLaws.{GenerationsBegin, GenerationsMove}
+use Rattle.ov_history.specs.WordLaws.{GenerationsBegin, GenerationsBeginAnew, GenerationsMove}
 use Rattle.ov_history.specs.WordLaws.{GenerationsStay}
 use Rattle.ov_history.proofs.Listing.{same_surface-is, same_surface-refl}
 use Rattle.ov_history.proofs.MatrixLaws.{epoch_of-layers_of, files_of-layers_of}
@@ -28,9 +28,9 @@ use Rattle.ov_history.proofs.Wanting.{place_at, settled_after, wanted_in, wanted
 use Rattle.std.specs.Prelude.{unwrap_or}
 use Rattle.std.specs.Prelude.{is_some}
 use Rattle.ov_history.specs.Places.{living_at}
-use Rattle.ov_history.specs.Places.{gone}
-use Rattle.ov_history.specs.Layers.{new_place}
-use Rattle.ov_history.specs.History.{Removed}
+use Rattle.ov_history.specs.Places.{change_at, gone}
+use Rattle.ov_history.specs.Layers.{list_in, new_place}
+use Rattle.ov_history.specs.History.{Removed, Replaced}
 use Rattle.ov_history.proofs.ChangeLaws.{gone_other}
 use Rattle.ov_history.proofs.ChangeLaws.{length-change_at}
 use Rattle.ov_history.specs.Words.{HasFile}
@@ -97,6 +97,7 @@ grown_surface y (Created name list size) n below = (below, refl)
 grown_surface y (Granted user file) n below = (below, refl)
 grown_surface y (Revoked user file) n below = (below, refl)
 grown_surface y (Removed file) n below = (below, refl)
+grown_surface y (Replaced file size) n below = (below, refl)
 
 surface_keeps : (y : Layers) (u : Update) → KeepsNodes y.surface (layers_after y u).surface
 surface_keeps y u n below =
@@ -122,6 +123,18 @@ grown_file y (Removed other) file below still = (
   omega (arith, length-change_at gone other y.files),
   ap (λ (o : Option Place). unwrap_or o no_place) (gone_other other y.files file still),
 )
+grown_file y (Replaced other size) file below still =
+    let left : List (Option Place) = change_at gone other y.files in
+    let last : Option Place = Some (new_place y (list_in y other)) in
+    let low : file < length left = omega (arith, length-change_at gone other y.files) in
+    let same : living_at (left ++ last ∷ []) file ≡ living_at left file =
+    get_or_append_left left (last ∷ []) None file low in (
+      omega (arith, low, length-append left (last ∷ [])),
+      ap (λ (o : Option Place). unwrap_or o no_place)
+          (same
+          ∙ gone_other other y.files file
+          (ap (λ (o : Option Place). is_some o) (sym same) ∙ still)),
+    )
 
 moved_stays : (b : Bool) (epoch : ℕ) (surface : Option ℕ) (p : Place)
     → same_surface p.surface surface ≡ b
@@ -211,6 +224,19 @@ generation_begins y name list size =
     (ap (λ (o : Option Place). unwrap_or o no_place)
     (last_item y.files (Some new) (length y.files) None refl)) refl
 
+-- a file that replaces another is new at the epoch of its update
+generation_begins_anew : (y : Layers) (file size : ℕ)
+    → let later = layers_after y (Replaced file size) in
+    (place_at later.files (length y.files)).generation ≡ later.epoch
+generation_begins_anew y file size =
+    let new : Place = new_place y (list_in y file) in
+    let left : List (Option Place) = change_at gone file y.files in
+    let many : length left ≡ length y.files = length-change_at gone file y.files in
+    begins_at y (Replaced file size) new (length y.files)
+    (omega (arith, many, length-append left (Some new ∷ [])))
+    (ap (λ (o : Option Place). unwrap_or o no_place)
+    (last_item left (Some new) (length y.files) None (sym many))) refl
+
 -- ---- histories
 
 module _ (h : History) (u : Update) where
@@ -268,3 +294,14 @@ generations_begin h name list size =
     (λ n. (place_at (layers_after (layers_of h) u).files n).generation ≡ epoch_of (with_update h u))
     (files_of-layers_of h)
     (generation_begins (layers_of h) name list size ∙ now h u))
+
+pub generations_begin_anew : GenerationsBeginAnew
+generations_begin_anew h file size =
+    let u : Update = Replaced file size in
+    after_update h u
+    (λ (y : Layers). (place_at y.files (length (matrix_of h).files)).generation
+    ≡ epoch_of (with_update h u))
+    (subst
+    (λ n. (place_at (layers_after (layers_of h) u).files n).generation ≡ epoch_of (with_update h u))
+    (files_of-layers_of h)
+    (generation_begins_anew (layers_of h) file size ∙ now h u))

@@ -2,13 +2,13 @@
 use Rattle.std.proofs.Common.{◌≡◌, ◌∙◌, ℕ, zero, suc, List, [], ◌∷◌, ◌++◌, length, refl, sym, arith}
 use Rattle.std.proofs.Common.{length-append}
 use Rattle.std.specs.Prelude.{Option, Some, None, slice_index_or}
-use Rattle.ov_record.specs.Updates.{SealedUpdate, SealedEnrol, SealedCreate, SealedGrant}
-use Rattle.ov_record.specs.Updates.{SealedRevoke, SealedRemove}
+use Rattle.ov_history.specs.Sent.{SealedUpdate, SealedEnrol, SealedCreate, SealedGrant}
+use Rattle.ov_history.specs.Sent.{SealedRevoke, SealedRemove, SealedReplace}
 use Rattle.ov_history.specs.Places.{change_at, gone, living_at}
-use Rattle.ov_history.specs.Layers.{lists_after, lists_of, wants_of, with_wants}
+use Rattle.ov_history.specs.Layers.{list_in, lists_after, lists_of, wants_of, with_wants}
 use Rattle.ov_history.specs.Briefs.{brief, outer, text_of}
 use Rattle.ov_history.specs.Catalogue.{Catalogue, Filed, catalogue_after, empty_catalogue}
-use Rattle.ov_history.specs.Catalogue.{grown_catalogue, new_file, outline, settled_files}
+use Rattle.ov_history.specs.Catalogue.{filed_at, grown_catalogue, new_file, outline, settled_files}
 use Rattle.ov_history.specs.Rewrites.{files_after, rewrites_of, stored_after, with_text, without_gone}
 use Rattle.ov_history.specs.Sealed.{SealedHistory, catalogue_all, catalogue_of, stored_all, stored_of}
 use Rattle.ov_history.proofs.ChangeLaws.{length-change_at}
@@ -27,6 +27,19 @@ length-with_text c stored (SealedGrant user file token) many = many
 length-with_text c stored (SealedRevoke user file) many = many
 length-with_text c stored (SealedRemove file) many =
     length-change_at (λ bytes. []) file stored ∙ many ∙ sym (length-change_at gone file c.files)
+length-with_text c stored (SealedReplace file tokens tag text) many =
+    let dropped : List (List ℕ) = change_at (λ bytes. []) file stored in
+    let left : List (Option Filed) = change_at gone file c.files in
+    let f : Option Filed =
+    Some (new_file c (filed_at c file).name (list_in (outline c) file) tag (length text)) in
+    omega (
+      arith,
+      many,
+      length-change_at (λ bytes. []) file stored,
+      length-change_at gone file c.files,
+      length-append dropped (text ∷ []),
+      length-append left (f ∷ []),
+    )
 
 -- there are no bytes of a file that is gone
 abbrev pub NoneLeft : List (Option Filed) → List (List ℕ) → Type 0
@@ -65,6 +78,11 @@ grown_left c stored (SealedCreate file list tokens tag text) many left =
 grown_left c stored (SealedGrant user file token) many left = left
 grown_left c stored (SealedRevoke user file) many left = left
 grown_left c stored (SealedRemove file) many left = drop_left file c.files stored many left
+grown_left c stored (SealedReplace file tokens tag text) many left =
+    more_left (change_at gone file c.files) (change_at (λ bytes. []) file stored)
+    (new_file c (filed_at c file).name (list_in (outline c) file) tag (length text)) text
+    (length-change_at (λ bytes. []) file stored ∙ many ∙ sym (length-change_at gone file c.files))
+    (drop_left file c.files stored many left)
 
 settled_none : (epoch : ℕ) (sets : List ℕ) (wants : List (Option ℕ)) (files : List (Option Filed))
     (n : ℕ) → living_at (settled_files epoch sets wants files) n ≡ None → living_at files n ≡ None

@@ -12,7 +12,7 @@ use Rattle.ov_history.specs.History.{Created, Enrolled, Granted, Revoked, Update
 use Rattle.ov_history.specs.Layers.{Layers, Place, grown, holders, layers_after, lists_after}
 use Rattle.ov_history.specs.Layers.{lists_at, lists_of, moved, node_for, same_surface, set_or}
 use Rattle.ov_history.specs.Layers.{settled, settled_all, settled_at, surface_at, wants_at}
-use Rattle.ov_history.specs.Layers.{wants_of, with_wants}
+use Rattle.ov_history.specs.Layers.{list_in, wants_of, with_wants}
 use Rattle.ov_history.proofs.PlanLaws.{with_wants-has}
 use Rattle.std.specs.Prelude.{option_map}
 use Rattle.std.specs.Prelude.{◌++◌}
@@ -22,7 +22,7 @@ use Rattle.ov_history.specs.Layers.{want_at}
 use Rattle.ov_history.specs.Layers.{list_at}
 use Rattle.ov_history.specs.Places.{gone}
 use Rattle.ov_history.specs.Layers.{new_place}
-use Rattle.ov_history.specs.History.{Removed}
+use Rattle.ov_history.specs.History.{Removed, Replaced}
 
 -- ---- surfaces
 
@@ -211,10 +211,6 @@ gone_alike zero (list ∷ lists) (p ∷ places) all = (tt, all.1)
 gone_alike (suc file) (list ∷ lists) (p ∷ places) all =
     (all.0, gone_alike file lists places all.1)
 
-anew_alike : (y : Layers) (list : Option ℕ) → AreAlike list (option_map (new_place y) list)
-anew_alike y None = tt
-anew_alike y (Some list) = tt
-
 length-alike : (lists : List (Option ℕ)) (places : List (Option Place)) → AllAlike lists places
     → length lists ≡ length places
 length-alike [] [] all = refl
@@ -242,6 +238,10 @@ lists_after-alike y (Granted user file) =
 lists_after-alike y (Revoked user file) =
     changed_alike (λ list. without list user) file (lists_of y) y.files (shown_alike y y.files)
 lists_after-alike y (Removed file) = gone_alike file (lists_of y) y.files (shown_alike y y.files)
+lists_after-alike y (Replaced file size) =
+    more_alike (change_at gone file (lists_of y)) (change_at gone file y.files)
+    (Some (list_in y file)) (Some (new_place y (list_in y file))) tt
+    (gone_alike file (lists_of y) y.files (shown_alike y y.files))
 
 -- there is one for each number
 pub length-lists_after : (y : Layers) (u : Update)

@@ -5,11 +5,12 @@ use Rattle.std.specs.Prelude.{◌≤◌, Option, Some, None, nat_lt}
 use Rattle.std.proofs.lemmas.Bool.Decides.{nat_tests}
 use Rattle.std.proofs.lemmas.List.{get_or_append_left}
 use Rattle.ov_history.specs.Places.{change_at, gone, living_at}
-use Rattle.ov_history.specs.Layers.{lists_after, lists_of, node_for, same_surface, surface_at}
+use Rattle.ov_history.specs.Layers.{list_in, lists_after, lists_of, node_for, same_surface}
+use Rattle.ov_history.specs.Layers.{surface_at}
 use Rattle.ov_history.specs.Layers.{wants_of, with_wants}
 use Rattle.ov_history.specs.Briefs.{Brief, BriefEnrol, BriefCreate, BriefGrant, BriefRevoke, outer}
-use Rattle.ov_history.specs.Briefs.{BriefRemove}
-use Rattle.ov_history.specs.Catalogue.{Catalogue, Filed}
+use Rattle.ov_history.specs.Briefs.{BriefRemove, BriefReplace}
+use Rattle.ov_history.specs.Catalogue.{Catalogue, Filed, filed_at}
 use Rattle.ov_history.specs.Catalogue.{grown_catalogue, new_file, outline, refiled, settled_file, settled_files}
 use Rattle.ov_history.specs.Rewrites.{files_after, length_left}
 use Rattle.ov_history.proofs.ChangeLaws.{length-change_at}
@@ -53,6 +54,11 @@ gone-grown c (BriefCreate file list tokens tag size) n below gone =
 gone-grown c (BriefGrant user file token) n below gone = gone
 gone-grown c (BriefRevoke user file) n below gone = gone
 gone-grown c (BriefRemove file) n below none = gone-again file c.files n none
+gone-grown c (BriefReplace file tokens tag size) n below none =
+    let new : Filed = new_file c (filed_at c file).name (list_in (outline c) file) tag size in
+    get_or_append_left (change_at gone file c.files) (Some new ∷ []) None n
+    (omega (arith, below, length-change_at gone file c.files))
+    ∙ gone-again file c.files n none
 
 -- a file that is there after an update, and wasn't before, has a number that was never given
 pub never_given : (c : Catalogue) (b : Brief) (n : ℕ) (now : Filed)
@@ -98,6 +104,14 @@ new-grown c (BriefGrant user file token) n past below = absurd (omega (arith, pa
 new-grown c (BriefRevoke user file) n past below = absurd (omega (arith, past, below))
 new-grown c (BriefRemove file) n past below =
     absurd (omega (arith, past, below, length-change_at gone file c.files))
+new-grown c (BriefReplace file tokens tag size) n past below =
+    let new : Filed = new_file c (filed_at c file).name (list_in (outline c) file) tag size in
+    let left : List (Option Filed) = change_at gone file c.files in
+    let many : length left ≡ length c.files = length-change_at gone file c.files in (
+      new,
+      last_item left (Some new) n None
+          (omega (arith, past, below, many, length-append left (Some new ∷ []))),
+    )
 
 pub new_there : (c : Catalogue) (b : Brief) (n : ℕ) → length c.files ≤ n
     → n < length (files_after c b) → (now : Filed) × (living_at (files_after c b) n ≡ Some now)

@@ -20,7 +20,8 @@ use Rattle.ov_history.specs.Places.{living_at}
 use Rattle.ov_base.specs.Sets.{empty as nobody}
 use Rattle.ov_history.specs.Places.{change_at}
 use Rattle.ov_history.specs.Places.{gone}
-use Rattle.ov_history.specs.History.{Removed}
+use Rattle.ov_history.specs.History.{Removed, Replaced, resized}
+use Rattle.std.specs.Prelude.{◌++◌}
 
 -- ---- lists of files
 
@@ -74,6 +75,13 @@ file_lists-changed m (Revoked user file) =
     (option_map (λ list. without list user))
     (changed_list (λ list. without list user) (delisted user) (λ file. refl)) file m.files
 file_lists-changed m (Removed file) = file_lists-gone file m.files
+file_lists-changed m (Replaced file size) =
+    map-append (option_map (λ (file : File). file.list)) (change_at gone file m.files)
+    (Some (resized size (file_at m file)) ∷ [])
+    ∙ ap (λ (lists : List (Option ℕ)). lists ++ Some (file_at m file).list ∷ [])
+    (file_lists-gone file m.files)
+    ∙ ap (λ list. change_at gone file (file_lists m.files) ++ Some list ∷ [])
+    (file_at-list m file)
 
 -- the layers of a history have the lists of its matrix
 pub lists_of-layers_of : (h : History) → lists_of (layers_of h) ≡ file_lists (matrix_of h).files
@@ -99,6 +107,7 @@ mode_after y (Created file list size) = refl
 mode_after y (Granted user file) = refl
 mode_after y (Revoked user file) = refl
 mode_after y (Removed file) = refl
+mode_after y (Replaced file size) = refl
 
 pub mode_of-layers_of : (h : History) → (layers_of h).mode ≡ h.mode
 mode_of-layers_of = each_history (λ (h : History). (layers_of h).mode ≡ h.mode) (λ h. refl)
@@ -111,6 +120,7 @@ epoch_after y (Created file list size) = refl
 epoch_after y (Granted user file) = refl
 epoch_after y (Revoked user file) = refl
 epoch_after y (Removed file) = refl
+epoch_after y (Replaced file size) = refl
 
 pub epoch_of-layers_of : (h : History) → (layers_of h).epoch ≡ epoch_of h
 epoch_of-layers_of =
@@ -126,6 +136,7 @@ users_after y m (Created file list size) same = same
 users_after y m (Granted user file) same = same
 users_after y m (Revoked user file) same = same
 users_after y m (Removed file) same = same
+users_after y m (Replaced file size) same = same
 
 pub users_of-layers_of : (h : History) → (layers_of h).users ≡ length (matrix_of h).users
 users_of-layers_of =

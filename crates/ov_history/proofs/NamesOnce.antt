@@ -1,18 +1,20 @@
 -- After a legal history no two files have one name.
 use Rattle.std.proofs.Common.{◌≡◌, ◌∙◌, ◌⊎◌, ℕ, zero, suc, Bool, true, false, List, [], ◌∷◌, ◌++◌}
 use Rattle.std.proofs.Common.{length, refl, sym, ap, subst, arith, inl, inr, true≢false}
-use Rattle.std.specs.Prelude.{Option, Some, None, is_some, option_map}
+use Rattle.std.specs.Prelude.{Option, Some, None, is_some, option_map, unwrap_or}
 use Rattle.std.specs.Str.{bytes_eq}
 use Rattle.std.proofs.lemmas.Slice.Eq.{bytes_eq-Decides}
+use Rattle.ov_base.proofs.Tests.{true_of_not}
 use Rattle.ov_history.specs.Places.{change_at, gone, here_or_after, living_at, place_of}
 use Rattle.ov_history.specs.History.{Created, Enrolled, File, Granted, History, Matrix, Removed}
-use Rattle.ov_history.specs.History.{Revoked, Update, changed, delisted, epoch_of, listed, matrix_of}
-use Rattle.ov_history.specs.History.{start_of, with_update}
+use Rattle.ov_history.specs.History.{Replaced, Revoked, Update, changed, delisted, epoch_of}
+use Rattle.ov_history.specs.History.{file_at, listed, matrix_of, no_file, resized, start_of}
+use Rattle.ov_history.specs.History.{with_update}
 use Rattle.ov_history.specs.Layers.{layers_of}
-use Rattle.ov_history.specs.Lists.{file_names, name_left}
+use Rattle.ov_history.specs.Lists.{file_names, is_file, name_left}
 use Rattle.ov_history.specs.Refusals.{AllAccepted, refusal_of, tests_of}
 use Rattle.ov_history.specs.WordLaws.{NamesAreOnce}
-use Rattle.ov_history.proofs.ChangeLaws.{gone_other, some-there}
+use Rattle.ov_history.proofs.ChangeLaws.{gone_not, gone_other, some-there}
 use Rattle.ov_history.proofs.Pushing.{matrix_of-push, with_updates, with_updates-all}
 use Rattle.ov_history.proofs.SoundTests.{none_applies}
 
@@ -40,7 +42,7 @@ named_step x files name some false is rest =
     rest (λ same. absurd (true≢false (sym ((bytes_eq-Decides name (name_left x)).1 same) ∙ is)))
 
 -- the place of a name that a file has is that of a file
-named_there : (files : List (Option File)) (name : List ℕ) → (name ≡ [] → ⊥) → (n : ℕ) (f : File)
+pub named_there : (files : List (Option File)) (name : List ℕ) → (name ≡ [] → ⊥) → (n : ℕ) (f : File)
     → living_at files n ≡ Some f → f.name ≡ name
     → is_some (living_at files (place_of name (file_names files))) ≡ true
 named_there [] name some n f is same = absurd (cc)
@@ -86,6 +88,41 @@ once_more files new free once m n f g is are same some = elim (at_last files new
   taken n f is named some =
       true≢false
       (sym (named_there files new.name (λ none. some (named ∙ none)) n f is named) ∙ free)
+
+-- a file that is there
+pub there_is : (o : Option File) → is_some o ≡ true → (old : File) × (o ≡ Some old)
+there_is None some = absurd (cc)
+there_is (Some old) some = (old, refl)
+
+-- a new file has the name of the one that goes
+once_anew : (files : List (Option File)) (file : ℕ) (old new : File)
+    → living_at files file ≡ Some old → new.name ≡ old.name → AreOnce files
+    → AreOnce (change_at gone file files ++ Some new ∷ [])
+once_anew files file old new there named once m n f g is are same some =
+    elim (at_last left new m f is) [
+      | inl one ↦ elim (at_last left new n g are) [
+        | inl two ↦ once m n f g (was m f one) (was n g two) same some
+        | inr last ↦
+            absurd
+            (gone_not file files m (some-there (living_at left m) f one)
+            (once m file f old (was m f one) there
+            (same ∙ ap (λ (x : File). x.name) (sym last.1) ∙ named) some))
+      ]
+      | inr last ↦ elim (at_last left new n g are) [
+        | inl two ↦
+            absurd
+            (gone_not file files n (some-there (living_at left n) g two)
+            (once n file g old (was n g two) there
+            (sym same ∙ ap (λ (x : File). x.name) (sym last.1) ∙ named)
+            (λ none. some (same ∙ none))))
+        | inr too ↦ last.0 ∙ sym too.0
+      ]
+    ] where
+      left : List (Option File)
+      left = change_at gone file files
+
+      was : (n : ℕ) (f : File) → living_at left n ≡ Some f → living_at files n ≡ Some f
+      was n f is = sym (gone_other file files n (some-there (living_at left n) f is)) ∙ is
 
 -- the file was there with this name
 abbrev WasNamed : List (Option File) → ℕ → File → Type 0
@@ -137,6 +174,14 @@ once_after h (Removed file) none once =
       sym (gone_other file files n (some-there (living_at next n) f is)) ∙ is,
       refl,
     )) once
+once_after h (Replaced file size) none once =
+    let m : Matrix = matrix_of h in
+    let there : is_file m file ≡ true =
+    true_of_not (is_file m file)
+    (none_applies (tests_of m (layers_of h) (epoch_of h) (Replaced file size)) none).0 in
+    let (old, is) = there_is (living_at m.files file) there in
+    once_anew m.files file old (resized size (file_at m file)) is
+    (ap (λ (o : Option File). (unwrap_or o no_file).name) is) once
 
 -- ---- histories
 

@@ -12,8 +12,9 @@ use Rattle.ov_graph.specs.Contents.{joined, plan_of}
 use Rattle.ov_base_layer.specs.declared.grant.Grant.{Grant}
 use Rattle.ov_base_layer.specs.Holders.{access_of, accesses_of}
 use Rattle.ov_base_layer.specs.Seals.{cover_tokens}
-use Rattle.ov_record.specs.Updates.{SealedUpdate}
-use Rattle.ov_history.specs.History.{Created, Enrolled, Granted, History, start_of, with_update}
+use Rattle.ov_history.specs.Sent.{SealedUpdate}
+use Rattle.ov_history.specs.History.{Created, Enrolled, Granted, History, Replaced, start_of}
+use Rattle.ov_history.specs.History.{with_update}
 use Rattle.ov_history.specs.Layers.{Layers, Place, appended, given, grown, holders, layers_after}
 use Rattle.ov_history.specs.Layers.{layers_of, lists_after, lists_of, moved, no_place}
 use Rattle.ov_history.specs.Layers.{node_of, same_surface, settled, settled_all, settled_at}
@@ -35,8 +36,8 @@ use Rattle.ov_history.specs.Places.{change_at}
 use Rattle.ov_history.specs.Layers.{list_at}
 use Rattle.ov_history.specs.Places.{gone}
 use Rattle.ov_history.specs.Catalogue.{new_file}
-use Rattle.ov_history.specs.Briefs.{BriefRemove}
-use Rattle.ov_history.specs.Layers.{lists_at}
+use Rattle.ov_history.specs.Briefs.{BriefRemove, BriefReplace}
+use Rattle.ov_history.specs.Layers.{list_in, lists_at, new_place}
 
 -- ---- sets of nodes
 
@@ -181,6 +182,16 @@ outline-grown c (BriefRevoke user file) parts = refl
 outline-grown c (BriefRemove file) parts =
     ap (λ (files : List (Option Place)). record (outline c) { epoch = c.epoch + 1; files = files })
     (places-gone file c.files)
+outline-grown c (BriefReplace file tokens tag size) parts =
+    let y : Layers = grown (outline c) (Replaced file size) in
+    let list : ℕ = list_in (outline c) file in
+    let f : Filed = new_file c (filed_at c file).name list tag size in
+    ap (λ sets. record y { base = sets; files = places (change_at gone file c.files ++ Some f ∷ []) })
+    (with_node-sets c.base list tokens)
+    ∙ ap (λ (files : List (Option Place)). record y { files = files })
+    (places-append (change_at gone file c.files) (Some f)
+    ∙ ap (λ (files : List (Option Place)). files ++ Some (new_place (outline c) list) ∷ [])
+    (places-gone file c.files))
 
 -- ---- histories
 

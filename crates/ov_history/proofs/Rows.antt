@@ -5,7 +5,8 @@ use Rattle.ov_base.specs.declared.mode.Mode.TheVariants.{Full, Delta}
 use Rattle.ov_history.specs.History.{History, Update, Enrolled, Created, Granted, Revoked}
 use Rattle.ov_history.specs.Layers.{Layers, Place, layers_of}
 use Rattle.std.specs.Prelude.{Option}
-use Rattle.ov_history.specs.History.{Removed}
+use Rattle.ov_history.specs.History.{Removed, Replaced}
+use Rattle.ov_graph.specs.Contents.{plan_of}
 
 -- a place without a surface, and one with
 abbrev bare : ℕ → ℕ → Option Place
@@ -115,3 +116,39 @@ removed_layers : in_delta (removal ++ Created (102 ∷ []) 2 0 ∷ []) ≡ recor
   files = None ∷ bare 1 6 ∷ [];
 }
 removed_layers = refl
+
+-- ---- a file that is replaced, and then removed
+
+abbrev replacing : List Update
+replacing =
+    Enrolled (97 ∷ []) ∷ Enrolled (98 ∷ []) ∷ Created (102 ∷ []) 1 2 ∷ Granted 1 0 ∷ Replaced 0 3
+    ∷ []
+
+-- the new file has the next number, and a base node of the list that the old one had
+replaced_layers : in_delta replacing ≡ record {
+  mode = Delta;
+  epoch = 5;
+  users = 2;
+  base = 1 ∷ 2 ∷ 3 ∷ [];
+  surface = 1 ∷ 2 ∷ [];
+  accesses = record { user = 1; node = 0 } ∷ [];
+  files = None ∷ bare 2 5 ∷ [];
+}
+replaced_layers = refl
+
+-- into that node there are edges from both users' nodes
+replaced_edges : (plan_of (1 ∷ 2 ∷ []) 3).from ≡ 0 ∷ 1 ∷ []
+replaced_edges = refl
+
+-- with the new file removed, a file for the second user alone has the next number and that user's
+-- node
+removed_again : in_delta (replacing ++ Removed 1 ∷ Created (102 ∷ []) 2 0 ∷ []) ≡ record {
+  mode = Delta;
+  epoch = 7;
+  users = 2;
+  base = 1 ∷ 2 ∷ 3 ∷ [];
+  surface = 1 ∷ 2 ∷ [];
+  accesses = record { user = 1; node = 0 } ∷ [];
+  files = None ∷ None ∷ bare 1 7 ∷ [];
+}
+removed_again = refl

@@ -1,26 +1,31 @@
 -- A catalogue shows the matrix of its history, and so refuses what the history refuses.
 use Rattle.std.proofs.Common.{◌≡◌, ℕ, zero, suc, Bool, true, false, List, [], ◌∷◌, ◌++◌}
 use Rattle.std.proofs.Common.{length, refl, sym, ◌∙◌, ap, subst, arith}
-use Rattle.std.specs.Prelude.{Option, None}
-use Rattle.ov_base.specs.Sets.{with, without}
-use Rattle.ov_record.specs.Updates.{SealedUpdate}
+use Rattle.std.specs.Prelude.{Option, None, is_some, unwrap_or}
+use Rattle.ov_base.specs.Sets.{empty as nobody, with, without}
+use Rattle.ov_history.specs.Sent.{SealedUpdate}
 use Rattle.ov_history.specs.Places.{change_at}
 use Rattle.ov_history.specs.History.{File, History, Matrix, changed, delisted, epoch_of, listed}
-use Rattle.ov_history.specs.History.{matrix_of, start_of, with_update}
-use Rattle.ov_history.specs.Layers.{Layers, layers_of, lists_after, lists_at, lists_of}
+use Rattle.ov_history.specs.History.{matrix_of, no_file, resized, start_of, with_update}
+use Rattle.ov_history.specs.Layers.{Layers, layers_of, list_among, list_at, list_in, lists_after}
+use Rattle.ov_history.specs.Layers.{lists_at, lists_of}
 use Rattle.ov_history.specs.Layers.{same_surface, surface_at, wants_of, with_wants}
 use Rattle.ov_history.specs.Refusals.{first_of_tests, tests_of}
 use Rattle.ov_history.specs.Briefs.{Brief, BriefCreate, BriefEnrol, BriefGrant, BriefRevoke, brief}
 use Rattle.ov_history.specs.Briefs.{outer}
 use Rattle.ov_history.specs.Catalogue.{Catalogue, Filed, catalogue_after, empty_catalogue}
-use Rattle.ov_history.specs.Catalogue.{file_shown, files_shown, grown_catalogue, matrix_shown}
+use Rattle.ov_history.specs.Catalogue.{file_shown, filed_at, files_shown, grown_catalogue}
+use Rattle.ov_history.specs.Catalogue.{matrix_shown, no_filed, place_of_file}
 use Rattle.ov_history.specs.Catalogue.{outline, places, refiled, settled_files}
 use Rattle.ov_history.specs.Sealed.{AllFit, HasParts, IsSealed, SealedHistory, catalogue_all}
 use Rattle.ov_history.specs.Sealed.{catalogue_of, outer_all, outer_of}
 use Rattle.ov_history.specs.Laws.{HistoryIsShown, RefusalsAreShown}
 use Rattle.ov_history.proofs.Listing.{length-lists_of, lists_of-layers_after}
 use Rattle.ov_history.proofs.MatrixLaws.{epoch_of-layers_of, file_lists, mode_of-layers_of}
-use Rattle.ov_history.proofs.Outlining.{length-places, outline-after, outline-next, outline-shown}
+use Rattle.ov_history.proofs.ChangeLaws.{length-change_at}
+use Rattle.ov_history.proofs.Outlining.{length-places, lists-at, outline-after, outline-next}
+use Rattle.ov_history.proofs.Outlining.{outline-shown}
+use Rattle.ov_history.proofs.SoundTests.{is_some-map}
 use Rattle.ov_history.proofs.Pushing.{matrix_of-push, with_updates, with_updates-all}
 use Rattle.std.specs.Prelude.{option_map}
 use Rattle.std.specs.Prelude.{Some}
@@ -28,7 +33,7 @@ use Rattle.ov_history.specs.Catalogue.{settled_file}
 use Rattle.ov_history.specs.Places.{living_at}
 use Rattle.ov_history.specs.Places.{gone}
 use Rattle.ov_history.specs.Catalogue.{new_file}
-use Rattle.ov_history.specs.Briefs.{BriefRemove}
+use Rattle.ov_history.specs.Briefs.{BriefRemove, BriefReplace}
 
 -- ---- files with their lists
 
@@ -149,27 +154,53 @@ rows-at (f ∷ files) [] (suc n) = no_row (living_at files n) where
 rows-at (f ∷ files) (list ∷ lists) zero = refl
 rows-at (f ∷ files) (list ∷ lists) (suc n) = rows-at files lists n
 
+-- the row of a file that replaces another has the other's name and list
+row_anew : (size : ℕ) (f : Option Filed) (list : Option ℕ) → is_some list ≡ is_some f
+    → resized size (unwrap_or (row f list) no_file)
+    ≡ record {
+      name = (unwrap_or f no_filed).name;
+      length = size;
+      list = unwrap_or list nobody;
+    }
+row_anew size None None both = refl
+row_anew size None (Some list) both = absurd (cc)
+row_anew size (Some f) None both = absurd (cc)
+row_anew size (Some f) (Some list) both = refl
+
 -- the matrix with these lists
 abbrev matrix_with : Catalogue → List (Option ℕ) → Matrix
 matrix_with c lists = record { users = c.users; files = rows c.files lists }
 
 rows_grown : (c : Catalogue) (b : Brief) (lists : List (Option ℕ)) → length lists ≡ length c.files
+    → ((n : ℕ) → is_some (living_at lists n) ≡ is_some (living_at c.files n))
     → matrix_with (grown_catalogue c b) (lists_after lists (outer b))
     ≡ changed (matrix_with c lists) (outer b)
-rows_grown c (BriefEnrol user) lists many = refl
-rows_grown c (BriefCreate file list tokens tag size) lists many =
+rows_grown c (BriefEnrol user) lists many both = refl
+rows_grown c (BriefCreate file list tokens tag size) lists many both =
     let f : Filed = new_file c file list tag size in
     ap (λ (files : List (Option File)). record { users = c.users; files = files })
     (rows-append c.files lists (Some f) (Some list) many)
-rows_grown c (BriefGrant user file token) lists many =
+rows_grown c (BriefGrant user file token) lists many both =
     ap (λ (files : List (Option File)). record { users = c.users; files = files })
     (rows-change (λ list. with list user) (listed user) (λ f list. refl) file c.files lists)
-rows_grown c (BriefRevoke user file) lists many =
+rows_grown c (BriefRevoke user file) lists many both =
     ap (λ (files : List (Option File)). record { users = c.users; files = files })
     (rows-change (λ list. without list user) (delisted user) (λ f list. refl) file c.files lists)
-rows_grown c (BriefRemove file) lists many =
+rows_grown c (BriefRemove file) lists many both =
     ap (λ (files : List (Option File)). record { users = c.users; files = files })
     (rows-gone file c.files lists)
+rows_grown c (BriefReplace file tokens tag size) lists many both =
+    let f : Filed = new_file c (filed_at c file).name (list_in (outline c) file) tag size in
+    let list : ℕ = list_among lists file in
+    ap (λ (files : List (Option File)). record { users = c.users; files = files })
+    (rows-append (change_at gone file c.files) (change_at gone file lists) (Some f) (Some list)
+    (length-change_at gone file lists ∙ many ∙ sym (length-change_at gone file c.files))
+    ∙ ap (λ (rest : List (Option File)). rest ++ Some (row_with f list) ∷ [])
+    (rows-gone file c.files lists)
+    ∙ ap (λ (new : File). change_at gone file (rows c.files lists) ++ Some new ∷ [])
+    (sym (row_anew size (living_at c.files file) (living_at lists file) (both file))
+    ∙ ap (λ (o : Option File). resized size (unwrap_or o no_file))
+    (sym (rows-at c.files lists file))))
 
 -- ---- one update
 
@@ -192,6 +223,8 @@ matrix-after master c b parts =
     ∙ ap (λ (files : List (Option File)). record { users = next.users; files = files })
     (rows_settled next.epoch (with_wants next.surface.sets wants) wants next.files lists)
     ∙ rows_grown c b (lists_of (outline c)) (length-lists_of (outline c) ∙ length-places c.files)
+    (λ n. ap (λ (o : Option ℕ). is_some o) (lists-at c n)
+    ∙ is_some-map (λ f. list_at (outline c) (place_of_file f)) (living_at c.files n))
     ∙ ap (λ (m : Matrix). changed m (outer b)) (sym (shown_with c))
 
 -- ---- histories

@@ -5,7 +5,8 @@ use Rattle.ov_base.specs.Sets.{single, has}
 use Rattle.ov_graph.specs.Contents.{plan_of}
 use Rattle.ov_base_layer.specs.Holders.{Access, accesses_of, AreFirst}
 use Rattle.ov_base_layer.proofs.HolderLaws.{first_more, first_in_more_sets}
-use Rattle.ov_history.specs.Layers.{Layers, appended, given, grown, holders, node_of, with_set}
+use Rattle.ov_history.specs.Layers.{Layers, appended, given, grown, holders, list_in, node_of}
+use Rattle.ov_history.specs.Layers.{with_set}
 use Rattle.ov_history.specs.Briefs.{Brief, BriefCreate, BriefEnrol, BriefGrant, BriefRevoke, outer}
 use Rattle.ov_history.specs.Catalogue.{Catalogue, filed_at, no_filed, outline}
 use Rattle.ov_history.specs.Sound.{IsSound}
@@ -18,7 +19,7 @@ use Rattle.std.specs.Prelude.{unwrap_or}
 use Rattle.std.specs.Prelude.{is_some}
 use Rattle.ov_history.specs.Places.{living_at}
 use Rattle.ov_history.specs.Catalogue.{Filed}
-use Rattle.ov_history.specs.Briefs.{BriefRemove}
+use Rattle.ov_history.specs.Briefs.{BriefRemove, BriefReplace}
 
 first_enrolled : (users : ℕ) (sets : List ℕ) (accesses : List Access) → AreFirst users sets accesses
     → AreFirst (users + 1) (sets ++ single users ∷ []) accesses
@@ -70,3 +71,6 @@ accesses_grown c (BriefGrant user file token) sound fine =
     (node_there c file sound fine.1) sound.accesses
 accesses_grown c (BriefRevoke user file) sound fine = sound.accesses
 accesses_grown c (BriefRemove file) sound fine = sound.accesses
+accesses_grown c (BriefReplace file tokens tag size) sound fine =
+    first_with_set (length c.users) c.base.sets (list_in (outline c) file) (accesses_of c.grants)
+    sound.accesses

@@ -26,8 +26,8 @@ use Rattle.ov_history.specs.Places.{living_at}
 use Rattle.ov_history.specs.Layers.{want_at}
 use Rattle.ov_history.specs.Places.{gone}
 use Rattle.ov_history.specs.Layers.{new_place}
-use Rattle.ov_history.specs.Layers.{lists_of}
-use Rattle.ov_history.specs.History.{Removed}
+use Rattle.ov_history.specs.Layers.{list_in, lists_of}
+use Rattle.ov_history.specs.History.{Removed, Replaced}
 use Rattle.ov_history.specs.Layers.{with_set}
 
 -- the base node of a place is there, and its holders have each user of the list
@@ -201,6 +201,13 @@ held_after y (Removed file) h =
     gone_held (grown y (Removed file)) file (lists_of y) y.files
     (still_held y (grown y (Removed file)) (lists_of y) y.files
     (λ node there. (there, λ u held. held)) h)
+held_after y (Replaced file size) h =
+    let z : Layers = grown y (Replaced file size) in
+    let list : ℕ = list_in y file in
+    more_held z (Some list) (Some (new_place y list)) (change_at gone file (lists_of y))
+    (change_at gone file y.files) (new_held y list)
+    (gone_held z file (lists_of y) y.files
+    (still_held y z (lists_of y) y.files (create_grows y list) h))
 
 -- ---- files that are placed
 

@@ -1,19 +1,22 @@
 -- What a store shows stays sound.
-use Rattle.std.proofs.Common.{◌≡◌, ℕ, ◌≤◌, List, [], ◌∷◌, length, refl, sym, subst, arith}
+use Rattle.std.proofs.Common.{◌≡◌, ℕ, ◌≤◌, List, [], ◌∷◌, length, refl, sym, subst, arith, true}
 use Rattle.std.proofs.Common.{length-append}
-use Rattle.std.specs.Prelude.{Contains, Option, Some}
-use Rattle.ov_base.specs.Sets.{IsBelow}
+use Rattle.std.specs.Prelude.{Contains, Option, Some, None, is_some, option_map, unwrap_or}
+use Rattle.ov_base.specs.Sets.{empty as nobody, IsBelow}
+use Rattle.ov_base.proofs.SetLaws.{IsBelow-Within}
 use Rattle.ov_base.specs.declared.limits.TheConstants.{MAX_LAYER_NODES}
 use Rattle.ov_graph.proofs.ListLaws.{Contains-none}
 use Rattle.ov_base_layer.specs.Holders.{accesses_of, AreFirst}
-use Rattle.ov_history.specs.Layers.{Layers, lists_after, lists_of, wants_of, with_wants}
+use Rattle.ov_history.specs.Layers.{Layers, holders, list_at, list_in, lists_after, lists_of}
+use Rattle.ov_history.specs.Layers.{wants_of, with_wants}
 use Rattle.ov_history.specs.Briefs.{Brief, BriefCreate, BriefEnrol, BriefGrant, BriefRevoke, outer}
-use Rattle.ov_history.specs.Catalogue.{Catalogue, Filed, grown_catalogue, no_nodes, outline, places}
+use Rattle.ov_history.specs.Catalogue.{Catalogue, Filed, grown_catalogue, no_nodes, outline}
+use Rattle.ov_history.specs.Catalogue.{place_of_file, places}
 use Rattle.ov_history.specs.Catalogue.{settled_catalogue, settled_files, with_surfaces}
 use Rattle.ov_history.specs.Sealed.{HasParts}
 use Rattle.ov_history.specs.Sound.{IsLayer, IsPlaced, IsSound}
 use Rattle.ov_history.specs.Laws.{NothingIsSound, SoundGoesOn}
-use Rattle.ov_history.proofs.Outlining.{outline-grown, with_surfaces-sets}
+use Rattle.ov_history.proofs.Outlining.{lists-at, outline-grown, with_surfaces-sets}
 use Rattle.ov_history.proofs.PlanLaws.{with_wants-Contains}
 use Rattle.ov_history.proofs.SoundAccesses.{accesses_grown}
 use Rattle.ov_history.proofs.SoundFiles.{all_placed}
@@ -23,7 +26,7 @@ use Rattle.ov_history.proofs.SoundLists.{AreHeld, held_after, held_files, holder
 use Rattle.ov_history.proofs.SoundLists.{wants_below}
 use Rattle.ov_history.proofs.SoundTests.{IsFine, accepted}
 use Rattle.ov_history.specs.Places.{living_at}
-use Rattle.ov_history.specs.Briefs.{BriefRemove}
+use Rattle.ov_history.specs.Briefs.{BriefRemove, BriefReplace}
 
 -- what is shown while its files have yet to get their wanted surfaces for these lists
 pub record IsReady (c : Catalogue) (lists : List (Option ℕ)) : Type 0 where
@@ -33,6 +36,24 @@ pub record IsReady (c : Catalogue) (lists : List (Option ℕ)) : Type 0 where
   pub held : AreHeld (outline c) lists (places c.files)
 
 -- ---- the layers
+
+-- the list of a file that is there is of users
+list_below : (c : Catalogue) (file : ℕ) → IsSound c → is_some (living_at c.files file) ≡ true
+    → IsBelow (length c.users) (list_in (outline c) file)
+list_below c file sound there =
+    subst (λ (list : Option ℕ). IsBelow (length c.users) (unwrap_or list nobody))
+    (sym (lists-at c file))
+    (by_file (living_at c.files file) refl there) where
+      by_file : (o : Option Filed) → living_at c.files file ≡ o → is_some o ≡ true
+          → IsBelow (length c.users)
+          (unwrap_or (option_map (λ f. list_at (outline c) (place_of_file f)) o) nobody)
+      by_file None is none = absurd (cc)
+      by_file (Some f) is some =
+          let placed = sound.files file f is in
+          IsBelow-Within (length c.users) (list_at (outline c) (place_of_file f))
+          (holders (outline c) f.node) placed.list
+          (holders_below (length c.users) (outline c) sound.base.below sound.accesses f.node
+          placed.base)
 
 base_grown : (c : Catalogue) (b : Brief) → IsSound c → IsFine c b → HasParts (outline c) b
     → IsFormed (length (grown_catalogue c b).users) (grown_catalogue c b).base
@@ -49,6 +70,9 @@ base_grown c (BriefRevoke user file) sound fine parts =
     layer-formed (length c.users) c.base sound.base
 base_grown c (BriefRemove file) sound fine parts =
     layer-formed (length c.users) c.base sound.base
+base_grown c (BriefReplace file tokens tag size) sound fine parts =
+    formed_with (length c.users) c.base (list_in (outline c) file) tokens
+    (layer-formed (length c.users) c.base sound.base) (list_below c file sound fine) parts
 
 surface_grown : (c : Catalogue) (b : Brief) → IsSound c
     → IsFormed (length (grown_catalogue c b).users) (grown_catalogue c b).surface
@@ -64,6 +88,8 @@ surface_grown c (BriefGrant user file token) sound =
 surface_grown c (BriefRevoke user file) sound =
     layer-formed (length c.users) c.surface sound.surface
 surface_grown c (BriefRemove file) sound =
+    layer-formed (length c.users) c.surface sound.surface
+surface_grown c (BriefReplace file tokens tag size) sound =
     layer-formed (length c.users) c.surface sound.surface
 
 -- ---- one update

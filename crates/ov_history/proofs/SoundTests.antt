@@ -25,7 +25,7 @@ use Rattle.ov_history.specs.History.{File}
 use Rattle.ov_history.specs.Catalogue.{file_shown}
 use Rattle.ov_history.specs.Lists.{is_file}
 use Rattle.std.proofs.Common.{sym}
-use Rattle.ov_history.specs.Briefs.{BriefRemove}
+use Rattle.ov_history.specs.Briefs.{BriefRemove, BriefReplace}
 
 -- the users and the file of the update are there
 abbrev pub IsFine : Catalogue → Brief → Type 0
@@ -35,6 +35,7 @@ IsFine c (BriefGrant user file token) =
     (user < length c.users) × (is_some (living_at c.files file) ≡ true)
 IsFine c (BriefRevoke user file) = Unit {0}
 IsFine c (BriefRemove file) = Unit {0}
+IsFine c (BriefReplace file tokens tag size) = is_some (living_at c.files file) ≡ true
 
 -- neither layer has too many nodes
 pub record HasFewNodes (y : Layers) : Type 0 where
@@ -113,3 +114,5 @@ accepted c b e =
       by_update (BriefRevoke user file) (no_user, (no_file, (listed, (room, spent)))) =
           (tt, few_nodes _ room)
       by_update (BriefRemove file) (no_file, (room, spent)) = (tt, few_nodes _ room)
+      by_update (BriefReplace file tokens tag size) (no_file, (files, (bytes, (room, spent)))) =
+          (file_is file c no_file, few_nodes _ room)

@@ -13,18 +13,17 @@ use Rattle.ov_history.specs.Layers.{Layers, Place, appended, grown, layers_after
 use Rattle.ov_history.specs.Layers.{lists_after, lists_of, no_place, node_for, wants_of, with_set}
 use Rattle.ov_history.specs.Layers.{with_wants}
 use Rattle.ov_history.specs.Words.{HasFile, longer, place_in}
-use Rattle.ov_history.specs.WordLaws.{BaseNodeIsOfList, GoneStaysGone, NodesStay}
+use Rattle.ov_history.specs.WordLaws.{BaseNodeIsOfList, BaseNodeIsOfOldList, GoneStaysGone, NodesStay}
 use Rattle.ov_history.specs.Lists.{file_at}
-use Rattle.std.proofs.Math.ListN.{get_or-map}
 use Rattle.ov_history.proofs.ChangeLaws.{below_some, gone_other, is_some-change}
 use Rattle.ov_history.proofs.ChangeLaws.{length-change_at}
 use Rattle.std.proofs.lemmas.List.{get_or_append_left}
 use Rattle.ov_history.proofs.Generations.{grown_file, still_grown}
 use Rattle.ov_history.proofs.Listing.{settled_at-node}
-use Rattle.ov_history.proofs.MatrixLaws.{files_of-layers_of, lists_of-layers_of}
+use Rattle.ov_history.proofs.MatrixLaws.{file_at-list, files_of-layers_of, lists_of-layers_of}
 use Rattle.ov_history.proofs.PlanLaws.{with_set-has}
 use Rattle.ov_history.proofs.Pushing.{layers_of-push, matrix_of-push, with_updates, with_updates-is}
-use Rattle.ov_history.proofs.StayingFiles.{files_begin}
+use Rattle.ov_history.proofs.StayingFiles.{files_begin, files_begin_anew, length-anew}
 use Rattle.ov_history.proofs.Wanting.{file_below, place_at, settled_after, wanted_in}
 use Rattle.std.specs.Prelude.{option_map}
 use Rattle.std.specs.Prelude.{unwrap_or}
@@ -32,10 +31,9 @@ use Rattle.std.specs.Prelude.{is_some}
 use Rattle.ov_history.specs.History.{File}
 use Rattle.ov_history.specs.Lists.{is_file}
 use Rattle.ov_history.specs.Places.{living_at}
-use Rattle.ov_history.specs.Places.{gone}
-use Rattle.ov_history.specs.Layers.{new_place}
-use Rattle.ov_history.specs.History.{Removed}
-use Rattle.ov_history.specs.Lists.{no_file}
+use Rattle.ov_history.specs.Places.{change_at, gone}
+use Rattle.ov_history.specs.Layers.{list_among, list_in, new_place}
+use Rattle.ov_history.specs.History.{Removed, Replaced, resized}
 
 -- ---- sets
 
@@ -72,6 +70,10 @@ grown_stays y (Created name list size) =
 grown_stays y (Granted user file) = (λ node set is. is, λ node set is. is)
 grown_stays y (Revoked user file) = (λ node set is. is, λ node set is. is)
 grown_stays y (Removed file) = (λ node set is. is, λ node set is. is)
+grown_stays y (Replaced file size) = (
+  appended_stays (plan_of y.base (list_in y file)).fresh y.base (list_in y file),
+  λ node set is. is,
+)
 
 after_stays : (y : Layers) (u : Update) → LayersStay y (layers_after y u)
 after_stays y u =
@@ -121,6 +123,7 @@ number_stays m (Revoked user place) file below =
     omega (arith, length-change_at (option_map (delisted user)) place m.files)
 number_stays m (Removed place) file below =
     omega (arith, length-change_at gone place m.files)
+number_stays m (Replaced place size) file below = omega (arith, length-anew m place size)
 
 pub numbers_stay : (h : History) (more : List Update) (file : ℕ)
     → file < length (matrix_of h).files → file < length (matrix_of (longer h more)).files
@@ -149,6 +152,14 @@ was_there m (Revoked user place) file below there =
     sym (is_some-change (delisted user) place m.files file) ∙ there
 was_there m (Removed place) file below there =
     ap (λ (o : Option File). is_some o) (sym (gone_other place m.files file there)) ∙ there
+was_there m (Replaced place size) file below there =
+    let left : List (Option File) = change_at gone place m.files in
+    let last : Option File = Some (resized size (file_at m place)) in
+    let low : file < length left = omega (arith, length-change_at gone place m.files) in
+    let same : is_some (living_at left file) ≡ true =
+    ap (λ (o : Option File). is_some o) (sym (get_or_append_left left (last ∷ []) None file low))
+    ∙ there in
+    ap (λ (o : Option File). is_some o) (sym (gone_other place m.files file same)) ∙ same
 
 pub was_there-all : (h : History) (more : List Update) (file : ℕ)
     → file < length (matrix_of h).files → HasFile (with_updates h more) file → HasFile h file
@@ -256,14 +267,62 @@ gone_stays_gone h more file below there =
 
 -- ---- the node of a list that a file had
 
--- the list of a file that is there, off the layers
-listed_in : (h : History) (file : ℕ) → HasFile h file
-    → living_at (lists_of (layers_of h)) file ≡ Some (file_at (matrix_of h) file).list
-listed_in h file there =
-    ap (λ (lists : List (Option ℕ)). living_at lists file) (lists_of-layers_of h)
-    ∙ get_or-map (option_map (λ (f : File). f.list)) (matrix_of h).files file None
-    ∙ by_file (living_at (matrix_of h).files file) there where
-      by_file : (o : Option File) → is_some o ≡ true
-          → option_map (λ (f : File). f.list) o ≡ Some (unwrap_or o no_file).list
-      by_file None some = absurd (cc)
-      by_file (Some f) some = refl
+-- the list of a file off the layers is that of the matrix
+pub list_of-file : (h : History) (file : ℕ)
+    → list_in (layers_of h) file ≡ (file_at (matrix_of h) file).list
+list_of-file h file =
+    ap (λ (lists : List (Option ℕ)). list_among lists file) (lists_of-layers_of h)
+    ∙ sym (file_at-list (matrix_of h) file)
+
+-- a file that replaces another is at the node of the other's list
+replaced_at : (y : Layers) (file size : ℕ)
+    → (place_at (layers_after y (Replaced file size)).files (length y.files)).node
+    ≡ node_for y.base (list_in y file)
+replaced_at y file size =
+    let u : Update = Replaced file size in
+    let n : ℕ = length y.files in
+    let left : List (Option Place) = change_at gone file y.files in
+    let new : Place = new_place y (list_in y file) in
+    let many : length left ≡ n = length-change_at gone file y.files in
+    let below : n < length (left ++ Some new ∷ []) =
+    omega (arith, many, length-append left (Some new ∷ [])) in
+    ap (λ (p : Place). p.node) (settled_after y u n below)
+    ∙ settled_at-node (grown y u).epoch (layers_after y u).surface (wanted_in (layers_after y u) n)
+    (place_at (grown y u).files n)
+    ∙ ap (λ (o : Option Place). (unwrap_or o no_place).node)
+    (last_item left (Some new) n None (sym many))
+
+-- that node has the list
+replaced_list : (h : History) (file size : ℕ)
+    → let next = with_update h (Replaced file size) in
+    slice_get (layers_of next).base (place_in next (length (matrix_of h).files)).node
+    ≡ Some (file_at (matrix_of h) file).list
+replaced_list h file size =
+    let y : Layers = layers_of h in
+    let list : ℕ = list_in y file in
+    let has = with_set-has y.base list in
+    let found : slice_get (with_set y.base list) (node_for y.base list) ≡ Some list =
+    slice_get-get_or (with_set y.base list) (node_for y.base list) 0 has.0
+    ∙ ap (λ set. Some set) has.1 in
+    subst
+    (λ (z : Layers). slice_get z.base (place_at z.files (length (matrix_of h).files)).node
+    ≡ Some (file_at (matrix_of h) file).list)
+    (sym (layers_of-push h (Replaced file size)))
+    (subst
+    (λ n. slice_get (with_set y.base list)
+    (place_at (layers_after y (Replaced file size)).files n).node
+    ≡ Some (file_at (matrix_of h) file).list)
+    (files_of-layers_of h)
+    (subst
+    (λ node. slice_get (with_set y.base list) node ≡ Some (file_at (matrix_of h) file).list)
+    (sym (replaced_at y file size)) (found ∙ ap (λ set. Some set) (list_of-file h file))))
+
+pub base_node_is_of_old_list : BaseNodeIsOfOldList
+base_node_is_of_old_list h file size more still =
+    let next : History = with_update h (Replaced file size) in
+    let n : ℕ = length (matrix_of h).files in
+    let list : ℕ = (file_at (matrix_of h) file).list in
+    let there : HasFile next n = files_begin_anew h file size in
+    subst (λ node. slice_get (layers_of (longer next more)).base node ≡ Some list)
+    (sym (file_stays next more n there still))
+    ((longer_stays next more).0 (place_in next n).node list (replaced_list h file size))

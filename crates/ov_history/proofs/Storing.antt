@@ -5,15 +5,15 @@ use Rattle.std.specs.Prelude.{Option, None, slice_index_or}
 use Rattle.std.proofs.lemmas.Bool.{cases_lt}
 use Rattle.std.proofs.lemmas.List.{get_or_append_left, get_or_past}
 use Rattle.ov_graph.proofs.GraphLaws.{last_item}
-use Rattle.ov_record.specs.Updates.{SealedUpdate, SealedEnrol, SealedCreate, SealedGrant}
-use Rattle.ov_record.specs.Updates.{SealedRevoke}
+use Rattle.ov_history.specs.Sent.{SealedUpdate, SealedEnrol, SealedCreate, SealedGrant}
+use Rattle.ov_history.specs.Sent.{SealedRevoke}
 use Rattle.ov_surface.specs.Coats.{stored_under}
 use Rattle.ov_surface.proofs.CoatLaws.{length-coated}
-use Rattle.ov_history.specs.Layers.{lists_after, lists_of, same_surface, surface_at}
+use Rattle.ov_history.specs.Layers.{list_in, lists_after, lists_of, same_surface, surface_at}
 use Rattle.ov_history.specs.Layers.{wants_of, with_wants}
 use Rattle.ov_history.specs.Briefs.{Brief, brief, outer, text_of}
 use Rattle.ov_history.specs.Catalogue.{Catalogue, Filed, catalogue_after, empty_catalogue, new_file}
-use Rattle.ov_history.specs.Catalogue.{grown_catalogue, outline, refiled, settled_files}
+use Rattle.ov_history.specs.Catalogue.{filed_at, grown_catalogue, outline, refiled, settled_files}
 use Rattle.ov_history.specs.Rewrites.{AreCoated, files_after, restored, rewrites_from, rewrites_of}
 use Rattle.ov_history.specs.Rewrites.{rewritten_all, stored_after, surface_key, with_text}
 use Rattle.ov_history.specs.Rewrites.{without_gone}
@@ -28,7 +28,7 @@ use Rattle.ov_history.specs.Rewrites.{surface_left}
 use Rattle.ov_history.specs.Places.{living_at}
 use Rattle.ov_history.specs.Places.{change_at}
 use Rattle.ov_history.specs.Places.{gone}
-use Rattle.ov_record.specs.Updates.{SealedRemove}
+use Rattle.ov_history.specs.Sent.{SealedRemove, SealedReplace}
 
 -- ---- files and texts
 
@@ -190,6 +190,13 @@ module _ (master : List ℕ) (old files : List (Option Filed)) (same : length ol
         coats = more_stored;
       }
 
+-- a new file has as many bytes as its text
+new_size : (c : Catalogue) (name : List ℕ) (list : ℕ) (tag text : List ℕ) (f : Filed)
+    → Some (new_file c name list tag (length text)) ≡ Some f → length text ≡ f.length
+new_size c name list tag text f is =
+    let same : new_file c name list tag (length text) ≡ f = cc in
+    ap (λ (g : Filed). g.length) same
+
 -- with an update the text of a new file comes to the others
 grown_coats : (master : List ℕ) (c : Catalogue) (texts stored : List (List ℕ)) (u : SealedUpdate)
     → HasCoats master c.files c.files texts stored
@@ -198,16 +205,20 @@ grown_coats : (master : List ℕ) (c : Catalogue) (texts stored : List (List ℕ
 grown_coats master c texts stored (SealedEnrol user) has = has
 grown_coats master c texts stored (SealedCreate file list tokens tag text) has =
     more_coats master c.files c.files refl texts stored
-    (Some (new_file c file list tag (length text))) text has (λ f is. new_size f is) where
-      new_size : (f : Filed) → Some (new_file c file list tag (length text)) ≡ Some f
-          → length text ≡ f.length
-      new_size f is =
-          let same : new_file c file list tag (length text) ≡ f = cc in
-          ap (λ (g : Filed). g.length) same
+    (Some (new_file c file list tag (length text))) text has
+    (λ f is. new_size c file list tag text f is)
 grown_coats master c texts stored (SealedGrant user file token) has = has
 grown_coats master c texts stored (SealedRevoke user file) has = has
 grown_coats master c texts stored (SealedRemove file) has =
     gone_coats master c.files c.files texts stored file has
+grown_coats master c texts stored (SealedReplace file tokens tag text) has =
+    let list : ℕ = list_in (outline c) file in
+    let name : List ℕ = (filed_at c file).name in
+    more_coats master c.files (change_at gone file c.files)
+    (sym (length-change_at gone file c.files)) texts (change_at (λ bytes. []) file stored)
+    (Some (new_file c name list tag (length text))) text
+    (gone_coats master c.files c.files texts stored file has)
+    (λ f is. new_size c name list tag text f is)
 
 -- the files come to their new surfaces
 settled_coats : (master : List ℕ) (old files : List (Option Filed)) (texts stored : List (List ℕ))

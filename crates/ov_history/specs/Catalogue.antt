@@ -13,10 +13,11 @@ use Rattle.ov_base_layer.specs.Holders.{accesses_of}
 use Rattle.ov_base_layer.specs.Seals.{cover_tokens}
 use Rattle.ov_history.specs.Places.{change_at, gone, living_at}
 use Rattle.ov_history.specs.History.{File, Matrix}
+use Rattle.ov_history.specs.Lists.{file_names}
 use Rattle.ov_history.specs.Layers.{Place, Layers, node_for, with_wants, wants_of, surface_at}
-use Rattle.ov_history.specs.Layers.{same_surface, lists_of, lists_after, list_at}
+use Rattle.ov_history.specs.Layers.{same_surface, lists_of, lists_after, list_at, list_in}
 use Rattle.ov_history.specs.Briefs.{Brief, BriefEnrol, BriefCreate, BriefGrant, BriefRevoke, outer}
-use Rattle.ov_history.specs.Briefs.{BriefRemove}
+use Rattle.ov_history.specs.Briefs.{BriefRemove, BriefReplace}
 
 -- the nodes of a layer: their sets, and the edges into each
 pub record Nodes : Type 0 where
@@ -104,6 +105,10 @@ files_shown y (f ∷ files) = option_map (file_shown y) f ∷ files_shown y file
 abbrev pub matrix_shown : Catalogue → Matrix
 matrix_shown c = record { users = c.users; files = files_shown (outline c) c.files }
 
+-- the names of the files that the catalogue shows, by number; a gone one has the empty name
+abbrev pub file_names_shown : Catalogue → List (List ℕ)
+file_names_shown c = file_names (matrix_shown c).files
+
 -- ---- what an update adds
 
 -- the nodes with one more, where the set is a fresh one
@@ -139,7 +144,7 @@ new_file c name list tag size = record {
 
 -- The catalogue with what an update adds: a new user has a node alone in each layer, a new file
 -- has the base node of its list and no surface yet, and a grant brings an access token or none. A
--- file that is removed is gone.
+-- file that is removed is gone. So is one that is replaced, and a new one has its name and list.
 abbrev pub grown_catalogue : Catalogue → Brief → Catalogue
 grown_catalogue c (BriefEnrol user) = record c {
   epoch = c.epoch + 1;
@@ -160,6 +165,12 @@ grown_catalogue c (BriefGrant user file token) = record c {
 grown_catalogue c (BriefRevoke user file) = record c { epoch = c.epoch + 1 }
 grown_catalogue c (BriefRemove file) =
     record c { epoch = c.epoch + 1; files = change_at gone file c.files }
+grown_catalogue c (BriefReplace file tokens tag size) = record c {
+  epoch = c.epoch + 1;
+  base = with_node c.base (list_in (outline c) file) tokens;
+  files = change_at gone file c.files
+      ++ Some (new_file c (filed_at c file).name (list_in (outline c) file) tag size) ∷ [];
+}
 
 -- ---- surfaces
 

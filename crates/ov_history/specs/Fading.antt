@@ -2,15 +2,15 @@
 use Rattle.std.specs.Prelude.{◌≡◌, ℕ, ◌+◌, Bool, true, false, not, List, [], ◌∷◌, length, replicate}
 use Rattle.ov_history.specs.History.{matrix_of}
 use Rattle.ov_history.specs.Lists.{is_file}
-use Rattle.ov_record.specs.Updates.{SealedUpdate, SealedEnrol, SealedCreate, SealedGrant}
-use Rattle.ov_record.specs.Updates.{SealedRevoke, SealedRemove}
+use Rattle.ov_history.specs.Sent.{SealedUpdate, SealedEnrol, SealedCreate, SealedGrant}
+use Rattle.ov_history.specs.Sent.{SealedRevoke, SealedRemove, SealedReplace}
 use Rattle.ov_history.specs.Sealed.{SealedHistory, outer_of}
 
 -- zeros in place of a tag
 abbrev pub no_tag : List ℕ
 no_tag = replicate 32 0
 
--- the update, with zeros for the tag and for the bytes of a file that it creates
+-- the update, with zeros for the tag and for the bytes of a file that it makes
 abbrev pub faded : SealedUpdate → SealedUpdate
 faded (SealedEnrol user) = SealedEnrol user
 faded (SealedCreate file list tokens tag text) =
@@ -18,19 +18,22 @@ faded (SealedCreate file list tokens tag text) =
 faded (SealedGrant user file token) = SealedGrant user file token
 faded (SealedRevoke user file) = SealedRevoke user file
 faded (SealedRemove file) = SealedRemove file
+faded (SealedReplace file tokens tag text) =
+    SealedReplace file tokens no_tag (replicate (length text) 0)
 
 -- the update, which is faded where the test says so
 abbrev pub faded_if : Bool → SealedUpdate → SealedUpdate
 faded_if true u = faded u
 faded_if false u = u
 
--- how many files the update creates
+-- how many files the update makes
 abbrev pub made_by : SealedUpdate → ℕ
 made_by (SealedEnrol user) = 0
 made_by (SealedCreate file list tokens tag text) = 1
 made_by (SealedGrant user file token) = 0
 made_by (SealedRevoke user file) = 0
 made_by (SealedRemove file) = 0
+made_by (SealedReplace file tokens tag text) = 1
 
 -- these updates, of which the next file has this number, each with zeros where the test says that
 -- its file is gone

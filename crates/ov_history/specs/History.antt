@@ -1,8 +1,9 @@
 -- Histories of updates, and the access matrix that they make.
 use Rattle.std.specs.Prelude.{ℕ, ◌+◌, List, [], ◌∷◌, ◌++◌, length, Option, Some, option_map}
-use Rattle.ov_base.specs.Sets.{with, without}
+use Rattle.std.specs.Prelude.{unwrap_or}
+use Rattle.ov_base.specs.Sets.{empty as nobody, with, without}
 use Rattle.ov_base.specs.declared.mode.Mode.{Mode}
-use Rattle.ov_history.specs.Places.{change_at, gone}
+use Rattle.ov_history.specs.Places.{change_at, gone, living_at}
 
 -- An update that was accepted, without the bytes of a file: their number alone. A name is a list of
 -- bytes, an access list is a set of users, and users and files are their numbers.
@@ -12,6 +13,7 @@ pub data Update : Type 0 where
   Granted : (user file : ℕ) → Update
   Revoked : (user file : ℕ) → Update
   Removed : (file : ℕ) → Update
+  Replaced : (file size : ℕ) → Update
 
 -- the mode, the epoch at which the store began, and the updates in order
 pub record History : Type 0 where
@@ -30,6 +32,14 @@ pub record Matrix : Type 0 where
   pub users : List (List ℕ)
   pub files : List (Option File)
 
+-- what stands for a file that isn't there
+abbrev pub no_file : File
+no_file = record { name = []; length = 0; list = nobody }
+
+-- the file of this number
+abbrev pub file_at : Matrix → ℕ → File
+file_at m file = unwrap_or (living_at m.files file) no_file
+
 -- the file with the user in its list
 abbrev pub listed : ℕ → File → File
 listed user file = record file { list = with file.list user }
@@ -38,8 +48,12 @@ listed user file = record file { list = with file.list user }
 abbrev pub delisted : ℕ → File → File
 delisted user file = record file { list = without file.list user }
 
--- what an update makes of the matrix; a file that is removed is gone, and its number isn't given to
--- another
+-- the file with this many bytes
+abbrev pub resized : ℕ → File → File
+resized size file = record file { length = size }
+
+-- What an update makes of the matrix. A file that is removed is gone, and its number isn't given to
+-- another. One that is replaced is gone too, and another of its name and list has the next number.
 abbrev pub changed : Matrix → Update → Matrix
 changed m (Enrolled user) = record m { users = m.users ++ user ∷ [] }
 changed m (Created file list size) =
@@ -49,6 +63,9 @@ changed m (Granted user file) =
 changed m (Revoked user file) =
     record m { files = change_at (option_map (delisted user)) file m.files }
 changed m (Removed file) = record m { files = change_at gone file m.files }
+changed m (Replaced file size) = record m {
+  files = change_at gone file m.files ++ Some (resized size (file_at m file)) ∷ [];
+}
 
 -- what all these updates make of the matrix, in order
 abbrev pub changed_all : Matrix → List Update → Matrix

@@ -2,7 +2,7 @@
 use Rattle.std.specs.Prelude.{◌≡◌, ◌↔◌, ℕ, ◌<◌, List, [], ◌∷◌, length, slice_index_or}
 use Rattle.std.specs.Prelude.{Some, None, true}
 use Rattle.ov_base.specs.declared.mode.Mode.{Mode}
-use Rattle.ov_record.specs.Updates.{SealedUpdate}
+use Rattle.ov_history.specs.Sent.{SealedUpdate}
 use Rattle.ov_surface.specs.Tags.{tag_of_file}
 use Rattle.ov_history.specs.Places.{living_at}
 use Rattle.ov_history.specs.History.{History, matrix_of, start_of, with_update}

@@ -5,20 +5,23 @@ use Rattle.std.specs.Prelude.{Some, None, Bool, true, IsTrue}
 use Rattle.ov_base.specs.declared.mode.Mode.{Mode}
 use Rattle.ov_base.specs.declared.refusal.Refusal.{Refusal}
 use Rattle.ov_base.specs.Refusals.{refusal_number}
-use Rattle.ov_record.specs.Updates.{SealedUpdate}
+use Rattle.ov_record.specs.Updates.{SealedUpdate as SpelledUpdate}
+use Rattle.ov_record.specs.Briefs.{brief as brief_as_spelled, text_of as text_as_spelled}
 use Rattle.ov_tokens.specs.declared.label.Kind.TheVariants.{Surface}
 use Rattle.ov_tokens.specs.declared.label.Label.{Label}
 use Rattle.ov_history.specs.Places.{living_at}
 use Rattle.ov_history.specs.History.{History, Matrix, Update, epoch_of, matrix_of}
-use Rattle.ov_history.specs.Lists.{is_listed}
+use Rattle.ov_history.specs.Lists.{file_names, is_listed}
 use Rattle.ov_history.specs.Layers.{layers_of}
-use Rattle.ov_history.specs.Refusals.{read_refusal, read_tests, refusal_of, tests_of}
-use Rattle.ov_history.specs.Briefs.{Brief, brief, outer}
+use Rattle.ov_history.specs.Refusals.{IsLegal, read_refusal, read_tests, refusal_of, tests_of}
+use Rattle.ov_history.specs.Sent.{SealedUpdate, numbered, spelled}
+use Rattle.ov_history.specs.Briefs.{Brief, IsNamed, brief, numbered_brief, outer, spelled_brief}
+use Rattle.ov_history.specs.Briefs.{text_of}
 use Rattle.ov_history.specs.Catalogue.{Filed, Catalogue, catalogue_after, empty_catalogue}
-use Rattle.ov_history.specs.Catalogue.{matrix_shown, outline}
+use Rattle.ov_history.specs.Catalogue.{file_names_shown, matrix_shown, outline}
 use Rattle.ov_history.specs.Rewrites.{Rewrite, files_after, rewrites_of}
 use Rattle.ov_history.specs.Sealed.{SealedHistory, IsSealed, HasParts, StandsFor, catalogue_of}
-use Rattle.ov_history.specs.Sealed.{blank, outer_of, with_sealed, refusal_shown}
+use Rattle.ov_history.specs.Sealed.{blank, file_names_of, outer_of, with_sealed, refusal_shown}
 use Rattle.ov_history.specs.Closure.{Reaches, ReachesAll, Holds, HoldsFile, IsClosed, IsRootOf}
 use Rattle.ov_history.specs.Closure.{IsRootOfSome, protecting}
 use Rattle.ov_history.specs.Sound.{IsSound}
@@ -64,6 +67,45 @@ ClosureIsLeast =
     → ((label : Label) → IsRootOf c user label → IsTrue (test label))
     → IsClosed c (λ label. IsTrue (test label))
     → (label : Label) → Holds c user label → IsTrue (test label)
+
+-- ---- spelled updates
+
+-- an update by number has the brief and the text of the one that is spelled
+abbrev pub UpdatesAreNumbered : Type 0
+UpdatesAreNumbered =
+    (names : List (List ℕ)) (u : SpelledUpdate)
+    → (brief (numbered names u) ≡ numbered_brief names (brief_as_spelled u))
+    × (text_of (numbered names u) ≡ text_as_spelled u)
+
+-- the spelling of an update has the spelling of its brief, and its text
+abbrev pub UpdatesAreSpelled : Type 0
+UpdatesAreSpelled =
+    (names : List (List ℕ)) (u : SealedUpdate)
+    → (brief_as_spelled (spelled names u) ≡ spelled_brief names (brief u))
+    × (text_as_spelled (spelled names u) ≡ text_of u)
+
+-- a catalogue that stands for a sealed history shows the names of its files
+abbrev pub NamesAreShown : Type 0
+NamesAreShown =
+    (master : List ℕ) (c : Catalogue) (g : SealedHistory)
+    → StandsFor master c g → file_names_shown c ≡ file_names_of g
+
+-- An update that was spelled, and isn't refused by number, is spelled so: by the names of the files
+-- after the history.
+abbrev pub SpelledOnce : Type 0
+SpelledOnce =
+    (h : History) (u : SpelledUpdate)
+    → let names = file_names (matrix_of h).files in
+    refusal_of h (outer (brief (numbered names u))) ≡ None → spelled names (numbered names u) ≡ u
+
+-- After a legal history the spelling of an update that isn't refused is that of no other, by number,
+-- where a file that it replaces has a name.
+abbrev pub NumberedOnce : Type 0
+NumberedOnce =
+    (h : History) (u : SealedUpdate)
+    → let names = file_names (matrix_of h).files in
+    IsLegal h → refusal_of h (outer (brief u)) ≡ None → IsNamed names (brief u)
+    → numbered names (spelled names u) ≡ u
 
 -- ---- histories
 

@@ -1,14 +1,14 @@
 -- The two layers of sets that a history makes, and where each file is in them.
 use Rattle.std.specs.Prelude.{ℕ, ◌+◌, ◌==◌, Bool, true, false, List, [], ◌∷◌, ◌++◌, slice_index}
 use Rattle.std.specs.Prelude.{Option, Some, None, option_map, unwrap_or}
-use Rattle.ov_base.specs.Sets.{single, has, with, without}
+use Rattle.ov_base.specs.Sets.{empty as nobody, single, has, with, without}
 use Rattle.ov_base.specs.declared.mode.Mode.{Mode}
 use Rattle.ov_base_layer.specs.Holders.{Access, holders_in}
 use Rattle.ov_graph.specs.Contents.{plan_of}
 use Rattle.ov_surface.specs.Wanted.{wanted_surface}
 use Rattle.ov_history.specs.Places.{change_at, gone, living_at}
 use Rattle.ov_history.specs.History.{Update, Enrolled, Created, Granted, Revoked, History}
-use Rattle.ov_history.specs.History.{Removed}
+use Rattle.ov_history.specs.History.{Removed, Replaced}
 
 -- ---- sets of a layer
 
@@ -32,7 +32,7 @@ with_set sets set = appended (plan_of sets set).fresh sets set
 -- ---- layers
 
 -- where a file is in the layers: its base node, its surface node where it has one, and the epoch of
--- the last change of its surface, or else of its creation
+-- the last change of its surface, or else of the update that made it
 pub record Place : Type 0 where
   pub node : ℕ
   pub surface : Option ℕ
@@ -93,7 +93,15 @@ lists_at y (p ∷ places) = option_map (list_at y) p ∷ lists_at y places
 abbrev pub lists_of : Layers → List (Option ℕ)
 lists_of y = lists_at y y.files
 
--- the lists after an update
+-- the list of the file of this number among these, and nobody where it isn't there
+abbrev pub list_among : List (Option ℕ) → ℕ → ℕ
+list_among lists file = unwrap_or (living_at lists file) nobody
+
+-- the list of the file of this number
+abbrev pub list_in : Layers → ℕ → ℕ
+list_in y file = list_among (lists_of y) file
+
+-- the lists after an update; a file that replaces another has its list
 abbrev pub lists_after : List (Option ℕ) → Update → List (Option ℕ)
 lists_after lists (Enrolled user) = lists
 lists_after lists (Created file list size) = lists ++ Some list ∷ []
@@ -101,6 +109,8 @@ lists_after lists (Granted user file) = change_at (option_map (λ list. with lis
 lists_after lists (Revoked user file) =
     change_at (option_map (λ list. without list user)) file lists
 lists_after lists (Removed file) = change_at gone file lists
+lists_after lists (Replaced file size) =
+    change_at gone file lists ++ Some (list_among lists file) ∷ []
 
 -- ---- what an update adds
 
@@ -116,7 +126,7 @@ new_place y list =
 
 -- A new user has a node alone in each layer, a new file has the base node of its list, and a user
 -- who is granted a file and doesn't hold its base node is given access to that. A file that is
--- removed is gone.
+-- removed is gone. So is one that is replaced, and a new one has the base node of its list.
 abbrev pub grown : Layers → Update → Layers
 grown y (Enrolled user) = record y {
   epoch = y.epoch + 1;
@@ -136,6 +146,11 @@ grown y (Granted user file) = record y {
 grown y (Revoked user file) = record y { epoch = y.epoch + 1 }
 grown y (Removed file) =
     record y { epoch = y.epoch + 1; files = change_at gone file y.files }
+grown y (Replaced file size) = record y {
+  epoch = y.epoch + 1;
+  base = with_set y.base (list_in y file);
+  files = change_at gone file y.files ++ Some (new_place y (list_in y file)) ∷ [];
+}
 
 -- ---- surfaces
 

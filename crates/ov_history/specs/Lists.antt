@@ -1,9 +1,10 @@
 -- The users, files and access lists of the matrix, by number and by name.
 use Rattle.std.specs.Prelude.{ℕ, ◌+◌, ◌-◌, ◌^◌, Bool, true, false, nat_lt, List, [], ◌∷◌, ◌++◌}
-use Rattle.std.specs.Prelude.{length, Option, Some, None, is_some, unwrap_or}
+use Rattle.std.specs.Prelude.{length, Option, Some, None, is_some}
 use Rattle.ov_base.specs.Sets.{empty as nobody, has, with}
 use Rattle.ov_history.specs.History.{File, Matrix}
 use Rattle.ov_history.specs.Places.{living_at, place_of}
+pub use Rattle.ov_history.specs.History.{file_at, no_file}
 
 -- the name of a file; one that is gone has the empty one, which is no file's name
 abbrev pub name_left : Option File → List ℕ
@@ -30,14 +31,6 @@ is_user m user = nat_lt user (length m.users)
 -- whether there is a file of this number, which isn't gone
 abbrev pub is_file : Matrix → ℕ → Bool
 is_file m file = is_some (living_at m.files file)
-
--- what stands for a file that isn't there
-abbrev pub no_file : File
-no_file = record { name = []; length = 0; list = nobody }
-
--- the file of this number
-abbrev pub file_at : Matrix → ℕ → File
-file_at m file = unwrap_or (living_at m.files file) no_file
 
 -- whether the user is in the file's list
 abbrev pub is_listed : Matrix → ℕ → ℕ → Bool

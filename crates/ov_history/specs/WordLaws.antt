@@ -1,18 +1,19 @@
 -- The laws that say what the layers of a history are, in the words of its updates.
 use Rattle.std.specs.Prelude.{◌≡◌, ◌≢◌, ◌⊎◌, ◌↔◌, ℕ, ◌<◌, ◌≤◌, ◌^◌, List, [], length, slice_get, slice_index}
 use Rattle.std.specs.Prelude.{Contains, Some}
-use Rattle.ov_base.specs.Sets.{Has}
+use Rattle.ov_base.specs.Sets.{Has, single}
 use Rattle.ov_ctr.specs.Ctr.{counter_block}
 use Rattle.ov_tokens.specs.declared.label.Label.{Label}
 use Rattle.ov_history.specs.Places.{living_at}
-use Rattle.ov_history.specs.History.{Update, Created, Removed, File, History, epoch_of, matrix_of}
+use Rattle.ov_history.specs.History.{Update, Created, Removed, Replaced, File, History, epoch_of}
+use Rattle.ov_history.specs.History.{file_at, matrix_of}
 use Rattle.ov_history.specs.History.{with_update}
 use Rattle.ov_history.specs.Layers.{holders, surface_at, layers_of}
 use Rattle.ov_history.specs.Refusals.{IsLegal}
 use Rattle.ov_history.specs.Masters.{Masters}
 use Rattle.ov_history.specs.Plain.{PlainHistory, PlainUpdate, history_of}
-use Rattle.ov_history.specs.Words.{AreDistinct, HasFile, IsPadded, WasGranted, longer, longer_plain}
-use Rattle.ov_history.specs.Words.{place_in, wanted_of}
+use Rattle.ov_history.specs.Words.{AreDistinct, HasFile, IsPadded, WasGranted, WasListed, longer}
+use Rattle.ov_history.specs.Words.{longer_plain, place_in, wanted_of}
 
 -- a base node is held by its set's users, and by those who were granted a file of this node
 abbrev pub HoldersAreGranted : Type 0
@@ -20,6 +21,14 @@ HoldersAreGranted =
     (h : History) (node user : ℕ)
     → Has (holders (layers_of h) node) user
     ↔ (Has (slice_index (layers_of h).base node) user ⊎ WasGranted h node user)
+
+-- a user in the set of a base node is alone in it, or was in the list of a file of this node at its
+-- creation, or at the replacement that made it
+abbrev pub SetsAreOfLists : Type 0
+SetsAreOfLists =
+    (h : History) (node user : ℕ)
+    → Has (slice_index (layers_of h).base node) user
+    → (slice_index (layers_of h).base node ≡ single user) ⊎ WasListed h node user
 
 -- each file has the surface node of its wanted set, and none where none is wanted
 abbrev pub SurfaceIsWanted : Type 0
@@ -42,15 +51,28 @@ FilesBegin =
     (h : History) (name : List ℕ) (list size : ℕ)
     → HasFile (with_update h (Created name list size)) (length (matrix_of h).files)
 
--- a file that is there stays there, after any further updates of which none removes it
+-- a file that replaces another is there, and has the next number
+abbrev pub FilesBeginAnew : Type 0
+FilesBeginAnew =
+    (h : History) (file size : ℕ)
+    → HasFile (with_update h (Replaced file size)) (length (matrix_of h).files)
+
+-- a file that is there stays there, after any further updates of which none removes or replaces it
 abbrev pub FilesStay : Type 0
 FilesStay =
     (h : History) (more : List Update) (file : ℕ)
-    → HasFile h file → (Contains more (Removed file) → ⊥) → HasFile (longer h more) file
+    → HasFile h file → (Contains more (Removed file) → ⊥)
+    → ((size : ℕ) → Contains more (Replaced file size) → ⊥) → HasFile (longer h more) file
 
 -- a file that is removed is gone
 abbrev pub RemovedIsGone : Type 0
 RemovedIsGone = (h : History) (file : ℕ) → HasFile (with_update h (Removed file)) file → ⊥
+
+-- a file that is replaced is gone
+abbrev pub ReplacedIsGone : Type 0
+ReplacedIsGone =
+    (h : History) (file size : ℕ)
+    → HasFile h file → HasFile (with_update h (Replaced file size)) file → ⊥
 
 -- ---- generations
 
@@ -76,6 +98,13 @@ abbrev pub GenerationsBegin : Type 0
 GenerationsBegin =
     (h : History) (name : List ℕ) (list size : ℕ)
     → let next = with_update h (Created name list size) in
+    (place_in next (length (matrix_of h).files)).generation ≡ epoch_of next
+
+-- a file that replaces another has the epoch after that update for its generation
+abbrev pub GenerationsBeginAnew : Type 0
+GenerationsBeginAnew =
+    (h : History) (file size : ℕ)
+    → let next = with_update h (Replaced file size) in
     (place_in next (length (matrix_of h).files)).generation ≡ epoch_of next
 
 -- ---- numbers
@@ -126,6 +155,16 @@ BaseNodeIsOfList =
     HasFile after (length (matrix_of h).files)
     → slice_get (layers_of after).base (place_in after (length (matrix_of h).files)).node
     ≡ Some list
+
+-- the base node of a file that replaces another is the node of the list that the other had then,
+-- after any further updates
+abbrev pub BaseNodeIsOfOldList : Type 0
+BaseNodeIsOfOldList =
+    (h : History) (file size : ℕ) (more : List Update)
+    → let after = longer (with_update h (Replaced file size)) more in
+    HasFile after (length (matrix_of h).files)
+    → slice_get (layers_of after).base (place_in after (length (matrix_of h).files)).node
+    ≡ Some (file_at (matrix_of h) file).list
 
 -- ---- pads
 

@@ -1,13 +1,15 @@
 -- What the layers of a history are, in the words of its updates.
 use Rattle.std.specs.Prelude.{◌≡◌, ℕ, ◌<◌, true, List, ◌∷◌, ◌++◌, length, slice_index, Option}
 use Rattle.std.specs.Prelude.{Some, None, unwrap_or}
+use Rattle.ov_base.specs.Sets.{Has}
 use Rattle.ov_surface.specs.Wanted.{wanted_surface}
 use Rattle.ov_tokens.specs.declared.label.Label.{Label}
-use Rattle.ov_history.specs.History.{File, Update, Granted, History, matrix_of}
+use Rattle.ov_history.specs.History.{File, Update, Enrolled, Created, Granted, Revoked, Removed}
+use Rattle.ov_history.specs.History.{Replaced, History, file_at, matrix_of}
 use Rattle.ov_history.specs.Plain.{PlainUpdate, PlainHistory, bytes_of, history_of}
 use Rattle.ov_history.specs.Lists.{is_file}
 use Rattle.ov_history.specs.Places.{living_at}
-use Rattle.ov_history.specs.Layers.{Place, no_place, node_of, holders, layers_of}
+use Rattle.ov_history.specs.Layers.{Place, no_place, node_for, node_of, holders, layers_of}
 use Rattle.ov_history.specs.Catalogue.{filed_at}
 use Rattle.ov_history.specs.Closure.{protecting}
 use Rattle.ov_history.specs.Kept.{padded}
@@ -33,6 +35,24 @@ WasGranted h node user =
     (before : List Update) × (file : ℕ) × (after : List Update)
     × (h.updates ≡ before ++ Granted user file ∷ after)
     × (node_of (layers_of (cut_to h before)) file ≡ node)
+
+-- the list of the file that an update makes, where it makes one: the list that it is created for,
+-- or that of the file which it replaces
+abbrev pub made_for : History → Update → Option ℕ
+made_for h (Enrolled user) = None
+made_for h (Created file list size) = Some list
+made_for h (Granted user file) = None
+made_for h (Revoked user file) = None
+made_for h (Removed file) = None
+made_for h (Replaced file size) = Some (file_at (matrix_of h) file).list
+
+-- some update made a file whose base node this was, for a list that had the user
+abbrev pub WasListed : History → ℕ → ℕ → Type 0
+WasListed h node user =
+    (before : List Update) × (u : Update) × (after : List Update) × (list : ℕ)
+    × (h.updates ≡ before ++ u ∷ after)
+    × (made_for (cut_to h before) u ≡ Some list) × Has list user
+    × (node_for (layers_of (cut_to h before)).base list ≡ node)
 
 -- ---- files
 

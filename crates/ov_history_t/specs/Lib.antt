@@ -2,3 +2,4 @@ pub mod Layers
 pub mod Machine
 pub mod Ordering
 pub mod Refusing
+pub mod Replacing

@@ -10,6 +10,7 @@ mod layers;
 mod machine;
 mod ordering;
 mod refusing;
+mod replacing;
 
 pub use layers::{
     a_base_coat_is_under_the_access_key, a_new_file_has_a_node_of_its_own_list,
@@ -25,4 +26,8 @@ pub use ordering::new_surfaces_are_in_the_order_of_files;
 pub use refusing::{
     a_question_has_the_lowest_refusal, a_removal_frees_bytes_and_name,
     an_update_has_the_lowest_refusal, bytes_fill_a_store, the_last_epoch_is_spent,
+};
+pub use replacing::{
+    a_replaced_file_is_gone, a_replacement_is_a_new_file_of_its_list,
+    numbers_go_on_behind_a_replacement, old_bytes_do_not_count,
 };

@@ -18,16 +18,24 @@ use Rattle.ov_fields.proofs.RowPlaces.{kind_fault, no_kind_fault, whole_fault, w
 use Rattle.ov_record.specs.Briefs.{BriefEnrol, BriefRemove}
 use Rattle.ov_record.specs.Forms.{Form, HasRoom, set_bytes}
 use Rattle.ov_record.specs.Stored.{brief_spelling, stored_spelling, HasBriefForm, HasStoredForm}
-use Rattle.ov_record.specs.Reading.{brief_at, front_of, creation_brief, creation_brief_at, grant_brief, revocation_brief, stored, stored_at}
+use Rattle.ov_record.specs.Reading.{brief_at, front_of, creation_brief, creation_brief_at, grant_brief, replacement_brief, replacement_brief_at, revocation_brief, stored, stored_at}
 use Rattle.ov_record.specs.Laws.{BadFrontsArePlaced, BadRecordsArePlaced}
-use Rattle.ov_record.proofs.BriefLaws.{brief_reads, creation_fields, creation_kind, enrolment_kind, grant_kind, removal_kind, revocation_kind, stored_reads, CreationFits}
-use Rattle.ov_record.proofs.UpdatePlaces.{grant_places, placed_err, removal_fault, revocation_places, Limits}
+use Rattle.ov_record.proofs.BriefLaws.{brief_reads, creation_fields, creation_kind, enrolment_kind, grant_kind, removal_kind, replacement_fields, replacement_kind, revocation_kind, stored_reads, CreationFits, ReplacementFits}
+use Rattle.ov_record.proofs.UpdatePlaces.{grant_places, guarded_fault, placed_err, revocation_places, Limits}
 
 creation_places : {Once : Type 0} (form : Form) → HasRoom form → HasPlaces Once Limits (creation_brief_at form) (creation_fields form) (CreationFits form)
 creation_places form room =
     then_places (then_reads (then_reads (then_reads name_reads (set_reads (set_bytes form))) (counted_reads form.most_tokens token_reads)) (bytes_reads 32))
     (then_places (then_reads (then_reads name_reads (set_reads (set_bytes form))) (counted_reads form.most_tokens token_reads))
     (then_places (then_reads name_reads (set_reads (set_bytes form))) (then_places name_reads name_places (set_places (set_bytes form))) (counted_places form.most_tokens room.0 tt token_reads token_places))
+    (bytes_places 32))
+    (u32_places (at_most form.longest) 0 form.longest tt (at_most_limits form.longest (2 ^ 32) room.1))
+
+replacement_places : {Once : Type 0} (form : Form) → HasRoom form → HasPlaces Once Limits (replacement_brief_at form) (replacement_fields form) (ReplacementFits form)
+replacement_places form room =
+    then_places (then_reads (then_reads name_reads (counted_reads form.most_tokens token_reads)) (bytes_reads 32))
+    (then_places (then_reads name_reads (counted_reads form.most_tokens token_reads))
+    (then_places name_reads name_places (counted_places form.most_tokens room.0 tt token_reads token_places))
     (bytes_places 32))
     (u32_places (at_most form.longest) 0 form.longest tt (at_most_limits form.longest (2 ^ 32) room.1))
 
@@ -46,9 +54,11 @@ brief_fault form room (suc (suc (suc zero)) ∷ bytes) left fits e = kind_fault 
 brief_fault form room (suc (suc (suc (suc zero))) ∷ bytes) left fits e = kind_fault 4 revocation_brief revocation_places (revocation_kind form) (λ t. refl) bytes left fits e
 brief_fault form room (suc (suc (suc (suc (suc zero)))) ∷ bytes) left fits e = no_kind_fault 5 (no_brief form) (λ t x bad. absurd cc) bytes left cc
 brief_fault form room (suc (suc (suc (suc (suc (suc zero))))) ∷ bytes) left fits e =
-    removal_fault {read = brief_at form} form.removes BriefRemove (no_brief form) (removal_kind form) (λ t. refl) bytes left fits e
-brief_fault form room (suc (suc (suc (suc (suc (suc (suc kind)))))) ∷ bytes) left fits e =
-    no_kind_fault (suc (suc (suc (suc (suc (suc (suc kind))))))) (no_brief form) (λ t x bad. absurd cc) bytes left cc
+    guarded_fault {read = brief_at form} form.removes 6 BriefRemove (number_places wide32) (no_brief form) (removal_kind form) (λ t. refl) bytes left fits e
+brief_fault form room (suc (suc (suc (suc (suc (suc (suc zero)))))) ∷ bytes) left fits e =
+    guarded_fault {read = brief_at form} form.removes 7 replacement_brief (replacement_places form room) (no_brief form) (replacement_kind form) (λ t. refl) bytes left fits e
+brief_fault form room (suc (suc (suc (suc (suc (suc (suc (suc kind))))))) ∷ bytes) left fits e =
+    no_kind_fault (suc (suc (suc (suc (suc (suc (suc (suc kind)))))))) (no_brief form) (λ t x bad. absurd cc) bytes left cc
 
 brief_places : {Once : Type 0} (form : Form) → HasRoom form → HasPlaces Once Limits (brief_at form) (brief_spelling form) (HasBriefForm form)
 brief_places form room =

@@ -4,7 +4,6 @@ use Rattle.std.proofs.lemmas.List.{append-nil, drop_at, nil_from_length}
 use Rattle.std.proofs.Math.Dec.{eqb-suc-zero}
 use Rattle.std.specs.Prelude.{true, false, IfSome}
 use Rattle.std.specs.Int.{w32}
-use Rattle.ov_tokens.specs.declared.token.Token.{Token}
 use Rattle.ov_fields.specs.Answers.{left_of}
 use Rattle.ov_fields.specs.Reading.{Read, ◌>>=◌, made, all_of, at_most, bytes_at, name_at, number_at, number_that, placed, sized_at}
 use Rattle.ov_fields.specs.declared.fault.FieldFault.{FieldFault}
@@ -15,7 +14,7 @@ use Rattle.ov_fields.proofs.WholeLaws.{all_again, all_takes}
 use Rattle.ov_record.specs.Briefs.{Brief, BriefEnrol, BriefRemove, text_size, with_text}
 use Rattle.ov_record.specs.Forms.{Form, HasRoom}
 use Rattle.ov_record.specs.Places.{place_of}
-use Rattle.ov_record.specs.Reading.{brief_at, creation, creation_brief, grant, grant_at, grant_brief, revocation, revocation_at, revocation_brief, update_at, update_of}
+use Rattle.ov_record.specs.Reading.{brief_at, creation, creation_at, creation_brief, creation_brief_at, grant, grant_at, grant_brief, replacement, replacement_at, replacement_brief, replacement_brief_at, revocation, revocation_at, revocation_brief, update_at, update_of}
 use Rattle.ov_record.specs.Spelling.{spelling, HasForm}
 use Rattle.ov_record.specs.Stored.{brief_spelling}
 use Rattle.ov_record.specs.Updates.{SealedUpdate, SealedEnrol, SealedRemove}
@@ -39,43 +38,56 @@ without_text make short (Ok x) none same =
     sym (ap (λ (n : ℕ). made (with_text (short x.0)) (bytes_at n x.1)) (none x.0) ∙ ap (made (with_text (short x.0))) (no_bytes x.1)
     ∙ ap (λ (u : SealedUpdate). Ok (u, x.1)) (same x.0 []))
 
--- the fields of a creation before the number of its bytes
-abbrev Front : Type 0
-Front = ((List ℕ × ℕ) × List Token) × List ℕ
+-- what is made of the fields of an update and of its text, and by its brief
+text_by_brief : {A : Type 0} (make : A × List ℕ → SealedUpdate) (short : A × ℕ → Brief) → ((a : A) (size : ℕ) (text : List ℕ) → with_text (short (a, size)) text ≡ make (a, text))
+    → (a : A × List ℕ) (size : ℕ) (t : Read (List ℕ)) → made make (t >>= λ b. Ok ((a.0, b.0), b.1)) ≡ made (with_text (short (a.0, size))) t
+text_by_brief make short same a size (Err left) = refl
+text_by_brief make short same a size (Ok b) = ap (λ (u : SealedUpdate). Ok (u, b.1)) (sym (same a.0 size b.0))
 
-text_by_brief : (a : Front × List ℕ) (size : ℕ) (t : Read (List ℕ))
-    → made creation (t >>= λ b. Ok ((a.0, b.0), b.1)) ≡ made (with_text (creation_brief (a.0, size))) t
-text_by_brief a size (Err left) = refl
-text_by_brief a size (Ok b) = refl
+sized_by_brief : {A : Type 0} (make : A × List ℕ → SealedUpdate) (short : A × ℕ → Brief) → ((a : A) (size : ℕ) (text : List ℕ) → with_text (short (a, size)) text ≡ make (a, text))
+    → ((a : A) (size : ℕ) → text_size (short (a, size)) ≡ size) → (a : A × List ℕ) (n : Read ℕ)
+    → made make ((n >>= λ c. bytes_at c.0 c.1) >>= λ b. Ok ((a.0, b.0), b.1)) ≡ (made short (n >>= λ b. Ok ((a.0, b.0), b.1)) >>= text_at)
+sized_by_brief make short same many a (Err left) = refl
+sized_by_brief make short same many a (Ok c) =
+    text_by_brief make short same a c.0 (bytes_at c.0 c.1)
+    ∙ ap (λ (n : ℕ). made (with_text (short (a.0, c.0))) (bytes_at n c.1)) (sym (many a.0 c.0))
 
-sized_by_brief : (a : Front × List ℕ) (n : Read ℕ)
-    → made creation ((n >>= λ c. bytes_at c.0 c.1) >>= λ b. Ok ((a.0, b.0), b.1)) ≡ (made creation_brief (n >>= λ b. Ok ((a.0, b.0), b.1)) >>= text_at)
-sized_by_brief a (Err left) = refl
-sized_by_brief a (Ok c) = text_by_brief a c.0 (bytes_at c.0 c.1)
-
-creation_by_brief : (form : Form) (r : Read Front)
-    → made creation (r >>= λ a. sized_at form.longest a.1 >>= λ b. Ok ((a.0, b.0), b.1))
-    ≡ (made creation_brief (r >>= λ a. number_that w32 (at_most form.longest) a.1 >>= λ b. Ok ((a.0, b.0), b.1)) >>= text_at)
+-- a kind of update that has bytes of a file, behind its other fields
+with_bytes : {A : Type 0} (make : A × List ℕ → SealedUpdate) (short : A × ℕ → Brief) → ((a : A) (size : ℕ) (text : List ℕ) → with_text (short (a, size)) text ≡ make (a, text))
+    → ((a : A) (size : ℕ) → text_size (short (a, size)) ≡ size) → (form : Form) (r : Read A)
+    → made make (r >>= λ a. sized_at form.longest a.1 >>= λ b. Ok ((a.0, b.0), b.1))
+    ≡ (made short (r >>= λ a. number_that w32 (at_most form.longest) a.1 >>= λ b. Ok ((a.0, b.0), b.1)) >>= text_at)
 unfolding sized_at
-creation_by_brief form (Err left) = refl
-creation_by_brief form (Ok a) = sized_by_brief a (number_that w32 (at_most form.longest) a.1)
+with_bytes make short same many form (Err left) = refl
+with_bytes make short same many form (Ok a) = sized_by_brief make short same many a (number_that w32 (at_most form.longest) a.1)
 
-removal_by_brief : (t : Bool) (bytes : List ℕ) (left : ℕ)
-    → cond t (made SealedRemove (number_at w32 bytes)) (Err left) ≡ (cond t (made BriefRemove (number_at w32 bytes)) (Err left) >>= text_at)
-removal_by_brief true bytes left = without_text SealedRemove BriefRemove (number_at w32 bytes) (λ a. refl) (λ a text. refl)
-removal_by_brief false bytes left = refl
+creation_by_brief : (form : Form) (bytes : List ℕ) → made creation (creation_at form bytes) ≡ (made creation_brief (creation_brief_at form bytes) >>= text_at)
+creation_by_brief form bytes = with_bytes creation creation_brief (λ a size text. refl) (λ a size. refl) form _
+
+replacement_by_brief : (form : Form) (bytes : List ℕ) → made replacement (replacement_at form bytes) ≡ (made replacement_brief (replacement_brief_at form bytes) >>= text_at)
+replacement_by_brief form bytes = with_bytes replacement replacement_brief (λ a size text. refl) (λ a size. refl) form _
+
+-- a kind of update that a form has or hasn't
+guarded_by_brief : (t : Bool) (u : Read SealedUpdate) (b : Read Brief) (left : ℕ) → u ≡ (b >>= text_at) → cond t u (Err left) ≡ (cond t b (Err left) >>= text_at)
+guarded_by_brief true u b left is = is
+guarded_by_brief false u b left is = refl
 
 pub by_brief : (form : Form) (bytes : List ℕ) → update_at form bytes ≡ (brief_at form bytes >>= text_at)
 unfolding update_at brief_at
 by_brief form [] = refl
 by_brief form (zero ∷ bytes) = refl
 by_brief form (suc zero ∷ bytes) = without_text SealedEnrol BriefEnrol (name_at bytes) (λ a. refl) (λ a text. refl)
-by_brief form (suc (suc zero) ∷ bytes) = creation_by_brief form _
+by_brief form (suc (suc zero) ∷ bytes) = creation_by_brief form bytes
 by_brief form (suc (suc (suc zero)) ∷ bytes) = without_text grant grant_brief (grant_at bytes) (λ a. refl) (λ a text. refl)
 by_brief form (suc (suc (suc (suc zero))) ∷ bytes) = without_text revocation revocation_brief (revocation_at bytes) (λ a. refl) (λ a text. refl)
 by_brief form (suc (suc (suc (suc (suc zero)))) ∷ bytes) = refl
-by_brief form (suc (suc (suc (suc (suc (suc zero))))) ∷ bytes) = removal_by_brief form.removes bytes (length (6 ∷ bytes))
-by_brief form (suc (suc (suc (suc (suc (suc (suc kind)))))) ∷ bytes) = refl
+by_brief form (suc (suc (suc (suc (suc (suc zero))))) ∷ bytes) =
+    guarded_by_brief form.removes (made SealedRemove (number_at w32 bytes)) (made BriefRemove (number_at w32 bytes)) (length (6 ∷ bytes))
+    (without_text SealedRemove BriefRemove (number_at w32 bytes) (λ a. refl) (λ a text. refl))
+by_brief form (suc (suc (suc (suc (suc (suc (suc zero)))))) ∷ bytes) =
+    guarded_by_brief form.removes (made replacement (replacement_at form bytes)) (made replacement_brief (replacement_brief_at form bytes)) (length (7 ∷ bytes))
+    (replacement_by_brief form bytes)
+by_brief form (suc (suc (suc (suc (suc (suc (suc (suc kind))))))) ∷ bytes) = refl
 
 -- ---- all of the bytes
 

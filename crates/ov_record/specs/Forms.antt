@@ -1,13 +1,13 @@
--- How updates are spelled: the words of a set, the limits of a creation, and whether there are
--- removals.
+-- How updates are spelled: the words of a set, the limits of a new file, and whether there are
+-- removals and replacements.
 use Rattle.std.specs.Prelude.{Bool, true, false, ◌≡◌, ℕ, ◌<◌, ◌≤◌, ◌+◌, ◌*◌, ◌^◌}
 use Rattle.ov_base.specs.declared.limits.TheConstants.{MAX_NAME_BYTES}
 use Rattle.ov_record.specs.declared.formats.Format.{Format}
 use Rattle.ov_record.specs.declared.formats.Format.TheVariants.{First, Second}
 use Rattle.ov_record.specs.declared.forms.Form.{Form as FormOf}
 
--- A form of spellings: how many words a set has, how many tokens a creation has at most, and how
--- many bytes the file that it creates; and whether files are removed in it.
+-- A form of spellings: how many words a set has, how many tokens a creation or a replacement has at
+-- most, and how many bytes its file; and whether files are removed and replaced in it.
 pub record Form : Type 0 where
   pub words : ℕ
   pub most_tokens : ℕ

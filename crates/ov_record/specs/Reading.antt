@@ -3,10 +3,10 @@ use Rattle.std.specs.Prelude.{cond, ℕ, zero, suc, ◌-◌, List, [], ◌∷◌
 use Rattle.std.specs.Int.{w32}
 use Rattle.ov_tokens.specs.declared.token.Token.{Token}
 use Rattle.ov_fields.specs.Reading.{Read, ◌>>=◌, ◌>>◌, made, all_of, placed, at_most, bytes_at, number_at, number_that, set_at, many_at, counted_at, sized_at, optional_at, name_at, token_at}
-use Rattle.ov_record.specs.Briefs.{Brief, BriefEnrol, BriefCreate, BriefGrant, BriefRevoke, BriefRemove}
+use Rattle.ov_record.specs.Briefs.{Brief, BriefEnrol, BriefCreate, BriefGrant, BriefRevoke, BriefRemove, BriefReplace}
 use Rattle.ov_record.specs.Forms.{Form, set_bytes}
 use Rattle.ov_record.specs.Stored.{Stored}
-use Rattle.ov_record.specs.Updates.{SealedUpdate, SealedEnrol, SealedCreate, SealedGrant, SealedRevoke, SealedRemove}
+use Rattle.ov_record.specs.Updates.{SealedUpdate, SealedEnrol, SealedCreate, SealedGrant, SealedRevoke, SealedRemove, SealedReplace}
 
 -- name, list, tokens, tag and bytes of a creation
 abbrev pub creation_at : Form → List ℕ → Read ((((List ℕ × ℕ) × List Token) × List ℕ) × List ℕ)
@@ -34,12 +34,25 @@ revocation_at = number_at w32 >> number_at w32
 abbrev pub revocation : ℕ × ℕ → SealedUpdate
 revocation (user, file) = SealedRevoke user file
 
--- the file of a removal, behind its kind byte, which is wrong where the form has no removals
+-- what is read of these bytes, of which the first is wrong where the form has no removals
+abbrev pub where_removes : {A : Type 0} → Form → List ℕ → Read A → Read A
+where_removes form bytes read = cond form.removes read (Err (length bytes))
+
+-- the file of a removal, behind its kind byte
 abbrev pub removal_at : {A : Type 0} → Form → (ℕ → A) → List ℕ → Read A
 removal_at form removal bytes =
-    cond form.removes (made removal (number_at w32 bytes)) (Err (length (6 ∷ bytes)))
+    where_removes form (6 ∷ bytes) (made removal (number_at w32 bytes))
 
--- the kind byte, from 1 to 4 or 6, and what stands for an update of this kind
+-- name, tokens, tag and bytes of a replacement
+abbrev pub replacement_at : Form → List ℕ → Read (((List ℕ × List Token) × List ℕ) × List ℕ)
+replacement_at form =
+    name_at >> counted_at form.most_tokens token_at >> bytes_at 32 >> sized_at form.longest
+
+-- the replacement with these fields
+abbrev pub replacement : ((List ℕ × List Token) × List ℕ) × List ℕ → SealedUpdate
+replacement (((name, tokens), tag), bytes) = SealedReplace name tokens tag bytes
+
+-- the kind byte, from 1 to 4 or 6 or 7, and what stands for an update of this kind
 unfoldable pub update_at : Form → List ℕ → Read SealedUpdate
 update_at form [] = Err 0
 update_at form (suc zero ∷ bytes) = made SealedEnrol (name_at bytes)
@@ -48,6 +61,8 @@ update_at form (suc (suc (suc zero)) ∷ bytes) = made grant (grant_at bytes)
 update_at form (suc (suc (suc (suc zero))) ∷ bytes) = made revocation (revocation_at bytes)
 update_at form (suc (suc (suc (suc (suc (suc zero))))) ∷ bytes) =
     removal_at form SealedRemove bytes
+update_at form (suc (suc (suc (suc (suc (suc (suc zero)))))) ∷ bytes) =
+    where_removes form (7 ∷ bytes) (made replacement (replacement_at form bytes))
 update_at form (kind ∷ bytes) = Err (length (kind ∷ bytes))
 
 -- the update that all of the bytes spell, or the place of the first wrong byte
@@ -74,8 +89,18 @@ grant_brief ((user, file), token) = BriefGrant user file token
 abbrev pub revocation_brief : ℕ × ℕ → Brief
 revocation_brief (user, file) = BriefRevoke user file
 
--- the kind byte, from 1 to 4 or 6, and what stands for an update of this kind before the bytes of
--- its file
+-- name, tokens, tag and number of bytes of a replacement
+abbrev pub replacement_brief_at : Form → List ℕ → Read (((List ℕ × List Token) × List ℕ) × ℕ)
+replacement_brief_at form =
+    name_at >> counted_at form.most_tokens token_at >> bytes_at 32
+    >> number_that w32 (at_most form.longest)
+
+-- the replacement with these fields
+abbrev pub replacement_brief : ((List ℕ × List Token) × List ℕ) × ℕ → Brief
+replacement_brief (((name, tokens), tag), size) = BriefReplace name tokens tag size
+
+-- the kind byte, from 1 to 4 or 6 or 7, and what stands for an update of this kind before the bytes
+-- of its file
 unfoldable pub brief_at : Form → List ℕ → Read Brief
 brief_at form [] = Err 0
 brief_at form (suc zero ∷ bytes) = made BriefEnrol (name_at bytes)
@@ -84,6 +109,8 @@ brief_at form (suc (suc (suc zero)) ∷ bytes) = made grant_brief (grant_at byte
 brief_at form (suc (suc (suc (suc zero))) ∷ bytes) = made revocation_brief (revocation_at bytes)
 brief_at form (suc (suc (suc (suc (suc (suc zero))))) ∷ bytes) =
     removal_at form BriefRemove bytes
+brief_at form (suc (suc (suc (suc (suc (suc (suc zero)))))) ∷ bytes) =
+    where_removes form (7 ∷ bytes) (made replacement_brief (replacement_brief_at form bytes))
 brief_at form (kind ∷ bytes) = Err (length (kind ∷ bytes))
 
 -- the value at the front of this many bytes, and how many of them spell it

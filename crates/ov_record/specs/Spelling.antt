@@ -5,7 +5,7 @@ use Rattle.ov_base.specs.Names.{IsName}
 use Rattle.ov_base.specs.Sets.{IsBelow, bytes_of}
 use Rattle.ov_fields.specs.Spelling.{u32, name_field, token_field, sized, optional, counted, IsToken}
 use Rattle.ov_record.specs.Forms.{Form, set_bytes}
-use Rattle.ov_record.specs.Updates.{SealedUpdate, SealedEnrol, SealedCreate, SealedGrant, SealedRevoke, SealedRemove}
+use Rattle.ov_record.specs.Updates.{SealedUpdate, SealedEnrol, SealedCreate, SealedGrant, SealedRevoke, SealedRemove, SealedReplace}
 
 -- a kind byte, and the update's fields in order
 abbrev pub spelling : Form → SealedUpdate → List ℕ
@@ -17,9 +17,11 @@ spelling form (SealedGrant user file token) =
     3 ∷ u32 user ++ u32 file ++ optional token_field token
 spelling form (SealedRevoke user file) = 4 ∷ u32 user ++ u32 file
 spelling form (SealedRemove file) = 6 ∷ u32 file
+spelling form (SealedReplace name tokens tag bytes) =
+    7 ∷ name_field name ++ counted token_field tokens ++ tag ++ sized bytes
 
--- which updates have a spelling: a creation has at most so many tokens, and so many bytes of its
--- file; a removal has one where the form has removals
+-- which updates have a spelling: a creation or a replacement has at most so many tokens, and so
+-- many bytes of its file; a removal and a replacement have one where the form has removals
 abbrev pub HasForm : Form → SealedUpdate → Type 0
 HasForm form (SealedEnrol name) = IsName name
 HasForm form (SealedCreate name list tokens tag bytes) =
@@ -29,8 +31,11 @@ HasForm form (SealedGrant user file token) =
     (user < 2 ^ 32) × (file < 2 ^ 32) × IfSome token IsToken
 HasForm form (SealedRevoke user file) = (user < 2 ^ 32) × (file < 2 ^ 32)
 HasForm form (SealedRemove file) = (form.removes ≡ true) × (file < 2 ^ 32)
+HasForm form (SealedReplace name tokens tag bytes) =
+    (form.removes ≡ true) × IsName name × (length tokens ≤ form.most_tokens)
+    × AllByRecursion IsToken tokens × (length tag ≡ 32) × (length bytes ≤ form.longest)
 
--- what a caller sees to before it writes an update: the limits of a creation, and that the form has
+-- what a caller sees to before it writes an update: the limits of a new file, and that the form has
 -- removals
 abbrev pub IsWithinLimits : Form → SealedUpdate → Type 0
 IsWithinLimits form (SealedEnrol name) = Unit {0}
@@ -39,11 +44,14 @@ IsWithinLimits form (SealedCreate name list tokens tag bytes) =
 IsWithinLimits form (SealedGrant user file token) = Unit {0}
 IsWithinLimits form (SealedRevoke user file) = Unit {0}
 IsWithinLimits form (SealedRemove file) = form.removes ≡ true
+IsWithinLimits form (SealedReplace name tokens tag bytes) =
+    (form.removes ≡ true) × (length tokens ≤ form.most_tokens) × (length bytes ≤ form.longest)
 
--- the file's bytes, with which the spelling of a creation ends
+-- the file's bytes, with which the spelling of a creation or a replacement ends
 abbrev pub body_of : SealedUpdate → List ℕ
 body_of (SealedEnrol name) = []
 body_of (SealedCreate name list tokens tag bytes) = bytes
 body_of (SealedGrant user file token) = []
 body_of (SealedRevoke user file) = []
 body_of (SealedRemove file) = []
+body_of (SealedReplace name tokens tag bytes) = bytes

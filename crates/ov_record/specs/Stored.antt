@@ -6,13 +6,14 @@ use Rattle.ov_base.specs.declared.limits.TheConstants.{MAX_FILES, MAX_NAME_BYTES
 use Rattle.ov_base.specs.Names.{IsName}
 use Rattle.ov_base.specs.Sets.{IsBelow, bytes_of}
 use Rattle.ov_fields.specs.Spelling.{u32, name_field, token_field, optional, counted, IsToken}
-use Rattle.ov_record.specs.Briefs.{Brief, BriefEnrol, BriefCreate, BriefGrant, BriefRevoke, BriefRemove, plain_brief}
+use Rattle.ov_record.specs.Briefs.{Brief, BriefEnrol, BriefCreate, BriefGrant, BriefRevoke, BriefRemove, BriefReplace, plain_brief}
 use Rattle.ov_record.specs.Forms.{Form, set_bytes}
 use Rattle.ov_record.specs.declared.stored.Stored.{Stored as StoredOf}
 
 -- ---- an update without the bytes of its file
 
--- the spelling of an update, which for a creation ends with the number of its file's bytes
+-- the spelling of an update, which for a creation or a replacement ends with the number of its
+-- file's bytes
 abbrev pub brief_spelling : Form → Brief → List ℕ
 brief_spelling form (BriefEnrol name) = 1 ∷ name_field name
 brief_spelling form (BriefCreate name list tokens tag size) =
@@ -22,6 +23,8 @@ brief_spelling form (BriefGrant user file token) =
     3 ∷ u32 user ++ u32 file ++ optional token_field token
 brief_spelling form (BriefRevoke user file) = 4 ∷ u32 user ++ u32 file
 brief_spelling form (BriefRemove file) = 6 ∷ u32 file
+brief_spelling form (BriefReplace name tokens tag size) =
+    7 ∷ name_field name ++ counted token_field tokens ++ tag ++ u32 size
 
 -- which briefs have a spelling
 abbrev pub HasBriefForm : Form → Brief → Type 0
@@ -33,8 +36,11 @@ HasBriefForm form (BriefGrant user file token) =
     (user < 2 ^ 32) × (file < 2 ^ 32) × IfSome token IsToken
 HasBriefForm form (BriefRevoke user file) = (user < 2 ^ 32) × (file < 2 ^ 32)
 HasBriefForm form (BriefRemove file) = (form.removes ≡ true) × (file < 2 ^ 32)
+HasBriefForm form (BriefReplace name tokens tag size) =
+    (form.removes ≡ true) × IsName name × (length tokens ≤ form.most_tokens)
+    × AllByRecursion IsToken tokens × (length tag ≡ 32) × (size ≤ form.longest)
 
--- what a caller sees to before it writes a brief: the limits of a creation, and that the form has
+-- what a caller sees to before it writes a brief: the limits of a new file, and that the form has
 -- removals
 abbrev pub IsBriefWithinLimits : Form → Brief → Type 0
 IsBriefWithinLimits form (BriefEnrol name) = Unit {0}
@@ -43,6 +49,8 @@ IsBriefWithinLimits form (BriefCreate name list tokens tag size) =
 IsBriefWithinLimits form (BriefGrant user file token) = Unit {0}
 IsBriefWithinLimits form (BriefRevoke user file) = Unit {0}
 IsBriefWithinLimits form (BriefRemove file) = form.removes ≡ true
+IsBriefWithinLimits form (BriefReplace name tokens tag size) =
+    (form.removes ≡ true) × (length tokens ≤ form.most_tokens) × (size ≤ form.longest)
 
 -- how many bytes the longest spelling of a brief has
 abbrev pub longest_brief : Form → ℕ

@@ -1,8 +1,8 @@
 //! Updates without the bytes of their files.
-ghost use Rattle.std.specs.Prelude.{◌≡◌, ◌≤◌};
-ghost use Rattle.ov_base.specs.declared.limits.TheConstants.{MAX_SET_WORDS};
+ghost use Rattle.std.specs.Prelude.{◌≡◌, ◌≤◌, length, Some};
+ghost use Rattle.ov_base.specs.declared.limits.TheConstants.{MAX_FILE_BYTES, MAX_SET_WORDS};
 ghost use Rattle.ov_record.specs.Briefs.{brief, plain_brief, text_of, text_size, with_text};
-ghost use Rattle.ov_record.specs.Briefs.{IsFitting};
+ghost use Rattle.ov_record.specs.Briefs.{BriefReplace, IsFitting};
 ghost use Rattle.ov_record.specs.Updates.{sealed_update};
 
 use crate::Update;
@@ -41,10 +41,18 @@ pub enum Brief<const W: usize> {
     Remove {
         file: u32,
     },
+    /// A file gets this many new bytes, for the users who are in its list. The old one is removed,
+    /// and the new one has its name and the next number. Tokens and tag are as those of a creation.
+    Replace {
+        name: Name,
+        tokens: Tokens,
+        tag: [u8; 32],
+        length: u32,
+    },
 }
 
 impl<const W: usize> Brief<W> {
-    /// The update without the bytes of its file, and those bytes, where it creates one.
+    /// The update without the bytes of its file, and those bytes, where it creates or replaces one.
     pub fn of(update: Update<W>) -> (Brief<W>, Option<Octets>)
         requires { IsFitting (brief (sealed_update update)) }
         ensures brief { plain_brief result.0 ≡ brief (sealed_update update.entry) }
@@ -72,20 +80,47 @@ impl<const W: usize> Brief<W> {
             Update::Grant { user, file, token } => (Brief::Grant { user, file, token }, None),
             Update::Revoke { user, file } => (Brief::Revoke { user, file }, None),
             Update::Remove { file } => (Brief::Remove { file }, None),
+            Update::Replace {
+                name,
+                tokens,
+                tag,
+                bytes,
+            } => Brief::of_replacement(name, tokens, tag, bytes),
         }
     }
 
-    /// How many bytes the file has, where the update creates one.
+    fn of_replacement(
+        name: Name,
+        tokens: Tokens,
+        tag: [u8; 32],
+        bytes: Octets,
+    ) -> (Brief<W>, Option<Octets>)
+        requires { length bytes ≤ MAX_FILE_BYTES }
+        ensures brief { plain_brief result.0 ≡ BriefReplace name tokens tag (length bytes) }
+        ensures text { result.1 ≡ Some bytes }
+    {
+        let length = bytes.as_slice().len() as u32;
+        let replacement = Brief::Replace {
+            name,
+            tokens,
+            tag,
+            length,
+        };
+        (replacement, Some(bytes))
+    }
+
+    /// How many bytes the file has, where the update creates or replaces one.
     pub(crate) fn text_size(&self) -> u32
         ensures { result ≡ text_size (plain_brief self.now) }
     {
         match self {
             Brief::Create { length, .. } => *length,
+            Brief::Replace { length, .. } => *length,
             _ => 0,
         }
     }
 
-    /// The update with these bytes of its file, where it creates one.
+    /// The update with these bytes of its file, where it creates or replaces one.
     pub(crate) fn into_update(self, text: Octets) -> Update<W>
         ensures { sealed_update result ≡ with_text (plain_brief self.entry) text }
     {
@@ -107,6 +142,17 @@ impl<const W: usize> Brief<W> {
             Brief::Grant { user, file, token } => Update::Grant { user, file, token },
             Brief::Revoke { user, file } => Update::Revoke { user, file },
             Brief::Remove { file } => Update::Remove { file },
+            Brief::Replace {
+                name,
+                tokens,
+                tag,
+                length: _,
+            } => Update::Replace {
+                name,
+                tokens,
+                tag,
+                bytes: text,
+            },
         }
     }
 
@@ -133,6 +179,17 @@ impl<const W: usize> Brief<W> {
             Brief::Grant { user, file, token } => Brief::Grant { user, file, token },
             Brief::Revoke { user, file } => Brief::Revoke { user, file },
             Brief::Remove { file } => Brief::Remove { file },
+            Brief::Replace {
+                name,
+                tokens,
+                tag,
+                length,
+            } => Brief::Replace {
+                name,
+                tokens,
+                tag,
+                length,
+            },
         }
     }
 }

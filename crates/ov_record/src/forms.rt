@@ -1,14 +1,14 @@
 //! Forms of spellings.
 
-/// How updates are spelled: with sets of W words, with these limits of a creation, and with removals
-/// or without.
+/// How updates are spelled: with sets of W words, with these limits of a creation or a replacement,
+/// and with removals and replacements or without.
 #[derive(Clone, Copy)]
 pub struct Form<const W: usize> {
-    /// Most tokens of a creation.
+    /// Most tokens of a creation or a replacement.
     pub most_tokens: u16,
-    /// Most bytes of the file that is created.
+    /// Most bytes of the file that is created or replaced.
     pub longest: u32,
-    /// Whether files are removed in this form.
+    /// Whether files are removed and replaced in this form.
     pub removes: bool,
 }
 

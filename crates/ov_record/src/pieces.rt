@@ -75,6 +75,25 @@ pub fn put_revocation(user: u32, file: u32, out: &mut Vec<u8>) -> Result<(), Mem
     put_u32(file, out)
 }
 
+/// Appends the kind of a replacement and its fields before the bytes of its file.
+pub fn put_replacement(
+    name: &Name,
+    tokens: &[Token],
+    tag: &[u8; 32],
+    size: u32,
+    out: &mut Vec<u8>,
+) -> Result<(), Memory>
+    requires { length tokens.now ≤ 65535 }
+    ensures { OnOk result (out.new.items ≡ out.old.items
+        ++ (7 ∷ name_field name.now ++ counted token_field tokens.now ++ tag.now ++ u32 size)) }
+{
+    out.push(7)?;
+    put_name(name, out)?;
+    put_tokens(tokens, out)?;
+    out.extend_from_slice(tag)?;
+    put_u32(size, out)
+}
+
 /// Appends the spelling of a removal.
 pub fn put_removal(file: u32, out: &mut Vec<u8>) -> Result<(), Memory>
     ensures { OnOk result (out.new.items ≡ out.old.items ++ (6 ∷ u32 file)) }

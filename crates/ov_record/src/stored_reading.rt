@@ -10,7 +10,8 @@ ghost use Rattle.ov_record.specs.Forms.{form_of};
 ghost use Rattle.ov_record.specs.Places.{place_of};
 ghost use Rattle.ov_record.specs.Reading.{brief_at, brief_of, creation_brief, creation_brief_at};
 ghost use Rattle.ov_record.specs.Reading.{grant_at, grant_brief, revocation_at, revocation_brief};
-ghost use Rattle.ov_record.specs.Reading.{removal_at, stored_at, stored_of};
+ghost use Rattle.ov_record.specs.Reading.{removal_at, replacement_brief, replacement_brief_at};
+ghost use Rattle.ov_record.specs.Reading.{stored_at, stored_of, where_removes};
 ghost use Rattle.ov_record.specs.Stored.{brief_spelling, plain_stored, stored_spelling, Stored as PlainStored};
 ghost use Rattle.ov_record.specs.Stored.{HasBriefForm, HasStoredForm, IsBriefWithinLimits};
 
@@ -81,6 +82,46 @@ fn take_removal<const W: usize>(
     Ok((Brief::Remove { file }, rest))
 }
 
+/// The fields of a replacement before the bytes of its file.
+fn take_new_bytes<const W: usize>(
+    alloc: Global,
+    form: Form<W>,
+    bytes: &[u8],
+) -> Result<(Brief<W>, &[u8]), FieldFault>
+    ensures { GivesField plain_brief result
+        (made replacement_brief (replacement_brief_at (form_of form.entry) bytes.now)) }
+{
+    let (name, rest) = take_name(bytes)?;
+    let (tokens, rest) = take_tokens(alloc, form.most_tokens, rest)?;
+    let (tag, rest) = take_tag(rest)?;
+    let (length, text) = take_u32_at_most(form.longest, rest)?;
+    let brief = Brief::Replace {
+        name,
+        tokens,
+        tag,
+        length,
+    };
+    Ok((brief, text))
+}
+
+/// A replacement behind its kind byte, which is wrong where that of a removal is.
+fn take_replacement<const W: usize>(
+    alloc: Global,
+    form: Form<W>,
+    left: usize,
+    bytes: &[u8],
+) -> Result<(Brief<W>, &[u8]), FieldFault>
+    requires { left ≡ length (7 ∷ bytes.now) }
+    ensures { GivesField plain_brief result (where_removes (form_of form.entry) (7 ∷ bytes.now)
+        (made replacement_brief (replacement_brief_at (form_of form.entry) bytes.now))) }
+{
+    if form.removes {
+        take_new_bytes(alloc, form, bytes)
+    } else {
+        Err(FieldFault::Bad { left })
+    }
+}
+
 /// The update at the front of the bytes, without the bytes of its file.
 #[tactic(auto, unfolding(crate::specs::Reading::brief_at))]
 pub fn take_brief<const W: usize>(
@@ -100,6 +141,7 @@ pub fn take_brief<const W: usize>(
         [3, rest @ ..] => take_grant(rest),
         [4, rest @ ..] => take_revocation(rest),
         [6, rest @ ..] => take_removal(form, bytes.len(), rest),
+        [7, rest @ ..] => take_replacement(alloc, form, bytes.len(), rest),
         _ => Err(FieldFault::Bad { left: bytes.len() }),
     }
 }

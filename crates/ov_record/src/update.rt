@@ -36,4 +36,12 @@ pub enum Update<const W: usize> {
     Remove {
         file: u32,
     },
+    /// A file gets new bytes, for the users who are in its list. The old one is removed, and the
+    /// new one has its name and the next number. Tokens, tag and bytes are as those of a creation.
+    Replace {
+        name: Name,
+        tokens: Tokens,
+        tag: [u8; 32],
+        bytes: Octets,
+    },
 }

@@ -57,6 +57,16 @@ pub fn known_form<const W: usize>(form: Form<W>, update: &Update<W>)
         Update::Remove { file } => {
             let _number = *file;
         }
+        Update::Replace {
+            name,
+            tokens,
+            tag,
+            ..
+        } => {
+            known_name(name);
+            known_tokens(tokens.as_slice());
+            known_tag(tag);
+        }
     }
 }
 
@@ -88,6 +98,16 @@ fn known_brief_form<const W: usize>(form: Form<W>, brief: &Brief<W>)
         }
         Brief::Remove { file } => {
             let _number = *file;
+        }
+        Brief::Replace {
+            name,
+            tokens,
+            tag,
+            ..
+        } => {
+            known_name(name);
+            known_tokens(tokens.as_slice());
+            known_tag(tag);
         }
     }
 }

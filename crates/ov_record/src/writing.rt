@@ -6,24 +6,25 @@ ghost use Rattle.ov_record.specs.Spelling.{spelling, body_of, HasForm, IsWithinL
 ghost use Rattle.ov_record.specs.Forms.{form_of};
 ghost use Rattle.ov_record.specs.Updates.{sealed_update};
 
-use crate::pieces::{put_creation, put_grant, put_removal, put_revocation};
+use crate::pieces::{put_creation, put_grant, put_removal, put_replacement, put_revocation};
 use crate::within::known_form;
 use crate::{Form, Update};
 use ov_base::{Memory, Octets};
 use ov_fields::{append, put_name};
 use std::alloc::Global;
 
-/// The bytes of the file that is created.
+/// The bytes of the file that is created or replaced.
 fn body<const W: usize>(update: &Update<W>) -> &[u8]
     ensures { result.now ≡ body_of (sealed_update update.now) }
 {
     match update {
         Update::Create { bytes, .. } => bytes.as_slice(),
+        Update::Replace { bytes, .. } => bytes.as_slice(),
         _ => &[],
     }
 }
 
-/// Appends the spelling without the bytes of the file that is created.
+/// Appends the spelling without the bytes of the file that is created or replaced.
 fn put_front<const W: usize>(
     form: Form<W>,
     update: &Update<W>,
@@ -52,6 +53,15 @@ fn put_front<const W: usize>(
         Update::Grant { user, file, token } => put_grant(*user, *file, token, out),
         Update::Revoke { user, file } => put_revocation(*user, *file, out),
         Update::Remove { file } => put_removal(*file, out),
+        Update::Replace {
+            name,
+            tokens,
+            tag,
+            bytes,
+        } => {
+            let size = bytes.as_slice().len() as u32;
+            put_replacement(name, tokens.as_slice(), tag, size, out)
+        }
     }
 }
 
@@ -75,12 +85,13 @@ pub fn write<const W: usize>(
     append(&front, body(update), &[], out)
 }
 
-/// The bytes of the file that is created, in their allocation.
+/// The bytes of the file that is created or replaced, in their allocation.
 fn into_body<const W: usize>(alloc: Global, update: Update<W>) -> Octets
     ensures { result ≡ body_of (sealed_update update.entry) }
 {
     match update {
         Update::Create { bytes, .. } => bytes,
+        Update::Replace { bytes, .. } => bytes,
         _ => Octets::new(alloc),
     }
 }
@@ -96,7 +107,8 @@ fn put_before(front: &[u8], out: &mut Vec<u8>) -> Result<(), Memory>
 }
 
 /// The one spelling of an update in this form, for a W from 1 to `MAX_SET_WORDS`. That of a creation
-/// is made around the bytes of its file, in their allocation where that has the room.
+/// or a replacement is made around the bytes of its file, in their allocation where that has the
+/// room.
 pub fn into_spelling<const W: usize>(
     alloc: Global,
     form: Form<W>,

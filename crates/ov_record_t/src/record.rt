@@ -27,6 +27,16 @@ const GRANT: &[u8] = b"\x03\0\0\x01\x02\0\0\0\x03\x01\
     \x00\x01\x02\x03\x04\x05\x06\x07\x08\x09\x0a\x0b\x0c\x0d\x0e\x0f\
     \x10\x11\x12\x13\x14\x15\x16\x17\x18\x19\x1a\x1b\x1c\x1d\x1e\x1f";
 
+/// A replacement of `f1`, with two tokens.
+const REPLACEMENT: &[u8] = b"\x07\x02f1\
+    \0\x02\
+    \x00\x01\x02\x03\x04\x05\x06\x07\x08\x09\x0a\x0b\x0c\x0d\x0e\x0f\
+    \x10\x11\x12\x13\x14\x15\x16\x17\x18\x19\x1a\x1b\x1c\x1d\x1e\x1f\
+    defghijklmnopqrstuvwxyz{|}~\x7f\x80\x81\x82\x83\
+    \xc8\xc9\xca\xcb\xcc\xcd\xce\xcf\xd0\xd1\xd2\xd3\xd4\xd5\xd6\xd7\
+    \xd8\xd9\xda\xdb\xdc\xdd\xde\xdf\xe0\xe1\xe2\xe3\xe4\xe5\xe6\xe7\
+    \0\0\0\x05hello";
+
 const SPELLINGS: [&[u8]; 5] = [
     b"\x01\x05alice",
     CREATION,
@@ -206,6 +216,75 @@ fn removals_are_of_the_second_form(rt: HostRuntime) -> Result<(), Fail> {
     let long = b"\x06\0\0\x01\x02\0".as_slice();
     assert_eq!(rt; read(rt.alloc(), Form::SECOND, long).err().map(at), Some(5));
     Ok(())
+}
+
+#[test]
+fn replacements_are_of_the_second_form(rt: HostRuntime) -> Result<(), Fail> {
+    let at = |fault| match fault {
+        RecordFault::BadRecord { at } => at,
+        RecordFault::Memory => 0,
+    };
+    let replacement = read(rt.alloc(), Form::SECOND, REPLACEMENT)?;
+    let mut out = Vec::new(rt.alloc());
+    write(Form::SECOND, &replacement, &mut out)?;
+    assert_eq!(rt; out.as_slice(), REPLACEMENT);
+    let spelling = Octets::copy(rt.alloc(), REPLACEMENT)?;
+    let again = match read_whole(rt.alloc(), Form::SECOND, spelling) {
+        Ok(update) => into_spelling(rt.alloc(), Form::SECOND, update)?,
+        Err(_) => Octets::new(rt.alloc()),
+    };
+    assert_eq!(rt; again.as_slice(), REPLACEMENT);
+    assert_eq!(rt;
+        read(rt.alloc(), Form::FIRST, REPLACEMENT).err().map(at),
+        Some(0)
+    );
+    Ok(())
+}
+
+#[test]
+fn fields_of_a_replacement(rt: HostRuntime) {
+    match read(rt.alloc(), Form::SECOND, REPLACEMENT) {
+        Ok(
+            Update::Replace {
+                name,
+                tokens,
+                tag,
+                bytes,
+            },
+        ) => {
+            assert_eq!(rt; name.as_bytes(), b"f1".as_slice());
+            assert_eq!(rt; tokens.as_slice().len(), 2);
+            assert_eq!(rt; tag.as_slice(), &REPLACEMENT[70..102]);
+            assert_eq!(rt; bytes.as_slice(), b"hello".as_slice());
+        }
+        _ => assert!(rt; false),
+    }
+}
+
+/// Bytes that are no replacement, with the place of the first wrong one: an end inside the name, a
+/// number of tokens that is too great, and a name that a creation's list follows.
+const NO_REPLACEMENTS: [(&[u8], u32); 4] = [
+    (b"\x07", 1),
+    (b"\x07\x02f", 3),
+    (b"\x07\x02f1\x04\x01", 4),
+    (b"\x07\x02f1\x09\0\0\0\0\0\0\0", 4),
+];
+
+#[test]
+fn the_first_wrong_byte_of_a_replacement_is_named(rt: HostRuntime) {
+    let at = |fault| match fault {
+        RecordFault::BadRecord { at } => at,
+        RecordFault::Memory => 0,
+    };
+    for (bytes, place) in NO_REPLACEMENTS {
+        let found = read(rt.alloc(), Form::SECOND, bytes).err().map(at);
+        assert_eq!(rt; found, Some(place));
+    }
+    let short = &REPLACEMENT[..110];
+    assert_eq!(rt;
+        read(rt.alloc(), Form::SECOND, short).err().map(at),
+        Some(110)
+    );
 }
 
 /// The place of the first wrong byte of the creation, in a form with these limits.

@@ -197,6 +197,40 @@ fn second_record(alloc: Global, bytes: &[u8]) -> Result<Stored<16>, RecordFault>
     read_stored(alloc, Form::SECOND, bytes, 1)
 }
 
+/// A replacement of `f1` by 5 bytes, with a token, up to its length field.
+const REPLACEMENT: &[u8] = b"\x07\x02f1\
+    \0\x01\
+    \x00\x01\x02\x03\x04\x05\x06\x07\x08\x09\x0a\x0b\x0c\x0d\x0e\x0f\
+    \x10\x11\x12\x13\x14\x15\x16\x17\x18\x19\x1a\x1b\x1c\x1d\x1e\x1f\
+    \xc8\xc9\xca\xcb\xcc\xcd\xce\xcf\xd0\xd1\xd2\xd3\xd4\xd5\xd6\xd7\
+    \xd8\xd9\xda\xdb\xdc\xdd\xde\xdf\xe0\xe1\xe2\xe3\xe4\xe5\xe6\xe7\
+    \0\0\0\x05";
+
+/// The only first block of a replacement, how many tokens it has, and its length.
+fn replacement_of(stored: &Stored<16>) -> Option<(u32, usize, u32)> {
+    let first = *stored.places.as_slice().first()?;
+    match &stored.update {
+        Brief::Replace { tokens, length, .. } => Some((first, tokens.as_slice().len(), *length)),
+        _ => None,
+    }
+}
+
+/// A replacement ends, in a record, with the number of its bytes and a first block.
+#[test]
+fn a_replacement_is_a_record_of_the_second_form(rt: HostRuntime) {
+    let bytes = joined(&rt, rt.alloc(), REPLACEMENT, b"\0\0\x01\x02");
+    let mut out = Vec::new(rt.alloc());
+    match second_record(rt.alloc(), &bytes) {
+        Ok(stored) => {
+            assert_eq!(rt; replacement_of(&stored), Some((258, 1, 5)));
+            write_stored(Form::SECOND, &stored, &mut out).expect(&rt, "memory");
+        }
+        Err(_) => {}
+    }
+    assert_eq!(rt; out.as_slice(), bytes.as_slice());
+    assert!(rt; read_brief(rt.alloc(), Form::FIRST, REPLACEMENT).is_err());
+}
+
 /// The creation with a set of 128 bytes is a record of the second form.
 #[test]
 fn a_creation_of_the_second_form_has_a_longer_set(rt: HostRuntime) {
