@@ -17,3 +17,4 @@ pub mod OwnersLaws
 pub mod Replays
 pub mod Said
 pub mod Stopping
+pub mod Wholes
