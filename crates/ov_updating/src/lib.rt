@@ -54,8 +54,8 @@
 //! fault of the disk comes only where its count rose; after it the journal has the same records and
 //! what is held is as before, but the disk may have the update: the store has to be opened again.
 //!
-//! Nothing is claimed of secrecy. Blocks that were given up keep their old bytes until they are used
-//! again.
+//! Nothing is claimed of secrecy. Blocks that were given up, those of a removed file too, keep their
+//! old bytes until they are used again.
 #![tactic(auto)]
 
 mod counting;
