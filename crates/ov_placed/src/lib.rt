@@ -17,10 +17,11 @@
 //!                        │                                        │
 //!                        └─ first blocks ──► new extents: each held, while the old ones are still held
 //!                                                                 │
-//!             extent of a removed file given up, first blocks put, old extents given up, change committed
+//!   extent of a removed file given up, first blocks put, old extents given up, change committed
 //!
-//! prepare   update ── Brief::of ──► brief ── spell_update, State::prepare ──► change, front, text, removed
-//! update    change, front, text, removed ── ov_updating::update ──► new bytes and the record on the disk
+//! prepare   update ── Brief::of ──► brief ── spell_update, State::prepare ──► change, front, text
+//!                                     └── number of a file that is removed
+//! update    change, front, text, number ── ov_updating::update ──► new bytes and record on the disk
 //!                                                                 │
 //!                             file added or taken away, first blocks put, change committed
 //! ```
