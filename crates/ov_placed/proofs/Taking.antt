@@ -138,7 +138,7 @@ module _ (W limit : ℕ) (master : List ℕ) (s : PlacedStore) (u : PlacedUpdate
           (subst (λ (ps : List (Option ℕ)). HoldsFiles (catalogue_after master s.catalogue u.update) ps after) (sym (placed_is places are))
           (holds_after s.catalogue u s.placed s.held holds master next kept after is.firsts
           (with_new new next is_new with) out
-          (subst (λ (l : List Extent). IsWithAll l after next) given_is without)))
+          (subst (λ (l : List Extent). IsWithAll l after kept) given_is without)))
 
 -- ---- the record of a change that was made
 
