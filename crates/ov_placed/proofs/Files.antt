@@ -1,23 +1,25 @@
 -- The extents of files before and after an update.
 use Rattle.std.proofs.Common.{◌≡◌, inl, inr, ℕ, zero, suc, ◌+◌, ◌≤◌, ◌<◌, Bool, true, false, List, [], ◌∷◌, ◌++◌, length, get_or, Option, Some, None, refl, sym, ◌∙◌, ap, subst, arith, length-append}
 use Rattle.std.specs.Prelude.{Contains, is_some}
+use Rattle.std.proofs.lemmas.Bool.{cases_lt}
+use Rattle.std.proofs.lemmas.List.{get_or_past}
 use Rattle.ov_blocks.specs.declared.extents.Extent.{Extent}
 use Rattle.ov_graph.proofs.ListLaws.{Contains-first, Contains-later}
 use Rattle.ov_history.specs.Briefs.{Brief, BriefEnrol, BriefCreate, BriefGrant, BriefRevoke}
+use Rattle.ov_history.specs.Briefs.{BriefRemove}
 use Rattle.ov_history.specs.Catalogue.{Catalogue, Filed, catalogue_after}
 use Rattle.ov_history.specs.Layers.{same_surface}
 use Rattle.ov_history.specs.Placed.{HasFirsts, PlacedUpdate, first_if, left_if}
 use Rattle.ov_history.specs.Placed.{placed_after, replaced, takes_place, with_unplaced}
-use Rattle.ov_history.specs.Places.{change_at, living_at}
+use Rattle.ov_history.specs.Places.{change_at, gone, living_at}
 use Rattle.ov_history.specs.Rewrites.{Rewrite, files_after, length_left, rewrite_of, rewrite_unless}
 use Rattle.ov_history.specs.Rewrites.{rewrites_from, rewrites_of}
 use Rattle.ov_history.specs.Texts.{lengths_of}
-use Rattle.ov_history.proofs.ChangeLaws.{below_some, length-change_at}
-use Rattle.ov_history.proofs.Living.{there-after}
-use Rattle.ov_history.proofs.Placing.{good_all, length-with_unplaced, old_size, sized}
+use Rattle.ov_history.proofs.ChangeLaws.{below_some, length-change_at, some-there}
+use Rattle.ov_history.proofs.Placing.{good_all, grown_size, length-with_unplaced, sized}
 use Rattle.ov_history.proofs.RewriteLaws.{rewrites_are_exact}
 use Rattle.ov_history.proofs.Storing.{length-files_after}
-use Rattle.ov_images.specs.Extents.{extent_at, extents_in_use, extents_of, new_extents}
+use Rattle.ov_images.specs.Extents.{extent_at, extents_of, new_extents}
 use Rattle.ov_base.specs.declared.limits.TheConstants.{MAX_FILES}
 use Rattle.ov_state.specs.Changes.{AreOfFiles, applied}
 use Rattle.ov_state.specs.Entries.{plain_rewrites}
@@ -25,10 +27,12 @@ use Rattle.ov_state.specs.Plans.{IsChange}
 use Rattle.ov_state.specs.declared.change.Change.{Change}
 use Rattle.ov_state.specs.declared.change.Rewrite.{Rewrite as StateRewrite}
 use Rattle.ov_updating.specs.Counting.{passing}
-use Rattle.ov_updating.proofs.Listing.{all_there, are_there}
+use Rattle.ov_updating.specs.Files.{removed_by}
+use Rattle.ov_updating.proofs.Removing.{placed_still}
 use Rattle.ov_placed.specs.Contents.{HoldsFiles}
-use Rattle.ov_placed.specs.Holding.{AreHeld, IsWithAll, given_up}
+use Rattle.ov_placed.specs.Holding.{AreHeld, IsWithAll, extent_removed, given_up}
 use Rattle.ov_placed.proofs.Counting.{passing-append}
+use Rattle.ov_placed.proofs.Removals.{nothing_changed}
 
 -- ---- lengths by file number
 
@@ -55,31 +59,43 @@ extents-unplaced (size ∷ sizes) [] = extents-none sizes
 extents-unplaced (size ∷ sizes) (place ∷ placed) =
     ap (λ (l : List Extent). extent_at place size ++ l) (extents-unplaced sizes placed)
 
-extents-same : (sizes more : List ℕ) (placed : List (Option ℕ))
-    → length placed ≤ length sizes → length placed ≤ length more
-    → ((n : ℕ) → n < length placed → get_or more n 0 ≡ get_or sizes n 0)
-    → extents_of more placed ≡ extents_of sizes placed
-extents-same sizes more [] few enough same = extents-none more ∙ sym (extents-none sizes)
-extents-same [] more (place ∷ placed) few enough same = absurd (omega (arith, few))
-extents-same (size ∷ sizes) [] (place ∷ placed) few enough same = absurd (omega (arith, enough))
-extents-same (size ∷ sizes) (now ∷ more) (place ∷ placed) few enough same =
-    let here : now ≡ size = same 0 (omega arith) in
-    let behind = extents-same sizes more placed (omega (arith, few)) (omega (arith, enough))
-    (λ n lt. same (suc n) (omega (arith, lt))) in
-    λ j. extent_at place (here j) ++ behind j
+-- each file with a first block has a size in both lists, and the same
+abbrev HaveSameSizes : List ℕ → List ℕ → List (Option ℕ) → Type 0
+HaveSameSizes sizes more placed =
+    (n first : ℕ) → living_at placed n ≡ Some first
+    → (n < length sizes) × (n < length more) × (get_or more n 0 ≡ get_or sizes n 0)
 
-with_new : (sizes : List ℕ) (placed : List (Option ℕ)) (b : Brief)
-    → extents_of sizes (with_unplaced placed b) ≡ extents_of sizes placed
-with_new sizes placed (BriefEnrol user) = refl
-with_new sizes placed (BriefCreate file list tokens tag size) = extents-unplaced sizes placed
-with_new sizes placed (BriefGrant user file token) = refl
-with_new sizes placed (BriefRevoke user file) = refl
+later_sizes : (size now : ℕ) (sizes more : List ℕ) (place : Option ℕ) (placed : List (Option ℕ))
+    → HaveSameSizes (size ∷ sizes) (now ∷ more) (place ∷ placed) → HaveSameSizes sizes more placed
+later_sizes size now sizes more place placed same n first at =
+    let behind = same (suc n) first at in
+    (omega (arith, behind.0), omega (arith, behind.1), behind.2)
+
+-- so both have the same extents
+extents-same : (sizes more : List ℕ) (placed : List (Option ℕ)) → HaveSameSizes sizes more placed
+    → extents_of more placed ≡ extents_of sizes placed
+extents-same sizes more [] same = extents-none more ∙ sym (extents-none sizes)
+extents-same [] [] (place ∷ placed) same = refl
+extents-same [] (now ∷ more) (None ∷ placed) same =
+    extents-same [] more placed (λ n first at. absurd (omega (arith, (same (suc n) first at).0)))
+extents-same [] (now ∷ more) (Some first ∷ placed) same =
+    absurd (omega (arith, (same 0 first refl).0))
+extents-same (size ∷ sizes) [] (None ∷ placed) same =
+    extents-same sizes [] placed (λ n first at. absurd (omega (arith, (same (suc n) first at).1)))
+extents-same (size ∷ sizes) [] (Some first ∷ placed) same =
+    absurd (omega (arith, (same 0 first refl).1))
+extents-same (size ∷ sizes) (now ∷ more) (None ∷ placed) same =
+    extents-same sizes more placed (later_sizes size now sizes more None placed same)
+extents-same (size ∷ sizes) (now ∷ more) (Some first ∷ placed) same =
+    let here : now ≡ size = (same 0 first refl).2 in
+    let behind = extents-same sizes more placed
+    (later_sizes size now sizes more (Some first) placed same) in
+    λ j. extent_at (Some first) (here j) ++ behind j
 
 -- a store that begins empty holds nothing
 pub holds_nothing : (c : Catalogue) (placed : List (Option ℕ)) (held : List Extent)
     → c.files ≡ [] → placed ≡ [] → held ≡ [] → HoldsFiles c placed held
 holds_nothing c placed held no_file no_place none = record {
-  there = λ file lt. absurd (omega (arith, lt, ap length no_file));
   places = record {
     many = omega (arith, ap length no_file, ap length no_place);
     each = λ file lt. absurd (omega (arith, lt, ap length no_file));
@@ -112,6 +128,41 @@ one_changed test (size ∷ sizes) (place ∷ placed) (suc n) new few below = ome
   passing-append test (extent_at place size) (extents_of sizes placed),
   one_changed test sizes placed n new (omega (arith, few)) (omega (arith, below)),
 )
+
+-- what files had has become less by the extent of a file that is removed
+grown_in_use : (test : Extent → Bool) (c : Catalogue) (placed : List (Option ℕ)) (b : Brief)
+    → length placed ≡ length c.files
+    → passing test (extents_of (lengths_of c.files) (with_unplaced placed b))
+    + passing test (extent_removed c placed (removed_by b))
+    ≡ passing test (extents_of (lengths_of c.files) placed)
+grown_in_use test c placed (BriefEnrol user) many = omega arith
+grown_in_use test c placed (BriefCreate file list tokens tag size) many =
+    omega (arith, ap (passing test) (extents-unplaced (lengths_of c.files) placed))
+grown_in_use test c placed (BriefGrant user file token) many = omega arith
+grown_in_use test c placed (BriefRevoke user file) many = omega arith
+grown_in_use test c placed (BriefRemove file) many = elim (cases_lt file (length placed)) [
+  | inl lt ↦
+      let sizes : List ℕ = lengths_of c.files in
+      let one : passing test (extents_of sizes (change_at gone file placed))
+      + passing test (extent_at (living_at placed file) (get_or sizes file 0))
+      ≡ passing test (extents_of sizes placed) + 0 =
+      one_changed test sizes placed file None (omega (arith, lt, many, length-lengths c.files)) lt in
+      omega (
+        arith,
+        one,
+        ap (λ (size : ℕ). passing test (extent_at (living_at placed file) size))
+            (lengths-at c.files file),
+      )
+  | inr past ↦
+      omega (
+        arith,
+        ap (λ (ps : List (Option ℕ)). passing test (extents_of (lengths_of c.files) ps))
+            (nothing_changed gone file placed past),
+        ap (λ (o : Option ℕ).
+            passing test (extent_at o (length_left (living_at c.files file))))
+            (get_or_past placed file None past),
+      )
+]
 
 -- ---- all rewrites
 
@@ -229,14 +280,6 @@ few_rewrites {W} limit master c b change is =
 
 -- ---- one update
 
-no_shorter : (placed : List (Option ℕ)) (b : Brief)
-    → length placed ≤ length (with_unplaced placed b)
-no_shorter placed (BriefEnrol user) = omega arith
-no_shorter placed (BriefCreate file list tokens tag size) =
-    omega (arith, length-append placed (None ∷ []))
-no_shorter placed (BriefGrant user file token) = omega arith
-no_shorter placed (BriefRevoke user file) = omega arith
-
 module _ (c : Catalogue) (u : PlacedUpdate) (placed : List (Option ℕ)) (held : List Extent)
     (holds : HoldsFiles c placed held) where
   abbrev sizes : List ℕ
@@ -251,45 +294,61 @@ module _ (c : Catalogue) (u : PlacedUpdate) (placed : List (Option ℕ)) (held :
   abbrev less : List Extent
   less = given_up (rewrites_of c u.update) u.firsts grown
 
+  -- the extent of a file that is removed
+  abbrev removed : List Extent
+  removed = extent_removed c placed (removed_by u.update)
+
   as_many_sizes : length grown ≡ length sizes
   as_many_sizes =
       length-with_unplaced c placed u.update holds.places.many
       ∙ sym (length-files_after c u.update)
       ∙ sym (length-lengths (files_after c u.update))
 
-  still_in_use : extents_of sizes grown ≡ extents_in_use c placed
-  still_in_use =
-      with_new sizes placed u.update
-      ∙ extents-same (lengths_of c.files) sizes placed
-      (omega (arith, holds.places.many, length-lengths c.files))
-      (omega (arith, no_shorter placed u.update, as_many_sizes))
-      (λ n lt. lengths-at (files_after c u.update) n
-      ∙ old_size c u.update n (omega (arith, lt, holds.places.many))
-      ∙ sym (lengths-at c.files n))
+  -- a file that has a first block before the rewrites is as long as it was
+  same_sizes : HaveSameSizes (lengths_of c.files) sizes grown
+  same_sizes n first at =
+      let still = placed_still c placed u.update n first holds.places.many at in
+      let was : n < length placed = below_some placed n (some-there (living_at placed n) first still.was) in
+      let now : n < length grown = below_some grown n (some-there (living_at grown n) first at) in (
+        omega (arith, was, holds.places.many, length-lengths c.files),
+        omega (arith, now, as_many_sizes),
+        lengths-at (files_after c u.update) n ∙ grown_size c u.update n ∙ still.size_is
+            ∙ sym (lengths-at c.files n),
+      )
+
+  still_in_use : (test : Extent → Bool)
+      → passing test (extents_of sizes grown) + passing test removed ≡ passing test held
+  still_in_use test =
+      ap (λ (l : List Extent). passing test l + passing test removed)
+      (extents-same (lengths_of c.files) sizes grown same_sizes)
+      ∙ grown_in_use test c placed u.update holds.places.many
+      ∙ sym (holds.extents test)
 
   changed : (test : Extent → Bool)
       → passing test (extents_of sizes (placed_after c u placed)) + passing test less
-      ≡ passing test held + passing test more
+      ≡ passing test (extents_of sizes grown) + passing test more
   changed test =
       all_changed test sizes (rewrites_of c u.update) u.firsts grown (are_sized c u.update)
       as_many_sizes
-      ∙ ap (λ (l : List Extent). passing test l + passing test more) still_in_use
-      ∙ ap (λ (n : ℕ). n + passing test more) (sym (holds.extents test))
+
+  -- the extent of a removed file is held until it is given up
+  pub removed_is_held : (next : List Extent) → IsWithAll more held next → AreHeld removed next
+  removed_is_held next with test = omega (arith, still_in_use test, with test)
 
   -- the extents that are given up are among those that were held and the new ones
-  pub old_are_held : (next : List Extent) → IsWithAll more held next → AreHeld less next
-  old_are_held next with test = omega (arith, changed test, with test)
+  pub old_are_held : (next kept : List Extent) → IsWithAll more held next
+      → IsWithAll removed kept next → AreHeld less kept
+  old_are_held next kept with out test =
+      omega (arith, changed test, still_in_use test, with test, out test)
 
-  pub holds_after : (master : List ℕ) (next after : List Extent) → HasFirsts c u
-      → IsWithAll more held next → IsWithAll less after next
+  pub holds_after : (master : List ℕ) (next kept after : List Extent) → HasFirsts c u
+      → IsWithAll more held next → IsWithAll removed kept next → IsWithAll less after kept
       → HoldsFiles (catalogue_after master c u.update) (placed_after c u placed) after
-  holds_after master next after firsts with without =
-      let all = all_there c.files holds.there in
-      record {
-        there = are_there (files_after c u.update) (there-after c u.update all);
-        places = good_all master c placed (u ∷ []) all holds.places (firsts, tt);
-        extents = λ test. omega (arith, changed test, with test, without test);
-      }
+  holds_after master next kept after firsts with out without = record {
+    places = good_all master c placed (u ∷ []) holds.places (firsts, tt);
+    extents = λ test.
+        omega (arith, changed test, still_in_use test, with test, out test, without test);
+  }
 
   -- each rewrite is of a file that is there then
   pub rewrites_of_files : (rewrites : List StateRewrite)

@@ -21,6 +21,7 @@ use Rattle.ov_history.specs.Rewrites.{Rewrite as PlainRewrite, files_after, rewr
 use Rattle.ov_images.specs.Images.{KeepsAt, Keys}
 use Rattle.ov_images.specs.Laws.{placed_as}
 use Rattle.ov_state.specs.Changes.{applied}
+use Rattle.ov_state.specs.Contents.{IsWell}
 use Rattle.ov_state.specs.Entries.{plain_rewrites}
 use Rattle.ov_state.specs.declared.change.Rewrite.{Rewrite}
 use Rattle.ov_updating.proofs.Asking.{length-firsts}
@@ -76,114 +77,115 @@ module _ (all : List Rewrite) (firsts : List ℕ) (old : List (Option ℕ)) wher
 module _ {W : ℕ} (limit : ℕ) (master : List ℕ) (store : PlacedStore) (u : SealedUpdate)
     (p : Prepared W) (is : IsPrepared limit master store.catalogue u p)
     (holds : HoldsFiles store.catalogue store.placed store.held) (apart : AreApart 0 store.held)
-  where
-    files_are : (applied store.catalogue p.change).files ≡ files_after store.catalogue (brief u)
-    files_are = ap (λ (d : Catalogue). d.files) is.change.made
+    (well : IsWell limit store.catalogue) where
+  files_are : (applied store.catalogue p.change).files ≡ files_after store.catalogue (brief u)
+  files_are = ap (λ (d : Catalogue). d.files) is.change.made
 
-    pub is_asked : IsAskedFor store.catalogue u (asked_of store p)
-    is_asked = record {
-      taken = is.change.taken;
-      rewrites = is.change.rewrites;
-      form = is.form;
-      front = is.front;
-      text = λ text some. ap (λ (o : Option (List ℕ)). bytes_of o) (is.text ∙ some);
-      files = omega (
-        arith,
-        is.change.suits.well.files,
-        ap (λ (fs : List (Option Filed)). length fs) files_are,
-      );
-      short = λ file f at.
-          is.change.suits.well.each file f
-          (ap (λ (fs : List (Option Filed)). living_at fs file) files_are ∙ at);
-      held = counts_are_enough store.catalogue.files store.placed store.held holds.there
-          holds.places apart holds.extents;
-    }
+  pub is_asked : IsAskedFor store.catalogue u (asked_of store p)
+  is_asked = record {
+    taken = is.change.taken;
+    rewrites = is.change.rewrites;
+    form = is.form;
+    front = is.front;
+    text = λ text some. ap (λ (o : Option (List ℕ)). bytes_of o) (is.text ∙ some);
+    removed = is.removed;
+    files = omega (
+      arith,
+      is.change.suits.well.files,
+      ap (λ (fs : List (Option Filed)). length fs) files_are,
+    );
+    short = λ file f at.
+        is.change.suits.well.each file f
+        (ap (λ (fs : List (Option Filed)). living_at fs file) files_are ∙ at);
+    was_short = well.each;
+    held = counts_are_enough store.catalogue.files store.placed store.held holds.places apart
+        holds.extents;
+  }
 
-    -- where the files are after it
-    pub placed_made : (firsts : List ℕ) (grown places : List (Option ℕ))
-        → grown ≡ with_unplaced store.placed (brief u)
-        → places ≡ replaced (plain_rewrites p.change.rewrites.items) firsts grown
-        → places ≡ placed_after store.catalogue (placed_as u firsts) store.placed
-    placed_made firsts grown places grown_is places_are =
-        places_are
-        ∙ ap (λ (rs : List PlainRewrite). replaced rs firsts grown) is.change.rewrites
-        ∙ ap (λ (ps : List (Option ℕ)).
-        replaced (rewrites_of store.catalogue (brief u)) firsts ps) grown_is
+  -- where the files are after it
+  pub placed_made : (firsts : List ℕ) (grown places : List (Option ℕ))
+      → grown ≡ with_unplaced store.placed (brief u)
+      → places ≡ replaced (plain_rewrites p.change.rewrites.items) firsts grown
+      → places ≡ placed_after store.catalogue (placed_as u firsts) store.placed
+  placed_made firsts grown places grown_is places_are =
+      places_are
+      ∙ ap (λ (rs : List PlainRewrite). replaced rs firsts grown) is.change.rewrites
+      ∙ ap (λ (ps : List (Option ℕ)).
+      replaced (rewrites_of store.catalogue (brief u)) firsts ps) grown_is
 
-    pub holds_made : (firsts : List ℕ) (held : List Extent) (d : Catalogue)
-        (places : List (Option ℕ)) → AreApart 0 held
-        → AreHeldFor (files_after store.catalogue (brief u))
-        (placed_after store.catalogue (placed_as u firsts) store.placed) held
-        → d ≡ applied store.catalogue p.change
-        → places ≡ placed_after store.catalogue (placed_as u firsts) store.placed
-        → HoldsFiles d places held
-    holds_made firsts held d places beside are made places_are =
-        let files : d.files ≡ files_after store.catalogue (brief u) =
-        ap (λ (e : Catalogue). e.files) made ∙ files_are in
-        let here : AreHeldFor d.files places held =
-        subst (λ (fs : List (Option Filed)). AreHeldFor fs places held) (sym files)
-        (subst (λ (ps : List (Option ℕ)).
-        AreHeldFor (files_after store.catalogue (brief u)) ps held) (sym places_are) are) in
-        record {
-          there = here.there;
-          places = here.placed_are;
-          extents = held_are_counted d.files places held beside here;
-        }
+  pub holds_made : (firsts : List ℕ) (held : List Extent) (d : Catalogue)
+      (places : List (Option ℕ)) → AreApart 0 held
+      → AreHeldFor (files_after store.catalogue (brief u))
+      (placed_after store.catalogue (placed_as u firsts) store.placed) held
+      → d ≡ applied store.catalogue p.change
+      → places ≡ placed_after store.catalogue (placed_as u firsts) store.placed
+      → HoldsFiles d places held
+  holds_made firsts held d places beside are made places_are =
+      let files : d.files ≡ files_after store.catalogue (brief u) =
+      ap (λ (e : Catalogue). e.files) made ∙ files_are in
+      let here : AreHeldFor d.files places held =
+      subst (λ (fs : List (Option Filed)). AreHeldFor fs places held) (sym files)
+      (subst (λ (ps : List (Option ℕ)).
+      AreHeldFor (files_after store.catalogue (brief u)) ps held) (sym places_are) are) in
+      record {
+        places = here.placed_are;
+        extents = held_are_counted d.files places held beside here;
+      }
 
-    -- ---- the histories of images
+  -- ---- the histories of images
 
-    pub can_go : (k : Keys) (h : PlacedHistory) (g : SealedHistory) (i : Image)
-        → k.surface ≡ master → IsReplayedTo k.surface h store.catalogue store.placed
-        → KeepsAt k h g i → CanGoOn master (asked_of store p) k h g u i
-    can_go k h g i surface so_far keeps = record {
-      surface = surface;
-      placed = sym so_far.places;
-      update = subst (λ (c : Catalogue). IsAskedFor c u (asked_of store p)) so_far.stands.1
-          is_asked;
-      keeps = keeps;
-    }
+  pub can_go : (k : Keys) (h : PlacedHistory) (g : SealedHistory) (i : Image)
+      → k.surface ≡ master → IsReplayedTo k.surface h store.catalogue store.placed
+      → KeepsAt k h g i → CanGoOn master (asked_of store p) k h g u i
+  can_go k h g i surface so_far keeps = record {
+    surface = surface;
+    placed = sym so_far.places;
+    update = subst (λ (c : Catalogue). IsAskedFor c u (asked_of store p)) so_far.stands.1
+        is_asked;
+    keeps = keeps;
+  }
 
-    -- as many first blocks as the update needs
-    pub many_made : (moves : List Move)
-        → AreMovesOf (files_of store.placed (plain_rewrites p.change.rewrites.items)) moves
-        → HasFirsts store.catalogue (placed_as u (firsts_of moves))
-    many_made moves are =
-        length-firsts moves ∙ are.many
-        ∙ files_counted store.placed (plain_rewrites p.change.rewrites.items)
-        ∙ ap (λ (rs : List PlainRewrite). count_of rs) is.change.rewrites
+  -- as many first blocks as the update needs
+  pub many_made : (moves : List Move)
+      → AreMovesOf (files_of store.placed (plain_rewrites p.change.rewrites.items)) moves
+      → HasFirsts store.catalogue (placed_as u (firsts_of moves))
+  many_made moves are =
+      length-firsts moves ∙ are.many
+      ∙ files_counted store.placed (plain_rewrites p.change.rewrites.items)
+      ∙ ap (λ (rs : List PlainRewrite). count_of rs) is.change.rewrites
 
 -- ---- the clauses
 
 module _ {W : ℕ} (limit : ℕ) (master : List ℕ) (store : PlacedStore) (p : Prepared W)
     (holds : HoldsFiles store.catalogue store.placed store.held) (apart : AreApart 0 store.held)
-  where
-    -- the update was prepared under the keys' master
-    under : (k : Keys) (u : SealedUpdate) → k.surface ≡ master
-        → IsPrepared limit k.surface store.catalogue u p
-        → IsPrepared limit master store.catalogue u p
-    under k u surface is =
-        subst (λ (m : List ℕ). IsPrepared limit m store.catalogue u p) surface is
+    (well : IsWell limit store.catalogue) where
+  -- the update was prepared under the keys' master
+  under : (k : Keys) (u : SealedUpdate) → k.surface ≡ master
+      → IsPrepared limit k.surface store.catalogue u p
+      → IsPrepared limit master store.catalogue u p
+  under k u surface is =
+      subst (λ (m : List ℕ). IsPrepared limit m store.catalogue u p) surface is
 
-    pub goes_or_keeps : (i c : Image) → KeepsItOrMore master (asked_of store p) i c
-        → KeepsOrGoesOn limit master store p i c
-    goes_or_keeps i c keeps k h g u surface may =
-        keeps k h g u
-        (can_go limit master store u p (under k u surface may.prepared_is) holds apart k h g i surface
-        may.replayed may.keeps)
+  pub goes_or_keeps : (i c : Image) → KeepsItOrMore master (asked_of store p) i c
+      → KeepsOrGoesOn limit master store p i c
+  goes_or_keeps i c keeps k h g u surface may =
+      keeps k h g u
+      (can_go limit master store u p (under k u surface may.prepared_is) holds apart well k h g i
+      surface may.replayed may.keeps)
 
-    pub keeps_still : (i : Image) → KeepsOrGoesOn limit master store p i i
-    keeps_still i k h g u surface may = (inl may.keeps, refl, refl)
+  pub keeps_still : (i : Image) → KeepsOrGoesOn limit master store p i i
+  keeps_still i k h g u surface may = (inl may.keeps, refl, refl)
 
-    pub lasts_more : {D : Type 0} (tells : DiskTells D) (moves : List Move) (disk : D) (i : Image)
-        → UpdateLasts tells master (asked_of store p) moves disk i
-        → LastsMore tells limit master store p moves disk i
-    lasts_more tells moves disk i made = record {
-      now = made.now;
-      is_read = made.is_read;
-      only = made.only;
-      keeps = λ k h g u surface may.
-          made.keeps k h g u
-          (can_go limit master store u p (under k u surface may.prepared_is) holds apart k h g i
-          surface may.replayed may.keeps);
-      grows = made.grows;
-    }
+  pub lasts_more : {D : Type 0} (tells : DiskTells D) (moves : List Move) (disk : D) (i : Image)
+      → UpdateLasts tells master (asked_of store p) moves disk i
+      → LastsMore tells limit master store p moves disk i
+  lasts_more tells moves disk i made = record {
+    now = made.now;
+    is_read = made.is_read;
+    only = made.only;
+    keeps = λ k h g u surface may.
+        made.keeps k h g u
+        (can_go limit master store u p (under k u surface may.prepared_is) holds apart well k h g i
+        surface may.replayed may.keeps);
+    grows = made.grows;
+  }

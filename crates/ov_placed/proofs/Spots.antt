@@ -3,7 +3,8 @@ use Rattle.std.proofs.Common.{◌≡◌, inl, inr, ℕ, ◌+◌, ◌-◌, ◌≤
 use Rattle.ov_base.specs.declared.limits.TheConstants.{MAX_FILE_BYTES}
 use Rattle.ov_disk.specs.declared.area.Area.TheVariants.{Book}
 use Rattle.ov_fields.specs.Reading.{all_of, placed}
-use Rattle.ov_record.specs.Briefs.{BriefEnrol, BriefCreate, BriefGrant, BriefRevoke, IsFitting}
+use Rattle.ov_record.specs.Briefs.{BriefEnrol, BriefCreate, BriefGrant, BriefRevoke, BriefRemove}
+use Rattle.ov_record.specs.Briefs.{IsFitting}
 use Rattle.ov_record.specs.Forms.{Form, HasRoom, form_in}
 use Rattle.ov_record.specs.Stored.{IsBriefWithinLimits}
 use Rattle.ov_record.specs.declared.formats.Format.{Format}
@@ -46,6 +47,7 @@ within_fits form few (BriefEnrol name) is = tt
 within_fits form few (BriefCreate name list tokens tag size) is = omega (arith, few, is.1)
 within_fits form few (BriefGrant user file token) is = tt
 within_fits form few (BriefRevoke user file) is = tt
+within_fits form few (BriefRemove file) is = tt
 
 -- what a record of a format has a store may take
 pub fits_in : (format : Format) (b : Brief) → IsBriefWithinLimits (form_in format) b → IsFitting b

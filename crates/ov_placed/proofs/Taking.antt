@@ -14,14 +14,15 @@ use Rattle.ov_state.specs.Changes.{AreOfFiles, applied}
 use Rattle.ov_state.specs.Entries.{plain_rewrites}
 use Rattle.ov_state.specs.declared.change.Change.{Change}
 use Rattle.ov_state.specs.declared.change.Rewrite.{Rewrite as StateRewrite}
+use Rattle.ov_updating.specs.Files.{removed_by}
 use Rattle.ov_placed.specs.Contents.{HoldsFiles, PlacedStore}
 use Rattle.ov_placed.specs.Faults.{IsBadFor, IsTakenAt, NamesSpot, UpdateIsTakenAt}
-use Rattle.ov_placed.specs.Holding.{AreHeld, IsWithAll, given_up}
+use Rattle.ov_placed.specs.Holding.{AreHeld, IsWithAll, extent_removed, given_up}
 use Rattle.ov_placed.specs.Replaying.{IsPlacedChange, IsRecordOf, TakesRecord}
 use Rattle.ov_placed.specs.declared.fault.ReplayFault.{ReplayFault}
 use Rattle.ov_placed.specs.declared.fault.ReplayFault.TheVariants.{Damaged, Memory}
 use Rattle.ov_placed.proofs.Counting.{same_members}
-use Rattle.ov_placed.proofs.Files.{holds_after, old_are_held, rewrites_of_files}
+use Rattle.ov_placed.proofs.Files.{holds_after, old_are_held, removed_is_held, rewrites_of_files}
 use Rattle.ov_placed.proofs.FirstBlocks.{each_has_block}
 use Rattle.ov_placed.proofs.Spots.{bad_if_taken, history_goes_on}
 
@@ -77,6 +78,17 @@ module _ (W limit : ℕ) (master : List ℕ) (s : PlacedStore) (u : PlacedUpdate
         (new_extents all u.firsts) in_use).0
         (subst (λ (l : List Extent). AllTakeFree blocks s.held l) (new_are new is_new) free)
 
+    -- the extent of a file that is removed
+    abbrev pub removed : List Extent
+    removed = extent_removed s.catalogue s.placed (removed_by u.update)
+
+    pub removed_is_there : (new next : List Extent)
+        → new ≡ new_extents (plain_rewrites rewrites) firsts → IsWithAll new s.held next
+        → AreHeld removed next
+    removed_is_there new next is_new with =
+        removed_is_held s.catalogue u s.placed s.held holds next
+        (subst (λ (l : List Extent). IsWithAll l s.held next) (new_are new is_new) with)
+
     module _ (grown : List (Option ℕ)) (grown_is : grown ≡ with_unplaced s.placed u.update) where
       pub files_there : AreOfFiles (length grown) rewrites
       files_there =
@@ -97,12 +109,14 @@ module _ (W limit : ℕ) (master : List ℕ) (s : PlacedStore) (u : PlacedUpdate
       with_new new next is_new with =
           subst (λ (l : List Extent). IsWithAll l s.held next) (new_are new is_new) with
 
-      pub gone_are_held : (new next : List Extent)
+      pub gone_are_held : (new next kept : List Extent)
           → new ≡ new_extents (plain_rewrites rewrites) firsts → IsWithAll new s.held next
-          → AreHeld (given_up (plain_rewrites rewrites) firsts grown) next
-      gone_are_held new next is_new with =
-          subst (λ (l : List Extent). AreHeld l next) (sym given_is)
-          (old_are_held s.catalogue u s.placed s.held holds next (with_new new next is_new with))
+          → IsWithAll removed kept next
+          → AreHeld (given_up (plain_rewrites rewrites) firsts grown) kept
+      gone_are_held new next kept is_new with out =
+          subst (λ (l : List Extent). AreHeld l kept) (sym given_is)
+          (old_are_held s.catalogue u s.placed s.held holds next kept
+          (with_new new next is_new with) out)
 
       pub placed_is : (places : List (Option ℕ))
           → places ≡ replaced (plain_rewrites rewrites) firsts grown
@@ -112,17 +126,19 @@ module _ (W limit : ℕ) (master : List ℕ) (s : PlacedStore) (u : PlacedUpdate
           ∙ ap (λ (fs : List ℕ). replaced all fs grown) firsts_are
           ∙ ap (λ (ps : List (Option ℕ)). replaced all u.firsts ps) grown_is
 
-      pub holds_then : (new next after : List Extent) (places : List (Option ℕ)) (d : Catalogue)
+      pub holds_then : (new next kept after : List Extent) (places : List (Option ℕ))
+          (d : Catalogue)
           → new ≡ new_extents (plain_rewrites rewrites) firsts → IsWithAll new s.held next
-          → IsWithAll (given_up (plain_rewrites rewrites) firsts grown) after next
+          → IsWithAll removed kept next
+          → IsWithAll (given_up (plain_rewrites rewrites) firsts grown) after kept
           → places ≡ replaced (plain_rewrites rewrites) firsts grown
           → d ≡ applied s.catalogue change → HoldsFiles d places after
-      holds_then new next after places d is_new with without are made =
+      holds_then new next kept after places d is_new with out without are made =
           subst (λ (e : Catalogue). HoldsFiles e places after) (sym (made ∙ is.made.made))
           (subst (λ (ps : List (Option ℕ)). HoldsFiles (catalogue_after master s.catalogue u.update) ps after) (sym (placed_is places are))
-          (holds_after s.catalogue u s.placed s.held holds master next after is.firsts
-          (with_new new next is_new with)
-          (subst (λ (l : List Extent). IsWithAll l after next) given_is without)))
+          (holds_after s.catalogue u s.placed s.held holds master next kept after is.firsts
+          (with_new new next is_new with) out
+          (subst (λ (l : List Extent). IsWithAll l after kept) given_is without)))
 
 -- ---- the record of a change that was made
 

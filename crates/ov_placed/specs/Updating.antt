@@ -19,7 +19,7 @@ use Rattle.ov_moves.specs.declared.moves.Move.{Move}
 use Rattle.ov_state.specs.Changes.{applied}
 use Rattle.ov_state.specs.Entries.{plain_rewrites}
 use Rattle.ov_state.specs.Plans.{IsChange, IsWithinLimits}
-use Rattle.ov_updating.specs.Files.{files_of, firsts_of}
+use Rattle.ov_updating.specs.Files.{files_of, firsts_of, removed_by}
 use Rattle.ov_updating.specs.Updating.{Asked, HasSameStep, KeepsAtOrMore, asked}
 use Rattle.ov_placed.specs.Contents.{PlacedStore}
 use Rattle.ov_placed.specs.declared.preparing.Prepared.{Prepared}
@@ -30,13 +30,14 @@ IsSpelled b None = IsWithinLimits b → ⊥
 IsSpelled b (Some front) = HasBriefForm second_form b × (front ≡ brief_spelling second_form b)
 
 -- The change is that of this update under the surface master, its record begins with these bytes,
--- and this is the text of the file that it creates.
+-- this is the text of the file that it creates, and this the number of the file that it removes.
 pub record IsPrepared {W : ℕ} (limit : ℕ) (master : List ℕ) (c : Catalogue) (u : SealedUpdate)
     (p : Prepared W) : Type 0 where
   pub change : IsChange limit master c (brief u) p.change
   pub form : HasBriefForm second_form (brief u)
   pub front : p.front ≡ brief_spelling second_form (brief u)
   pub text : p.text ≡ text_of u
+  pub removed : p.removed ≡ removed_by (brief u)
 
 -- the bytes of a text, where there is one
 abbrev pub bytes_of : Option (List ℕ) → List ℕ
@@ -47,6 +48,7 @@ bytes_of (Some text) = text
 abbrev pub asked_of : {W : ℕ} → PlacedStore → Prepared W → Asked
 asked_of store p =
     asked (plain_rewrites p.change.rewrites.items) store.placed store.held p.front (bytes_of p.text)
+    p.removed
 
 -- The image keeps a history, which was replayed to this store, and the update that was prepared may
 -- go on with it.

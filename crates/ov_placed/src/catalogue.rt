@@ -21,7 +21,7 @@ use std::alloc::Global;
 use std::marker::Model;
 
 /// The first block of the file of this number, where it has one.
-fn place_at(placed: &[Option<u32>], file: u32) -> Option<u32>
+pub(crate) fn place_at(placed: &[Option<u32>], file: u32) -> Option<u32>
     ensures { result ≡ living_at placed.now file }
 {
     placed.get(file as usize).copied().flatten()

@@ -9,8 +9,9 @@ ghost use Rattle.ov_state.specs.Entries.{plain_rewrites};
 ghost use Rattle.ov_placed.specs.Holding.{given_up, AreHeld, IsWithAll};
 
 use crate::first_blocks::next_first;
+use crate::removing::{give_up, take_one};
 use ov_base::Memory;
-use ov_blocks::{Extents, blocks_of};
+use ov_blocks::Extents;
 use ov_record::Brief;
 use ov_state::Rewrite;
 
@@ -23,8 +24,9 @@ pub(crate) fn make_room(placed: &mut Vec<Option<u32>>) -> Result<(), Memory>
     Ok(())
 }
 
-/// Adds a new file, which has no first block yet. There is room for it.
-pub(crate) fn add_new<const W: usize>(placed: &mut Vec<Option<u32>>, update: &Brief<W>)
+/// Adds a new file, which has no first block yet, and takes that of a removed file away. There is
+/// room for a new one.
+pub(crate) fn unplace<const W: usize>(placed: &mut Vec<Option<u32>>, update: &Brief<W>)
     requires { 1 ≤ vec_capacity placed.old - vec_len placed.old }
     ensures { placed.new.items ≡ with_unplaced placed.old.items (plain_brief update.now) }
 {
@@ -32,6 +34,7 @@ pub(crate) fn add_new<const W: usize>(placed: &mut Vec<Option<u32>>, update: &Br
         Brief::Create { .. } => {
             let _ = placed.push(None);
         }
+        Brief::Remove { file } => take_one(placed, *file),
         _ => {}
     }
 }
@@ -53,9 +56,7 @@ fn exchange_one(
     let file = rewrite.file as usize;
     let old = placed[file];
     placed[file] = first;
-    if let Some(old) = old {
-        extents.release(old, blocks_of(rewrite.length));
-    }
+    give_up(extents, old, rewrite.length);
 }
 
 /// Puts the next of these first blocks in place of the old one of each file, and gives up the old

@@ -10,11 +10,12 @@ ghost use Rattle.ov_placed.specs.Faults.{IsBadFor, NamesSpot, UpdateIsTakenAt};
 ghost use Rattle.ov_placed.specs.Replaying.{placed_update, IsPlacedChange, TakesRecord};
 
 use crate::catalogue::{CataloguePlaces, PlacedCatalogue};
-use crate::exchanging::{add_new, exchange, make_room};
+use crate::exchanging::{exchange, make_room, unplace};
 use crate::fault::ReplayFault;
 use crate::first_blocks::new_extents;
 use crate::holding::hold_all;
 use crate::prepared::prepare_record;
+use crate::removing::{give_up_removed, removed_by};
 use ov_graph::Graph;
 use ov_record::{Format, Stored};
 use ov_state::Change;
@@ -50,7 +51,13 @@ impl<B: Graph<Base, W>, S: Graph<Surface, W>, const W: usize> PlacedCatalogue<B,
         let new = new_extents(alloc, rewritten, firsts)?;
         make_room(&mut self.placed)?;
         hold_all(&mut self.extents, &new, blocks)?;
-        add_new(&mut self.placed, &stored.update);
+        give_up_removed(
+            &self.catalogue,
+            &self.placed,
+            &mut self.extents,
+            removed_by(&stored.update),
+        );
+        unplace(&mut self.placed, &stored.update);
         exchange(&mut self.placed, &mut self.extents, rewritten, firsts);
         self.catalogue.commit(change);
         Ok(())

@@ -19,7 +19,7 @@ use Rattle.ov_history.specs.Catalogue.{Catalogue, catalogue_after}
 use Rattle.ov_history.specs.Placed.{IsReplayedTo, PlacedHistory, PlacedUpdate, cut, placed_after}
 use Rattle.ov_history.specs.Placed.{unplaced, with_placed}
 use Rattle.ov_history.specs.Places.{living_at}
-use Rattle.ov_history.specs.Rewrites.{length_left, rewrites_of, stored_after}
+use Rattle.ov_history.specs.Rewrites.{length_left, rewrites_of, stored_after, without_gone}
 use Rattle.ov_history.specs.Sealed.{KeepsBytes, SealedHistory, StandsFor, with_sealed}
 use Rattle.ov_history.specs.Texts.{BriefHistory, brief_of, with_brief}
 use Rattle.ov_history.proofs.Briefly.{brief_of-push}
@@ -258,7 +258,7 @@ module _ {D : Type 0} (tells : DiskTells D) (k : Keys) (d0 d1 : D) (store : Plac
     bytes_more : (i j : Image) → tells.reads d0 ≡ Some i → tells.reads d1 ≡ Some j
         → cut_out new j
         ≡ stored_after k.surface (rewrites_of store.catalogue (brief u)) (text_of u)
-        (cut_out store i)
+        (without_gone (cut_out store i) (brief u))
     bytes_more i j before after =
         let g = safe.some_history.0 in
         let serves = safe.some_history.2 in
@@ -267,13 +267,13 @@ module _ {D : Type 0} (tells : DiskTells D) (k : Keys) (d0 d1 : D) (store : Plac
         stored_same k.surface q new j replayed ∙ (last g serves j after).files
         ∙ stored-push k.surface g u
         ∙ sym (λ n. stored_after k.surface (rewrites_of (serves.catalogue.1 n) (brief u)) (text_of u)
-        (old n))
+        (without_gone (old n) (brief u)))
 
     pub stored_more : (before after : Option Image) → tells.reads d0 ≡ before
         → tells.reads d1 ≡ after
         → stored_by after new
-        ≡ option_map (stored_after k.surface (rewrites_of store.catalogue (brief u)) (text_of u))
-        (stored_by before store)
+        ≡ option_map (λ stored. stored_after k.surface (rewrites_of store.catalogue (brief u))
+        (text_of u) (without_gone stored (brief u))) (stored_by before store)
     stored_more None None one two = refl
     stored_more None (Some j) one two = absurd (cc (leaves.untold one, two))
     stored_more (Some i) None one two = absurd (cc ((leaves.told i one).1, two))

@@ -1,6 +1,6 @@
 -- The texts of a history's files, in the extents of an open store.
-use Rattle.std.proofs.Common.{◌≡◌, ℕ, suc, ◌<◌, List, [], ◌∷◌, ◌++◌, length, get_or, Option, Some, None}
-use Rattle.std.proofs.Common.{refl, sym, ◌∙◌, ap, subst, arith, append_assoc, length-append}
+use Rattle.std.proofs.Common.{◌≡◌, ℕ, List, [], ◌∷◌, ◌++◌, length, get_or, Option, Some, None}
+use Rattle.std.proofs.Common.{refl, sym, ◌∙◌, ap, subst, append_assoc}
 use Rattle.std.proofs.lemmas.List.{append-nil}
 use Rattle.std.specs.Prelude.{IfSome, option_map}
 use Rattle.ov_record.specs.Updates.{SealedUpdate}
@@ -9,14 +9,13 @@ use Rattle.ov_history.specs.Catalogue.{Catalogue, Filed}
 use Rattle.ov_history.specs.Placed.{bytes_at, cut}
 use Rattle.ov_history.specs.Places.{living_at}
 use Rattle.ov_history.specs.Rewrites.{length_left, surface_key, with_text}
-use Rattle.ov_history.specs.Sealed.{KeepsBytes, SealedHistory, StandsFor, catalogue_of, sent_all}
+use Rattle.ov_history.specs.Sealed.{KeepsBytes, SealedHistory, StandsFor, sent_all}
 use Rattle.ov_history.specs.Sealed.{sent_of}
-use Rattle.ov_history.proofs.Living.{AllThere, there-at, there-of}
 use Rattle.ov_history.proofs.Storing.{coats_of, stored_is_coated}
 use Rattle.ov_surface.specs.Coats.{stored_under}
 use Rattle.ov_surface.proofs.CoatLaws.{coated-coated}
 use Rattle.ov_placed.specs.Contents.{PlacedStore}
-use Rattle.ov_store.specs.Owners.{HasTextIn, text_in, with_first}
+use Rattle.ov_store.specs.Owners.{HasTextIn, IsTextIn, text_in, with_first}
 use Rattle.ov_store.proofs.Extents.{cut-at}
 
 -- ---- texts, one after the other
@@ -63,33 +62,44 @@ many_texts master c g stands =
 module _ (master : List ℕ) (store : PlacedStore) (blobs : List ℕ) (g : SealedHistory)
     (whole : StandsFor master store.catalogue g)
     (bytes : KeepsBytes master (cut blobs store.catalogue.files store.placed) g) where
-  -- under the coat of its surface each file's extent has its text
-  text_stored : (n : ℕ) → n < length store.catalogue.files
+  -- under the coat of its surface the extent of each file that is there has its text
+  text_of_file : (n : ℕ) (f : Filed) → living_at store.catalogue.files n ≡ Some f
       → text_in master store n blobs ≡ Some (get_or (sent_of g) n [])
-  text_stored n lt =
+  text_of_file n f there =
       let files = store.catalogue.files in
-      let there = subst (λ (c : Catalogue). AllThere c.files) (sym whole.1) (there-of master g) in
-      let file = there-at files n there lt in
-      let f : Filed = file.0 in
       let text : List ℕ = get_or (sent_of g) n [] in
       let key : Option (List ℕ) = surface_key master f.surface in
       let stored = cut blobs files store.placed in
       let coated : get_or stored n [] ≡ stored_under key n text =
-      (stored_is_coated master store.catalogue stored g whole bytes).coats n f file.1 in
+      (stored_is_coated master store.catalogue stored g whole bytes).coats n f there in
       let found : get_or stored n [] ≡ bytes_at blobs (living_at store.placed n) f.length =
       cut-at blobs files store.placed n
-      ∙ ap (λ (o : Option Filed). bytes_at blobs (living_at store.placed n) (length_left o)) file.1 in
+      ∙ ap (λ (o : Option Filed). bytes_at blobs (living_at store.placed n) (length_left o)) there in
       let bare : stored_under key n (bytes_at blobs (living_at store.placed n) f.length) ≡ text =
       ap (λ (l : List ℕ). stored_under key n l) (sym found ∙ coated) ∙ coated-coated key n 0 text in
       ap (λ (o : Option Filed). option_map (λ (x : Filed). stored_under
-      (surface_key master x.surface) n (bytes_at blobs (living_at store.placed n) x.length)) o) file.1
+      (surface_key master x.surface) n (bytes_at blobs (living_at store.placed n) x.length)) o) there
       ∙ ap (λ (l : List ℕ). Some l) bare
+
+  -- nothing is said of one that is gone
+  text_stored : (n : ℕ) → IsTextIn master store n blobs (get_or (sent_of g) n [])
+  text_stored n = by_file (living_at store.catalogue.files n) refl where
+    by_file : (o : Option Filed) → living_at store.catalogue.files n ≡ o
+        → IsTextIn master store n blobs (get_or (sent_of g) n [])
+    by_file None none =
+        subst (λ (o : Option (List ℕ)). IfSome o (λ there. there ≡ get_or (sent_of g) n []))
+        (sym (ap (λ (o : Option Filed). option_map (λ (x : Filed). stored_under
+        (surface_key master x.surface) n (bytes_at blobs (living_at store.placed n) x.length)) o)
+        none)) tt
+    by_file (Some f) there =
+        subst (λ (o : Option (List ℕ)). IfSome o (λ there. there ≡ get_or (sent_of g) n []))
+        (sym (text_of_file n f there)) refl
 
   module _ (c : Catalogue) (front : List SealedUpdate) (u : SealedUpdate) (rest : List SealedUpdate)
       (split : g.updates ≡ front ++ u ∷ rest) (stands : StandsFor master c (with_first g front))
     where
       new_text : (text : List ℕ) → text_of u ≡ Some text
-          → text_in master store (length c.files) blobs ≡ Some text
+          → IsTextIn master store (length c.files) blobs text
       new_text text is =
           let n = length c.files in
           let before : List (List ℕ) = sent_all [] front in
@@ -97,21 +107,13 @@ module _ (master : List ℕ) (store : PlacedStore) (blobs : List ℕ) (g : Seale
           let all : sent_of g ≡ before ++ text ∷ cut_at.0 =
           ap (λ (us : List SealedUpdate). sent_all [] us) split ∙ cut_at.1 in
           let here : length before ≡ n = many_texts master c (with_first g front) stands in
-          let lt : n < length store.catalogue.files = omega (
-            arith,
-            here,
-            many_texts master store.catalogue g whole,
-            ap length all,
-            length-append before (text ∷ cut_at.0),
-          ) in
-          text_stored n lt
-          ∙ ap (λ (l : List ℕ). Some l)
+          subst (IsTextIn master store n blobs)
           (ap (λ (l : List (List ℕ)). get_or l n []) all
           ∙ ap (λ (m : ℕ). get_or (before ++ text ∷ cut_at.0) m []) (sym here)
-          ∙ at_middle before text cut_at.0)
+          ∙ at_middle before text cut_at.0) (text_stored n)
 
       if_new : (o : Option (List ℕ)) → text_of u ≡ o
-          → IfSome o (λ text. text_in master store (length c.files) blobs ≡ Some text)
+          → IfSome o (IsTextIn master store (length c.files) blobs)
       if_new None is = tt
       if_new (Some text) is = new_text text is
 

@@ -5,7 +5,7 @@ use Rattle.ov_base.specs.declared.limits.TheConstants.{SET_WORDS}
 use Rattle.ov_record.specs.Updates.{SealedUpdate}
 use Rattle.ov_history.specs.Briefs.{Brief, brief, text_of}
 use Rattle.ov_history.specs.Catalogue.{Catalogue, outline, catalogue_after}
-use Rattle.ov_history.specs.Rewrites.{rewrites_of, stored_after}
+use Rattle.ov_history.specs.Rewrites.{rewrites_of, stored_after, without_gone}
 use Rattle.ov_history.specs.Sealed.{SealedHistory, HasParts, refusal_shown, with_sealed}
 use Rattle.ov_state.specs.Plans.{IsTaken}
 use Rattle.ov_history.specs.Briefs.{part_place}
@@ -29,15 +29,16 @@ IsFaultFor c b DiskFailed = IsTaken c b
 IsFaultFor c b Failed = ⊤
 IsFaultFor c b Memory = ⊤
 
--- The update is made in the catalogue, and in the stored bytes where they are said, and its epoch is
--- answered; or it is made in neither, for this reason.
+-- The update is made in the catalogue, and in the stored bytes where they are said, of which none are
+-- left of a file that it removes; and its epoch is answered. Or it is made in neither, for this reason.
 abbrev pub Updates : {D : Type 0} → SealedUpdate → Opened D → Opened D → Result ℕ StoreFault
     → Type 0
 Updates u old new (Ok epoch) =
     IsTaken old.catalogue (brief u)
     × (new.catalogue ≡ catalogue_after old.keys.surface old.catalogue (brief u))
     × (new.stored ≡ option_map
-    (stored_after old.keys.surface (rewrites_of old.catalogue (brief u)) (text_of u)) old.stored)
+    (λ stored. stored_after old.keys.surface (rewrites_of old.catalogue (brief u)) (text_of u)
+    (without_gone stored (brief u))) old.stored)
     × (epoch ≡ new.catalogue.epoch)
 Updates u old new (Err fault) =
     IsFaultFor old.catalogue (brief u) fault × (new.catalogue ≡ old.catalogue)

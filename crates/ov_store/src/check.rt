@@ -14,7 +14,8 @@ ghost use Rattle.ov_record.specs.Forms.{form_in};
 ghost use Rattle.ov_record.specs.Updates.{SealedUpdate, sealed_update};
 ghost use Rattle.ov_state.specs.Plans.{IsFitting, IsTaken};
 ghost use Rattle.ov_store.specs.Opened.{Serves};
-ghost use Rattle.ov_store.specs.Owners.{Checks, FollowsUpdate, HasTextIn, IsHistoryOf, masters};
+ghost use Rattle.ov_store.specs.Owners.{Checks, FollowsUpdate, HasTextIn, IsHistoryOf, is_gone_in};
+ghost use Rattle.ov_store.specs.Owners.{masters};
 ghost use Rattle.ov_store.specs.Updating.{IsCallOf};
 
 use crate::format::format_of;
@@ -30,20 +31,32 @@ use ov_state::{Catalogue, PrepareFault, State, WIDTH};
 use ov_tokens::Master;
 use std::alloc::Global;
 
-// Goes on with this update, if it is as its owner seals it.
+// Whether there is no file of this number.
+fn is_gone(catalogue: &Catalogue, file: u32) -> bool
+    ensures { result ≡ is_gone_in catalogue.now.catalogue file }
+{
+    match catalogue.file_at(file) {
+        Some(_) => false,
+        None => true,
+    }
+}
+
+// Goes on with this update, if it is as its owner seals it; but for the tag and the bytes of its file,
+// where that is gone by now.
 fn follow(
     alloc: Global,
     state: &mut Catalogue,
     surface: &Master,
     base: &Master,
     update: Update<WIDTH>,
+    gone: bool,
 ) -> Result<bool, Memory>
     requires { IsFitting (brief (sealed_update update)) }
     ensures { IfOk result (λ yes. IsTaken state.old.catalogue (brief (sealed_update update))
         → FollowsUpdate (masters base.now.bytes surface.now.bytes)
-        state.old.catalogue (sealed_update update) state.new.catalogue yes) }
+        state.old.catalogue gone (sealed_update update) state.new.catalogue yes) }
 {
-    if !is_owners(alloc, state, base, &update)? {
+    if !is_owners(alloc, state, base, &update, gone)? {
         return Ok(false);
     }
     let (brief, _) = Brief::of(update);
@@ -58,7 +71,8 @@ fn follow(
 }
 
 // Goes on with the record of this format with this body, if its update is as its owner seals it. The
-// text of a new file is what the open store has of it.
+// text of a new file is what the open store has of it; where the file is gone there, its tag isn't
+// looked at.
 fn follow_record<D: Disk>(
     alloc: Global,
     disk: &mut D,
@@ -75,8 +89,9 @@ fn follow_record<D: Disk>(
         (u : SealedUpdate) → BeginsWith (form_in format) (brief u) body.now
         → HasTextIn surface.now.bytes placed.now (length state.old.catalogue.files) i.blobs u
         → IsTaken state.old.catalogue (brief u)
-        → FollowsUpdate (masters base.now.bytes surface.now.bytes)
-        state.old.catalogue u state.new.catalogue yes)) }
+        → FollowsUpdate (masters base.now.bytes surface.now.bytes) state.old.catalogue
+        (is_gone_in placed.now.catalogue (length state.old.catalogue.files)) u
+        state.new.catalogue yes)) }
     ensures untouched { IsUntouched D.tells disk.old disk.new }
     ensures call { IsDiskCall D.tells (IsErrOf result DiskFailed) disk.old disk.new }
 {
@@ -86,8 +101,9 @@ fn follow_record<D: Disk>(
         Err(RecordFault::Memory) => return Err(CheckFault::Memory),
     };
     let file = state.sizes().files;
+    let gone = is_gone(placed.catalogue(), file);
     match whole_update(alloc, disk, placed, surface, brief, file)? {
-        Some(update) => Ok(follow(alloc, state, surface, base, update)?),
+        Some(update) => Ok(follow(alloc, state, surface, base, update, gone)?),
         None => Ok(false),
     }
 }
@@ -130,8 +146,10 @@ fn first_false<D: Disk>(
 
 impl<D: Disk> Store<D> {
     /// The gate's place in Book of the first record with a token or a tag that isn't what the owner
-    /// with this base master sends, and None where there is none. It reads all records again.
-    /// After an update in which the disk failed these are the records of the updates before it.
+    /// with this base master sends, and None where there is none. It reads all records again, and looks
+    /// at every base token, and at the tags of the files that are there: of one that is gone the bytes
+    /// are left to later files. After an update in which the disk failed these are the records of the
+    /// updates before it.
     pub fn check(&mut self, alloc: Global, base: &Key) -> Result<Option<u64>, CheckFault>
         // The place is right for each history for which the store stands.
         ensures checked { IfOk result (λ found. (g : SealedHistory)

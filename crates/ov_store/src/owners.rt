@@ -1,5 +1,5 @@
 //! Whether an update is as its owner seals it.
-ghost use Rattle.std.specs.Prelude.{◌≡◌, ◌≤◌, List, Some, true, false, ℕ, IfOk, length};
+ghost use Rattle.std.specs.Prelude.{◌≡◌, ◌≤◌, Bool, List, Some, true, false, ℕ, IfOk, length};
 ghost use Rattle.ov_base.specs.declared.limits.TheConstants.{MAX_FILE_BYTES};
 ghost use Rattle.ov_history.specs.Briefs.{BriefCreate, BriefGrant, brief};
 ghost use Rattle.ov_history.specs.Catalogue.{outline};
@@ -21,9 +21,9 @@ use std::alloc::Global;
 
 // Whether the access token of a grant is the one that the owner sends.
 fn is_grant(state: &Catalogue, base: &Master, user: u32, file: u32, token: &Token) -> bool
-    ensures { (k : Masters) → k.base ≡ base.now.bytes
+    ensures { (k : Masters) (gone : Bool) → k.base ≡ base.now.bytes
         → IsTaken state.now.catalogue (BriefGrant user file (Some token.now))
-        → TellsOwners k (outline state.now.catalogue)
+        → TellsOwners k (outline state.now.catalogue) gone
         (SealedGrant user file (Some token.now)) result }
 {
     state.known();
@@ -78,7 +78,8 @@ fn tag_under(alloc: Global, access: &Key, number: u32, bytes: &Octets) -> Result
     Ok(file_tag(access, number, plain.as_slice()))
 }
 
-// Whether the tokens and the tag of a creation are those that the owner sends with these bytes.
+// Whether the tokens of a creation, and the tag unless the file is gone, are those that the owner sends
+// with these bytes.
 fn is_creation(
     alloc: Global,
     state: &Catalogue,
@@ -87,12 +88,13 @@ fn is_creation(
     tokens: &Tokens,
     tag: &[u8; 32],
     bytes: &Octets,
+    gone: bool,
 ) -> Result<bool, Memory>
     requires { length bytes.now ≤ MAX_FILE_BYTES }
     ensures { IfOk result (λ yes. (k : Masters) (name : List ℕ) → k.base ≡ base.now.bytes
         → IsTaken state.now.catalogue
         (BriefCreate name list.now tokens.now tag.now (length bytes.now))
-        → TellsOwners k (outline state.now.catalogue)
+        → TellsOwners k (outline state.now.catalogue) gone
         (SealedCreate name list.now tokens.now tag.now bytes.now) yes) }
 {
     let cover = match state.base().plan_create(alloc, list) {
@@ -104,6 +106,9 @@ fn is_creation(
     if !are_same(tokens.as_slice(), sealed.as_slice()) {
         return Ok(false);
     }
+    if gone {
+        return Ok(true);
+    }
     let access = access_key(&Base::key_of(base, cover.node));
     let number = state.sizes().files;
     let right = tag_under(alloc, &access, number, bytes)?;
@@ -113,17 +118,19 @@ fn is_creation(
     Ok(true)
 }
 
-/// Whether an update is, after what the catalogue has, as its owner seals it under the base master.
+/// Whether an update is, after what the catalogue has, as its owner seals it under the base master;
+/// but for the tag and the bytes of its file, where that is gone by now.
 pub(crate) fn is_owners(
     alloc: Global,
     state: &Catalogue,
     base: &Master,
     update: &Update<WIDTH>,
+    gone: bool,
 ) -> Result<bool, Memory>
     requires { IsFitting (brief (sealed_update update.now)) }
     ensures { IfOk result (λ yes. (k : Masters) → k.base ≡ base.now.bytes
         → IsTaken state.now.catalogue (brief (sealed_update update.now))
-        → TellsOwners k (outline state.now.catalogue) (sealed_update update.now) yes) }
+        → TellsOwners k (outline state.now.catalogue) gone (sealed_update update.now) yes) }
 {
     match update {
         Update::Create {
@@ -132,12 +139,13 @@ pub(crate) fn is_owners(
             tag,
             bytes,
             ..
-        } => is_creation(alloc, state, base, list, tokens, tag, bytes),
+        } => is_creation(alloc, state, base, list, tokens, tag, bytes, gone),
         Update::Grant { user, file, token } => match token {
             Some(token) => Ok(is_grant(state, base, *user, *file, token)),
             None => Ok(true),
         },
         Update::Enrol { .. } => Ok(true),
         Update::Revoke { .. } => Ok(true),
+        Update::Remove { .. } => Ok(true),
     }
 }

@@ -25,7 +25,7 @@ use Rattle.ov_history.specs.Briefs.{brief}
 use Rattle.ov_history.specs.Catalogue.{Catalogue, Filed}
 use Rattle.ov_history.specs.Placed.{takes_place}
 use Rattle.ov_history.specs.Rewrites.{Rewrite, files_after, length_left, rewrites_of}
-use Rattle.ov_history.proofs.Placing.{old_size, size_after, sized}
+use Rattle.ov_history.proofs.Placing.{size_after, sized}
 use Rattle.ov_recoat.specs.Laws.{Ascend}
 use Rattle.ov_recoat.proofs.Bytes.{above}
 use Rattle.ov_updating.specs.Files.{file_of, files_of, firsts_of, listed_if}
@@ -143,8 +143,11 @@ module _ (c : Catalogue) (u : SealedUpdate) (a : Asked) (is : IsAskedFor c u a) 
     by_file None none = omega arith
     by_file (Some f) some = is.short n f some
 
-  pub short_before : (n : ℕ) → n < length c.files → length_left (living_at c.files n) ≤ MAX_FILE_BYTES
-  short_before n below = omega (arith, short_after n, old_size c (brief u) n below)
+  pub short_before : (n : ℕ) → length_left (living_at c.files n) ≤ MAX_FILE_BYTES
+  short_before n = by_file (living_at c.files n) refl where
+    by_file : (o : Option Filed) → living_at c.files n ≡ o → length_left o ≤ MAX_FILE_BYTES
+    by_file None none = omega arith
+    by_file (Some f) some = is.was_short n f some
 
   short_rewrite : (r : Rewrite) → Contains a.rewrites r → r.length ≤ MAX_FILE_BYTES
   short_rewrite r there = omega (arith, short_after r.file, sized c (brief u) r (of_update r there))
@@ -217,7 +220,7 @@ module _ (c : Catalogue) (u : SealedUpdate) (a : Asked) (is : IsAskedFor c u a) 
     short = λ k d lt.
         let e = get_or a.held k d in
         let one = of_file c.files a.placed e (is.held.same.back e (k, lt, get_or_default a.held k e d lt)) in
-        omega (arith, one.length_is, blocks_few (length_left (living_at c.files one.file)) (short_before one.file one.below));
+        omega (arith, one.length_is, blocks_few (length_left (living_at c.files one.file)) (short_before one.file));
   }
 
   pub spells : SpellsBodies (body_with a.front) (files_of a.placed a.rewrites)

@@ -1,10 +1,13 @@
--- Where the files of an update's rewrites have gone, and that no two are at one block.
-use Rattle.std.proofs.Common.{◌≡◌, ◌⊎◌, inl, inr, ℕ, ◌<◌, ◌≤◌, List, length, get_or, sym, ◌∙◌, ap, subst, arith}
-use Rattle.std.specs.Prelude.{true, Contains, Option, Some, None, is_some, slice_index_or}
+-- Where the files of an update's rewrites have gone, that no two are at one block, and that none is at
+-- that of a file that is removed.
+use Rattle.std.proofs.Common.{◌≡◌, ◌⊎◌, inl, inr, ℕ, ◌<◌, ◌≤◌, List, length, get_or, refl, sym, ◌∙◌, ap, subst, arith}
+use Rattle.std.specs.Prelude.{true, Contains, IfSome, Option, Some, None, is_some, slice_index_or}
 use Rattle.std.proofs.lemmas.Bool.{cases_lt, ltb-true}
+use Rattle.ov_blocks.specs.Extents.{BeginsOne}
+use Rattle.ov_blocks.specs.declared.extents.Extent.{Extent}
 use Rattle.ov_moves.specs.Bytes.{new_extent}
 use Rattle.ov_moves.specs.Placing.{GoToFree, no_move}
-use Rattle.ov_moves.specs.Releasing.{BeginsOld, no_file}
+use Rattle.ov_moves.specs.Releasing.{BeginsOld, MayGoOn, no_file}
 use Rattle.ov_moves.specs.declared.moves.Move.{Move}
 use Rattle.ov_moves.specs.declared.placing.Placed.{Placed}
 use Rattle.ov_moves.proofs.NewExtents.{blocks_some}
@@ -15,15 +18,16 @@ use Rattle.ov_history.specs.Catalogue.{Catalogue, Filed}
 use Rattle.ov_history.specs.Placed.{placed_after, replaced, takes_place, with_unplaced}
 use Rattle.ov_history.specs.Rewrites.{Rewrite, files_after, length_left}
 use Rattle.ov_history.proofs.ChangeLaws.{below_some}
-use Rattle.ov_history.proofs.Placing.{length-placed_after, length-with_unplaced, old_size, size_after, sized}
+use Rattle.ov_history.proofs.Placing.{grown_size, length-placed_after, length-with_unplaced, size_after, sized}
 use Rattle.ov_history.proofs.Storing.{length-files_after}
 use Rattle.ov_images.specs.Laws.{placed_as}
-use Rattle.ov_updating.specs.Files.{files_of, firsts_of}
+use Rattle.ov_updating.specs.Files.{files_of, first_at, firsts_of, removed_by}
 use Rattle.ov_updating.specs.Updating.{Asked, IsAskedFor}
 use Rattle.ov_updating.proofs.Asking.{in_order, in_order_all, of_update}
 use Rattle.ov_updating.proofs.Origins.{Gives, IsLeftAlone, after_them}
 use Rattle.ov_updating.proofs.Using.{extent, in_use}
 use Rattle.ov_updating.proofs.Listing.{file_is_of}
+use Rattle.ov_updating.proofs.Removing.{placed_still, removed_size}
 
 module _ (c : Catalogue) (u : SealedUpdate) (a : Asked) (is : IsAskedFor c u a) (moves : List Move)
     (go : GoToFree (files_of a.placed a.rewrites) a.held moves) where
@@ -44,7 +48,8 @@ module _ (c : Catalogue) (u : SealedUpdate) (a : Asked) (is : IsAskedFor c u a) 
 
   -- what a file's first block is then
   pub at_after : (P : Option ℕ → Type 0) (n : ℕ) → n < length after → Gives P n a.rewrites moves
-      → (IsLeftAlone n a.rewrites → P (slice_index_or a.placed n None)) → P (slice_index_or placed n None)
+      → (IsLeftAlone n a.rewrites → P (slice_index_or (with_unplaced a.placed (brief u)) n None))
+      → P (slice_index_or placed n None)
   at_after P n below gives alone =
       subst (λ (rs : List Rewrite). P (slice_index_or
       (replaced rs (firsts_of moves) (with_unplaced a.placed (brief u))) n None)) is.rewrites
@@ -112,10 +117,12 @@ module _ (c : Catalogue) (u : SealedUpdate) (a : Asked) (is : IsAskedFor c u a) 
 
   -- ---- first blocks afterwards
 
-  -- the file keeps its first block
+  -- the file keeps its first block, and isn't removed
   pub record IsStaying (n first : ℕ) : Type 0 where
     pub alone : IsLeftAlone n a.rewrites
     pub was : slice_index_or a.placed n None ≡ Some first
+    pub same_size : size n ≡ length_left (living_at c.files n)
+    pub stays : removed_by (brief u) ≡ Some n → ⊥
 
   -- the file has gone there
   pub record IsMoved (n first : ℕ) : Type 0 where
@@ -124,6 +131,17 @@ module _ (c : Catalogue) (u : SealedUpdate) (a : Asked) (is : IsAskedFor c u a) 
     pub file_is : (move at).file ≡ n
     pub to_is : (move at).to ≡ first
 
+  pub staying : (n first : ℕ) → IsLeftAlone n a.rewrites
+      → slice_index_or (with_unplaced a.placed (brief u)) n None ≡ Some first → IsStaying n first
+  staying n first alone at =
+      let still = placed_still c a.placed (brief u) n first is.held.placed_are.many at in
+      record {
+        alone = alone;
+        was = still.was;
+        same_size = grown_size c (brief u) n ∙ still.size_is;
+        stays = still.stays;
+      }
+
   pub origin : (n first : ℕ) → n < length after → slice_index_or placed n None ≡ Some first
       → IsStaying n first ⊎ IsMoved n first
   origin n first below there =
@@ -131,26 +149,32 @@ module _ (c : Catalogue) (u : SealedUpdate) (a : Asked) (is : IsAskedFor c u a) 
         (λ r inside same takes x none. absurd (cc none)),
         (λ k lt same x some. inr (record { at = k; below = lt; file_is = same; to_is = cc some })),
       )
-      (λ alone x was. inl (record { alone = alone; was = was })) first there
+      (λ alone x at. inl (staying n x alone at)) first there
 
   pub was_below : (n first : ℕ) → slice_index_or a.placed n None ≡ Some first → n < length c.files
   was_below n first at =
       omega (arith, below_some a.placed n (ap (λ (o : Option ℕ). is_some o) at), is.held.placed_are.many)
 
   -- the extent of a file that had one is held before
-  pub was_held : (n first : ℕ) → slice_index_or a.placed n None ≡ Some first → Contains a.held (extent first (size n))
-  was_held n first at =
-      let below = was_below n first at in
-      subst (λ (s : ℕ). Contains a.held (extent first s)) (sym (old_size c (brief u) n below))
-      (is.held.same.there (extent first (length_left (living_at c.files n)))
-      (in_use c.files a.placed n first is.held.placed_are.many below at))
+  pub held_before : (n first : ℕ) → slice_index_or a.placed n None ≡ Some first
+      → Contains a.held (extent first (length_left (living_at c.files n)))
+  held_before n first at =
+      is.held.same.there (extent first (length_left (living_at c.files n)))
+      (in_use c.files a.placed n first is.held.placed_are.many (was_below n first at) at)
 
-  pub was_some : (n first : ℕ) → slice_index_or a.placed n None ≡ Some first → 1 ≤ size n
-  was_some n first at =
-      let below = was_below n first at in
+  pub some_before : (n first : ℕ) → slice_index_or a.placed n None ≡ Some first
+      → 1 ≤ length_left (living_at c.files n)
+  some_before n first at =
       let takes : takes_place (length_left (living_at c.files n)) ≡ true =
-      sym (is.held.placed_are.each n below) ∙ ap (λ (o : Option ℕ). is_some o) at in
-      omega (arith, ltb-true 0 (length_left (living_at c.files n)) takes, old_size c (brief u) n below)
+      sym (is.held.placed_are.each n (was_below n first at)) ∙ ap (λ (o : Option ℕ). is_some o) at in
+      omega (arith, ltb-true 0 (length_left (living_at c.files n)) takes)
+
+  pub was_held : (n first : ℕ) → IsStaying n first → Contains a.held (extent first (size n))
+  was_held n first stays =
+      subst (λ (s : ℕ). Contains a.held (extent first s)) (sym stays.same_size) (held_before n first stays.was)
+
+  was_some : (n first : ℕ) → IsStaying n first → 1 ≤ size n
+  was_some n first stays = omega (arith, some_before n first stays.was, stays.same_size)
 
   -- no rewritten file begins where one begins that stays
   pub begins_apart : (n first : ℕ) → IsStaying n first → BeginsOld (length files) files first → ⊥
@@ -172,8 +196,8 @@ module _ (c : Catalogue) (u : SealedUpdate) (a : Asked) (is : IsAskedFor c u a) 
   stays_or_goes n other first stays goes =
       let m = move_of goes.at goes.below in
       let one = blocks_some (move goes.at).length (omega (arith, m.length_is, m.some)) in
-      let two = blocks_some (size n) (was_some n first stays.was) in
-      elim (go.old_apart (extent first (size n)) goes.at no_move (was_held n first stays.was) goes.below) [
+      let two = blocks_some (size n) (was_some n first stays) in
+      elim (go.old_apart (extent first (size n)) goes.at no_move (was_held n first stays) goes.below) [
         | inl before ↦ omega (arith, before, goes.to_is, one)
         | inr behind ↦ omega (arith, behind, goes.to_is, two)
       ]
@@ -212,3 +236,74 @@ module _ (c : Catalogue) (u : SealedUpdate) (a : Asked) (is : IsAskedFor c u a) 
           | inr other_goes ↦ goes_once n other first lt goes other_goes
         ]
       ]
+
+  -- ---- a file that is removed
+
+  -- the file that the update removes, with its first block
+  pub record IsRemovedAt (first : ℕ) : Type 0 where
+    pub file : ℕ
+    pub removed : removed_by (brief u) ≡ Some file
+    pub was : slice_index_or a.placed file None ≡ Some first
+
+  removed_at : (first : ℕ) → first_at a.placed a.removed ≡ Some first → IsRemovedAt first
+  removed_at first at =
+      by_number (removed_by (brief u)) refl (ap (first_at a.placed) (sym is.removed) ∙ at) where
+        by_number : (o : Option ℕ) → removed_by (brief u) ≡ o → first_at a.placed o ≡ Some first → IsRemovedAt first
+        by_number None none at = absurd (cc at)
+        by_number (Some file) some at = record { file = file; removed = some; was = at }
+
+  -- files that had one block are the same
+  same_file : (n other first : ℕ) → slice_index_or a.placed n None ≡ Some first
+      → slice_index_or a.placed other None ≡ Some first → n ≡ other
+  same_file n other first one two = elim (cases_lt n other) [
+    | inl less ↦ absurd (is.held.apart n other first less one two)
+    | inr more ↦ elim (cases_lt other n) [
+      | inl less ↦ absurd (is.held.apart other n first less two one)
+      | inr le ↦ omega (arith, more, le)
+    ]
+  ]
+
+  -- no file that stays has its block
+  pub stays_beside : (n first : ℕ) → IsStaying n first → first_at a.placed a.removed ≡ Some first → ⊥
+  stays_beside n first stays at =
+      let gone = removed_at first at in
+      stays.stays (gone.removed ∙ ap (λ (m : ℕ). Some m) (same_file gone.file n first gone.was stays.was))
+
+  -- no new extent begins there
+  pub goes_beside : (k : ℕ) → k < length moves → first_at a.placed a.removed ≡ Some (move k).to → ⊥
+  goes_beside k lt at =
+      let gone = removed_at (move k).to at in
+      let long : ℕ = length_left (living_at c.files gone.file) in
+      let m = move_of k lt in
+      let one = blocks_some (move k).length (omega (arith, m.length_is, m.some)) in
+      let two = blocks_some long (some_before gone.file (move k).to gone.was) in
+      elim (go.old_apart (extent (move k).to long) k no_move (held_before gone.file (move k).to gone.was) lt) [
+        | inl before ↦ omega (arith, before, one)
+        | inr behind ↦ omega (arith, behind, two)
+      ]
+
+  -- and no rewritten file began there
+  begun_beside : (first : ℕ) → first_at a.placed a.removed ≡ Some first → BeginsOld (length files) files first → ⊥
+  begun_beside first at (k, lt, there) =
+      let gone = removed_at first at in
+      let f = file_is_of a.placed a.rewrites k no_file lt in
+      let begun : slice_index_or a.placed f.rewrite.file None ≡ Some first =
+      sym (ap (λ (g : Placed). g.first) f.file_is) ∙ there in
+      omega (
+        arith,
+        f.some,
+        sized c (brief u) f.rewrite (of_update c u a is f.rewrite f.there),
+        ap size (same_file f.rewrite.file gone.file first begun gone.was),
+        removed_size c (brief u) gone.file gone.removed,
+      )
+
+  -- so its extent is held until it is given up
+  pub removed_held : (held : List Extent) → MayGoOn files a.held held moves
+      → IfSome (first_at a.placed a.removed) (BeginsOne held)
+  removed_held held on = by_first (first_at a.placed a.removed) refl where
+    by_first : (o : Option ℕ) → first_at a.placed a.removed ≡ o → IfSome o (BeginsOne held)
+    by_first None none = tt
+    by_first (Some first) at =
+        let gone = removed_at first at in
+        let e : Extent = extent first (length_left (living_at c.files gone.file)) in
+        (e, on.others e (held_before gone.file first gone.was) (begun_beside first at), refl)

@@ -1,6 +1,6 @@
 -- An image that kept a history keeps it, or it with the update.
 use Rattle.std.proofs.Common.{◌≡◌, inl, inr, ℕ, ◌+◌, ◌*◌, ◌<◌, ◌≤◌, List, [], ◌++◌, length, refl, sym, ◌∙◌, ap, subst, arith}
-use Rattle.std.specs.Prelude.{Contains, IfOk, Result, Ok, Err, Option, Some, None, slice_index_or}
+use Rattle.std.specs.Prelude.{Contains, Option, Some, None, slice_index_or}
 use Rattle.std.specs.List.{flat_map}
 use Rattle.ov_disk.specs.Disk.{Image}
 use Rattle.ov_disk.specs.Tells.{DiskTells}
@@ -194,10 +194,3 @@ lasts tells master a disk i moves go made = record {
   keeps = keeps_with master a i made.now moves go made.stands;
   grows = made.stands.blobs.grows;
 }
-
--- ---- answers
-
-pub both_ok : {T E : Type 0} (r : Result T E) (P Q R : T → Type 0) → IfOk r P → IfOk r Q
-    → ((x : T) → P x → Q x → R x) → IfOk r R
-both_ok (Ok x) P Q R p q both = both x p q
-both_ok (Err e) P Q R p q both = q

@@ -1,16 +1,15 @@
 -- Where the first block of each file comes from after an update: from before, or from its move.
-use Rattle.std.proofs.Common.{◌≡◌, ◌⊎◌, inl, inr, ℕ, zero, suc, ◌<◌, ◌≤◌, List, [], ◌∷◌, ◌++◌, length, get_or, refl, sym, ◌∙◌, ap, subst, arith}
+use Rattle.std.proofs.Common.{◌≡◌, ◌⊎◌, inl, inr, ℕ, suc, ◌<◌, List, [], ◌∷◌, length, get_or, refl, ◌∙◌, ap, arith}
 use Rattle.std.specs.Prelude.{Bool, true, false, Contains, Option, Some, None, slice_index_or}
-use Rattle.std.proofs.lemmas.Bool.{cases_eq, cases_lt}
-use Rattle.std.proofs.lemmas.List.{get_or_past}
+use Rattle.std.proofs.lemmas.Bool.{cases_eq}
 use Rattle.ov_graph.proofs.ListLaws.{Contains-cases, Contains-first, Contains-later, Contains-none}
 use Rattle.ov_moves.specs.Placing.{AreMovesOf, no_move}
 use Rattle.ov_moves.specs.declared.moves.Move.{Move}
 use Rattle.ov_moves.specs.declared.placing.Placed.{Placed}
-use Rattle.ov_history.specs.Briefs.{Brief, BriefEnrol, BriefCreate, BriefGrant, BriefRevoke}
+use Rattle.ov_history.specs.Briefs.{Brief}
 use Rattle.ov_history.specs.Rewrites.{Rewrite}
 use Rattle.ov_history.specs.Placed.{first_if, left_if, replaced, takes_place, with_unplaced}
-use Rattle.ov_history.proofs.Placing.{AllGive, at-replaced, unplaced_stays}
+use Rattle.ov_history.proofs.Placing.{AllGive, at-replaced}
 use Rattle.ov_updating.specs.Files.{file_of, files_of, firsts_of, listed_if}
 use Rattle.ov_updating.proofs.Taking.{first_move, other_moves}
 
@@ -83,36 +82,16 @@ module _ (P : Option ℕ → Type 0) (n : ℕ) where
 
 -- ---- one file
 
--- a file behind those that were there has no first block yet
-none_behind : (placed : List (Option ℕ)) (b : Brief) (n : ℕ) → length placed ≤ n
-    → slice_index_or (with_unplaced placed b) n None ≡ None
-none_behind placed (BriefEnrol user) n past = get_or_past placed n None past
-none_behind placed (BriefCreate file list tokens tag size) n past = none_more placed n past where
-  none_more : (xs : List (Option ℕ)) (m : ℕ) → length xs ≤ m → slice_index_or (xs ++ None ∷ []) m None ≡ None
-  none_more [] zero le = refl
-  none_more [] (suc m) le = refl
-  none_more (x ∷ xs) zero le = absurd (omega (arith, le))
-  none_more (x ∷ xs) (suc m) le = none_more xs m (omega (arith, le))
-none_behind placed (BriefGrant user file token) n past = get_or_past placed n None past
-none_behind placed (BriefRevoke user file) n past = get_or_past placed n None past
-
--- before the rewrites a file has the first block that it had
-pub before_them : (placed : List (Option ℕ)) (b : Brief) (n : ℕ)
-    → slice_index_or (with_unplaced placed b) n None ≡ slice_index_or placed n None
-before_them placed b n = elim (cases_lt n (length placed)) [
-  | inl low ↦ unplaced_stays placed b n low
-  | inr past ↦ none_behind placed b n past ∙ sym (get_or_past placed n None past)
-]
-
--- what each rewrite of the file gives, and what it had where there is none, it has after them
+-- what each rewrite of the file gives, and what it has before them where there is none, it has after
+-- them
 pub after_them : (P : Option ℕ → Type 0) (n : ℕ) (placed : List (Option ℕ)) (b : Brief) (rewrites : List Rewrite)
     (moves : List Move) → AreMovesOf (files_of placed rewrites) moves → n < length (with_unplaced placed b)
-    → Gives P n rewrites moves → (IsLeftAlone n rewrites → P (slice_index_or placed n None))
+    → Gives P n rewrites moves → (IsLeftAlone n rewrites → P (slice_index_or (with_unplaced placed b) n None))
     → P (slice_index_or (replaced rewrites (firsts_of moves) (with_unplaced placed b)) n None)
 after_them P n placed b rewrites moves are below gives alone =
     at-replaced P n rewrites (firsts_of moves) (with_unplaced placed b) below
     (all_give P n placed rewrites moves are gives)
     (elim (rewritten_or_not n rewrites) [
       | inl is ↦ inr (is.rewrite, is.there, is.file_is)
-      | inr not ↦ inl (subst P (sym (before_them placed b n)) (alone not))
+      | inr not ↦ inl (alone not)
     ])

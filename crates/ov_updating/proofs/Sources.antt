@@ -3,17 +3,17 @@ use Rattle.std.proofs.Common.{◌≡◌, ◌⊎◌, inl, inr, ℕ, ◌+◌, ◌<
 use Rattle.std.specs.Prelude.{Contains, Option, Some, None, is_some}
 use Rattle.std.proofs.lemmas.Bool.{cases_lt}
 use Rattle.std.proofs.Math.Seq.{get_or-append_seam}
-use Rattle.ov_record.specs.Updates.{SealedUpdate, SealedEnrol, SealedCreate, SealedGrant, SealedRevoke}
-use Rattle.ov_history.specs.Layers.{lists_after, lists_of, node_for, wants_of, with_wants}
-use Rattle.ov_history.specs.Places.{living_at}
-use Rattle.ov_history.specs.Briefs.{Brief, brief, outer, text_of}
-use Rattle.ov_history.specs.Catalogue.{Catalogue, Filed, grown_catalogue, outline}
+use Rattle.ov_record.specs.Updates.{SealedUpdate, SealedEnrol, SealedCreate, SealedGrant, SealedRevoke, SealedRemove}
+use Rattle.ov_history.specs.Layers.{node_for}
+use Rattle.ov_history.specs.Places.{gone, living_at}
+use Rattle.ov_history.specs.Briefs.{Brief, brief, text_of}
+use Rattle.ov_history.specs.Catalogue.{Catalogue, Filed, grown_catalogue}
 use Rattle.ov_history.specs.Rewrites.{Rewrite, files_after, length_left, rewrites_of}
-use Rattle.ov_history.proofs.ChangeLaws.{below_some}
-use Rattle.ov_history.proofs.Living.{settled-length}
-use Rattle.ov_history.proofs.Placing.{old_size, size_after, sized}
+use Rattle.ov_history.proofs.ChangeLaws.{below_some, length-change_at}
+use Rattle.ov_history.proofs.Placing.{grown_size, sized}
 use Rattle.ov_history.proofs.RewriteLaws.{rewrites_are_exact}
 use Rattle.ov_history.proofs.Storing.{length-files_after}
+use Rattle.ov_updating.proofs.Removing.{living_size}
 
 -- the file was there, with as many bytes
 pub record IsOld (c : Catalogue) (r : Rewrite) : Type 0 where
@@ -37,13 +37,14 @@ file_below c b r there = elim ((rewrites_are_exact c b r).0 there) [
       below_some (files_after c b) r.file (ap (λ (o : Option Filed). is_some o) is)
 ]
 
--- no update makes a file longer or shorter
-pub grown_size : (c : Catalogue) (b : Brief) (n : ℕ)
-    → size_after c b n ≡ length_left (living_at (grown_catalogue c b).files n)
-grown_size c b n =
-    let next : Catalogue = grown_catalogue c b in
-    let wants : List (Option ℕ) = wants_of (outline next) (lists_after (lists_of (outline c)) (outer b)) in
-    settled-length next.epoch (with_wants next.surface.sets wants) wants next.files n
+-- a file that was there before its rewrite is as long as it was
+was_as_long : (c : Catalogue) (b : Brief) (r : Rewrite) → Contains (rewrites_of c b) r → r.file < length c.files
+    → length_left (living_at c.files r.file) ≡ r.length
+was_as_long c b r there below = elim ((rewrites_are_exact c b r).0 there) [
+  | inl (f, now, was, is, other, same) ↦
+      sym (ap (λ (s : Rewrite). s.length) same ∙ living_size c b r.file now below is)
+  | inr (now, past, gone, is, same) ↦ absurd (omega (arith, past, below))
+]
 
 -- there are no fewer files, and one more at most
 pub no_fewer : (c : Catalogue) (u : SealedUpdate) → length c.files ≤ length (files_after c (brief u))
@@ -53,6 +54,8 @@ no_fewer c (SealedCreate file list tokens tag text) =
     omega (arith, length-files_after c (brief (SealedCreate file list tokens tag text)), length-append c.files (f ∷ []))
 no_fewer c (SealedGrant user file token) = omega (arith, length-files_after c (brief (SealedGrant user file token)))
 no_fewer c (SealedRevoke user file) = omega (arith, length-files_after c (brief (SealedRevoke user file)))
+no_fewer c (SealedRemove file) =
+    omega (arith, length-files_after c (brief (SealedRemove file)), length-change_at gone file c.files)
 
 new_file : (c : Catalogue) (u : SealedUpdate) (r : Rewrite) → length c.files ≤ r.file
     → r.file < length (grown_catalogue c (brief u)).files
@@ -72,16 +75,17 @@ new_file c (SealedCreate file list tokens tag text) r past below size =
     }
 new_file c (SealedGrant user file token) r past below size = absurd (omega (arith, past, below))
 new_file c (SealedRevoke user file) r past below size = absurd (omega (arith, past, below))
+new_file c (SealedRemove file) r past below size =
+    absurd (omega (arith, past, below, length-change_at gone file c.files))
 
 pub source : (c : Catalogue) (u : SealedUpdate) (r : Rewrite) → Contains (rewrites_of c (brief u)) r
     → IsOld c r ⊎ IsNew c u r
 source c u r there =
-    let long = sized c (brief u) r there in
     elim (cases_lt r.file (length c.files)) [
-      | inl old ↦ inl (record { below = old; size = sym (long ∙ old_size c (brief u) r.file old) })
+      | inl old ↦ inl (record { below = old; size = was_as_long c (brief u) r there old })
       | inr past ↦
           inr
           (new_file c u r past
           (omega (arith, file_below c (brief u) r there, length-files_after c (brief u)))
-          (long ∙ grown_size c (brief u) r.file))
+          (sized c (brief u) r there ∙ grown_size c (brief u) r.file))
     ]

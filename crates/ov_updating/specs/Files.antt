@@ -1,11 +1,12 @@
--- The files whose bytes an update writes, and the extents that files have.
+-- The files whose bytes an update writes, the file that it removes, and the extents that files have.
 use Rattle.std.specs.Prelude.{◌≡◌, ℕ, ◌<◌, ◌≤◌, Bool, true, false, List, [], ◌∷◌, length}
 use Rattle.std.specs.Prelude.{slice_index_or, Option, Some, None}
 use Rattle.ov_blocks.specs.declared.extents.Extent.{Extent}
 use Rattle.ov_moves.specs.declared.moves.Move.{Move}
 use Rattle.ov_moves.specs.declared.placing.Placed.{Placed}
+use Rattle.ov_history.specs.Briefs.{Brief, BriefEnrol, BriefCreate, BriefGrant, BriefRevoke}
+use Rattle.ov_history.specs.Briefs.{BriefRemove}
 use Rattle.ov_history.specs.Catalogue.{Filed}
-use Rattle.ov_history.specs.Places.{living_at}
 use Rattle.ov_history.specs.Placed.{ArePlaced, takes_place}
 use Rattle.ov_history.specs.Rewrites.{Rewrite}
 use Rattle.ov_history.specs.Texts.{lengths_of}
@@ -33,18 +34,27 @@ abbrev pub firsts_of : List Move → List ℕ
 firsts_of [] = []
 firsts_of (m ∷ moves) = m.to ∷ firsts_of moves
 
+-- ---- a file that is removed
+
+-- the number of the file that the update removes, where it removes one
+abbrev pub removed_by : Brief → Option ℕ
+removed_by (BriefEnrol user) = None
+removed_by (BriefCreate file list tokens tag size) = None
+removed_by (BriefGrant user file token) = None
+removed_by (BriefRevoke user file) = None
+removed_by (BriefRemove file) = Some file
+
+-- the first block of the file of this number, where there is a number and the file has a block
+abbrev pub first_at : List (Option ℕ) → Option ℕ → Option ℕ
+first_at placed None = None
+first_at placed (Some file) = slice_index_or placed file None
+
 -- ---- what files have
 
--- none of these files is gone
-abbrev pub AreThere : List (Option Filed) → Type 0
-AreThere files =
-    (file : ℕ) → file < length files → (f : Filed) × (living_at files file ≡ Some f)
-
--- Just the extents of these files are held, by these first blocks. Each file with a byte has one,
--- and no two have theirs at the same block.
+-- Just the extents of these files are held, by these first blocks. Each file with a byte has one, and
+-- no two have theirs at the same block. Files that are gone have none.
 pub record AreHeldFor (files : List (Option Filed)) (placed : List (Option ℕ)) (held : List Extent)
     : Type 0 where
-  pub there : AreThere files
   pub placed_are : ArePlaced files placed
   pub same : HaveSameExtents (extents_of (lengths_of files) placed) held
   pub apart : (file other first : ℕ) → file < other

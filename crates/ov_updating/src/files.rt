@@ -1,8 +1,8 @@
-//! The files whose bytes an update writes.
+//! The files whose bytes an update writes, and the file that it removes.
 ghost use Rattle.std.specs.Prelude.{◌≡◌, ◌++◌, [], IfOk, OnOk, slice_index_or};
 ghost use Rattle.ov_history.specs.Placed.{takes_place};
 ghost use Rattle.ov_state.specs.Entries.{plain_rewrite, plain_rewrites};
-ghost use Rattle.ov_updating.specs.Files.{file_of, files_of, listed_if};
+ghost use Rattle.ov_updating.specs.Files.{file_of, files_of, first_at, listed_if};
 
 use ov_base::Memory;
 use ov_moves::Placed;
@@ -15,6 +15,16 @@ fn first_of(placed: &[Option<u32>], file: u32) -> Option<u32>
 {
     match placed.get(file as usize) {
         Some(first) => *first,
+        None => None,
+    }
+}
+
+/// The first block of the file of this number, where there is a number and the file has a block.
+pub(crate) fn first_at(placed: &[Option<u32>], file: Option<u32>) -> Option<u32>
+    ensures { result ≡ first_at placed.now file }
+{
+    match file {
+        Some(file) => first_of(placed, file),
         None => None,
     }
 }

@@ -3,7 +3,7 @@ use Rattle.ov_disk.proofs.Runs.{looks_then, untouched}
 use Rattle.ov_record.specs.Forms.{Form}
 use Rattle.ov_history.specs.Briefs.{brief}
 use Rattle.ov_images.specs.Damage.{BeginsWith}
-use Rattle.ov_store.specs.Owners.{FollowsUpdate, masters}
+use Rattle.ov_store.specs.Owners.{FollowsUpdate, is_gone_in, masters}
 use Rattle.ov_store.proofs.Checking.{as_many, followed_all, followed_more, followed_none}
 use Rattle.ov_store.proofs.Checking.{found_false}
 use Rattle.ov_store.proofs.Replays.{next_body}
@@ -69,7 +69,9 @@ returns-then-not-branch-clause-checked g c = λ d read h history.
     c.records.state.catalogue (c.records.invariant.made d read h history) c.as_slice-body.result.now
     (next d read) c.follow_record.new.state.catalogue c.offset.result
     (λ u begins text taken. subst (λ (b : Bool).
-    FollowsUpdate k c.records.state.catalogue u c.follow_record.new.state.catalogue b) no
+    FollowsUpdate k c.records.state.catalogue
+    (is_gone_in c.args.placed.now.catalogue (length c.records.state.catalogue.files)) u
+    c.follow_record.new.state.catalogue b) no
     (c.in_ok-follow_record.ensures.followed d (c.body.ensures.untouched.reads_same ∙ again) u
     (subst (λ (form : Form). BeginsWith form (brief u) c.as_slice-body.result.now)
     (sym c.format_of-format.ensures) begins) text taken))
@@ -107,7 +109,9 @@ records-preserved g c =
           c.records.state.catalogue (c.records.invariant.made d read h history)
           c.as_slice-body.result.now (next d read) c.follow_record.new.state.catalogue
           (λ u begins text taken. subst (λ (b : Bool).
-          FollowsUpdate k c.records.state.catalogue u c.follow_record.new.state.catalogue b) yes
+          FollowsUpdate k c.records.state.catalogue
+          (is_gone_in c.args.placed.now.catalogue (length c.records.state.catalogue.files)) u
+          c.follow_record.new.state.catalogue b) yes
           (c.in_ok-follow_record.ensures.followed d (c.body.ensures.untouched.reads_same ∙ again) u
           (subst (λ (form : Form). BeginsWith form (brief u) c.as_slice-body.result.now)
           (sym c.format_of-format.ensures) begins) text taken));

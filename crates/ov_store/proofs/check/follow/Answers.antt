@@ -12,7 +12,7 @@ returns-then-not-branch c taken =
     let tells = c.in_ok-is_owners.ensures k refl taken in
     let no : c.in_ok-is_owners.field-0 ≡ false = search rules in
     subst (λ (b : Bool).
-    TellsOwners k (outline c.args.state.now.catalogue) (sealed_update c.args.update) b) no tells
+    TellsOwners k (outline c.args.state.now.catalogue) c.args.gone (sealed_update c.args.update) b) no tells
 
 pub returns-in-Ok : goal.returns-in-Ok
 returns-in-Ok c taken =
@@ -20,7 +20,7 @@ returns-in-Ok c taken =
     let tells = c.in_ok-is_owners.ensures k refl taken in
     let yes : c.in_ok-is_owners.field-0 ≡ true = search rules in
     let owners = subst (λ (b : Bool).
-    TellsOwners k (outline c.args.state.now.catalogue) (sealed_update c.args.update) b) yes tells in
+    TellsOwners k (outline c.args.state.now.catalogue) c.args.gone (sealed_update c.args.update) b) yes tells in
     let made : c.commit.new.self.catalogue
     ≡ catalogue_after c.args.surface.now.bytes c.args.state.now.catalogue
     (brief (sealed_update c.args.update)) =

@@ -7,12 +7,14 @@ use Rattle.ov_graph.specs.Contents.{Contents}
 use Rattle.ov_base_layer.specs.Seals.{access_token}
 use Rattle.ov_history.specs.Catalogue.{Nodes, outline}
 use Rattle.ov_history.specs.Layers.{node_of, root_of}
+use Rattle.ov_record.specs.Updates.{SealedGrant}
 use Rattle.ov_state.specs.Entries.{plain_file}
-use Rattle.ov_store.proofs.OwnersLaws.{both_there, grant_others, grant_owners, is_there, node_there, token_for}
+use Rattle.ov_store.proofs.OwnersLaws.{both_there, grant_others, grant_owners, is_there, node_there}
+use Rattle.ov_store.proofs.OwnersLaws.{owners_whole, token_for}
 use Rattle.ov_store.proofs.owners.is_grant.Goals as goal
 
 pub returns-in-None : goal.returns-in-None
-returns-in-None c = λ k same taken owners.
+returns-in-None c = λ k gone same taken owners.
     let low = (both_there k c.args.state.now.catalogue c.args.user c.args.file c.args.token.now
     taken).1 in
     let none : living_at c.args.state.now.catalogue.files c.args.file ≡ None = search rules in
@@ -28,7 +30,7 @@ root-root-requires-clause-there c =
     (c.known.ensures.sound.base.rooted c.args.user low)
 
 pub returns-then-ne : goal.returns-then-ne
-returns-then-ne c = λ k same taken.
+returns-then-ne c = λ k gone same taken.
     let sets : c.graph.result.now.sets ≡ c.args.state.now.catalogue.base.sets =
     ap (λ (g : Contents). g.sets) c.graph.ensures
     ∙ ap (λ (n : Nodes). n.sets) c.base.ensures.nodes in
@@ -43,11 +45,11 @@ returns-then-ne c = λ k same taken.
     c.args.file =
     c.seal_access-sealed.ensures ∙ (λ j. access_token (sym same j) (root j) (node j)) in
     let apart : c.args.token.now.bytes ≡ c.seal_access-sealed.result.bytes → ⊥ = search rules in
-    grant_others k c.args.state.now.catalogue c.args.user c.args.file c.args.token.now taken
+    grant_others k c.args.state.now.catalogue c.args.user c.args.file c.args.token.now taken gone
     (λ e. apart (ap (λ (t : Token). t.bytes) (e ∙ sym sealed)))
 
 pub returns : goal.returns
-returns c = λ k same taken.
+returns c = λ k gone same taken.
     let sets : c.graph.result.now.sets ≡ c.args.state.now.catalogue.base.sets =
     ap (λ (g : Contents). g.sets) c.graph.ensures
     ∙ ap (λ (n : Nodes). n.sets) c.base.ensures.nodes in
@@ -64,5 +66,7 @@ returns c = λ k same taken.
     let bytes : c.args.token.now.bytes ≡ c.seal_access-sealed.result.bytes = search rules in
     let equal : c.args.token.now ≡ c.seal_access-sealed.result =
     λ j. record { bytes = bytes j } in
-    grant_owners k c.args.state.now.catalogue c.args.user c.args.file c.args.token.now taken (equal
-    ∙ sealed)
+    owners_whole k (outline c.args.state.now.catalogue) gone
+    (SealedGrant c.args.user c.args.file (Some c.args.token.now))
+    (grant_owners k c.args.state.now.catalogue c.args.user c.args.file c.args.token.now taken (equal
+    ∙ sealed))

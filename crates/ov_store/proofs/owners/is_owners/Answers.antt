@@ -2,14 +2,15 @@ use Rattle.std.proofs.Common.{◌≡◌, sym, ◌∙◌, ap, subst}
 use Rattle.std.specs.Prelude.{Some, None, Option}
 use Rattle.ov_base.specs.declared.limits.TheConstants.{SET_WORDS}
 use Rattle.ov_tokens.specs.declared.token.Token.{Token}
-use Rattle.ov_record.specs.Updates.{sealed_update}
+use Rattle.ov_record.specs.Updates.{SealedGrant, sealed_update}
 use Rattle.ov_record.specs.declared.update.Update.{Update}
 use Rattle.ov_record.specs.declared.update.Update.TheVariants.{Grant}
 use Rattle.ov_history.specs.Briefs.{brief}
 use Rattle.ov_history.specs.Catalogue.{outline}
 use Rattle.ov_state.specs.Plans.{IsTaken}
 use Rattle.ov_store.specs.Owners.{IsOwners, TellsOwners}
-use Rattle.ov_store.proofs.OwnersLaws.{bare_owners, enrol_owners, revoke_owners}
+use Rattle.ov_store.proofs.OwnersLaws.{bare_owners, enrol_owners, owners_whole, remove_owners}
+use Rattle.ov_store.proofs.OwnersLaws.{revoke_owners}
 use Rattle.ov_store.proofs.owners.is_owners.Goals as goal
 
 pub returns-in-Some : goal.returns-in-Some
@@ -17,10 +18,10 @@ returns-in-Some c = λ k same taken.
     let up : c.args.update.now ≡ Grant c.in-Grant.user c.in-Grant.file (Some c.in-Some.token) =
     c.in-Grant.is
     ∙ ap (λ (t : Option Token). Grant c.in-Grant.user c.in-Grant.file t) c.in-Some.is in
-    subst (λ (u : Update SET_WORDS). TellsOwners k (outline c.args.state.now.catalogue) (sealed_update u)
+    subst (λ (u : Update SET_WORDS). TellsOwners k (outline c.args.state.now.catalogue) c.args.gone (sealed_update u)
     c.is_grant.result)
     (sym up)
-    (c.is_grant.ensures k same
+    (c.is_grant.ensures k c.args.gone same
     (subst (λ (u : Update SET_WORDS). IsTaken c.args.state.now.catalogue (brief (sealed_update u))) up
     taken))
 
@@ -29,20 +30,28 @@ returns-in-None c = λ k same taken.
     let up : c.args.update.now ≡ Grant c.in-Grant.user c.in-Grant.file None =
     c.in-Grant.is
     ∙ ap (λ (t : Option Token). Grant c.in-Grant.user c.in-Grant.file t) c.in-None.is in
-    subst (λ (u : Update SET_WORDS). IsOwners k (outline c.args.state.now.catalogue) (sealed_update u)) (sym
+    subst (λ (u : Update SET_WORDS). IsOwners k (outline c.args.state.now.catalogue) c.args.gone (sealed_update u)) (sym
     up)
+    (owners_whole k (outline c.args.state.now.catalogue) c.args.gone
+    (SealedGrant c.in-Grant.user c.in-Grant.file None)
     (bare_owners k c.args.state.now.catalogue c.in-Grant.user c.in-Grant.file
     (subst (λ (u : Update SET_WORDS). IsTaken c.args.state.now.catalogue (brief (sealed_update u))) up
-    taken))
+    taken)))
 
 pub returns-in-Enrol : goal.returns-in-Enrol
 returns-in-Enrol c = λ k same taken.
-    subst (λ (u : Update SET_WORDS). IsOwners k (outline c.args.state.now.catalogue) (sealed_update u)) (sym
+    subst (λ (u : Update SET_WORDS). IsOwners k (outline c.args.state.now.catalogue) c.args.gone (sealed_update u)) (sym
     c.in-Enrol.is)
-    (enrol_owners k c.args.state.now.catalogue c.in-Enrol.name)
+    (enrol_owners k c.args.state.now.catalogue c.args.gone c.in-Enrol.name)
 
 pub returns-in-Revoke : goal.returns-in-Revoke
 returns-in-Revoke c = λ k same taken.
-    subst (λ (u : Update SET_WORDS). IsOwners k (outline c.args.state.now.catalogue) (sealed_update u)) (sym
+    subst (λ (u : Update SET_WORDS). IsOwners k (outline c.args.state.now.catalogue) c.args.gone (sealed_update u)) (sym
     c.in-Revoke.is)
-    (revoke_owners k c.args.state.now.catalogue c.in-Revoke.user c.in-Revoke.file)
+    (revoke_owners k c.args.state.now.catalogue c.args.gone c.in-Revoke.user c.in-Revoke.file)
+
+pub returns-in-Remove : goal.returns-in-Remove
+returns-in-Remove c = λ k same taken.
+    subst (λ (u : Update SET_WORDS). IsOwners k (outline c.args.state.now.catalogue) c.args.gone (sealed_update u)) (sym
+    c.in-Remove.is)
+    (remove_owners k c.args.state.now.catalogue c.args.gone c.in-Remove.file)
