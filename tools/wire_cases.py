@@ -20,7 +20,7 @@ NAME = NAME_FIRST + b"._-"
 USER, NODE, FILE, BYTES = 1023, 4095, 16383, 16777216
 USERS, SET_BYTES = USER + 1, 128
 ENROL, CREATE = (1, 7, 10, 11), (1, 2, 8, 9, 10, 11)
-GRANT, REVOKE, REMOVE, READ = (2, 3, 5, 10, 11), (2, 3, 6, 10, 11), (3, 10, 11), (2, 3, 4)
+GRANT, REVOKE, REMOVE, READ = (2, 3, 5, 10, 11), (2, 3, 6, 10, 11), (3, 11), (2, 3, 4)
 
 
 class Wrong(Exception):

@@ -5,4 +5,5 @@ pub mod OneAnswer
 pub mod OneReply
 pub mod Reading
 pub mod Leaving
+pub mod Removing
 mod Rows

@@ -39,9 +39,9 @@ grant_refusals = NoUser ∷ NoFile ∷ Listed ∷ NodesFull ∷ Spent ∷ []
 abbrev pub revoke_refusals : List Refusal
 revoke_refusals = NoUser ∷ NoFile ∷ NotListed ∷ NodesFull ∷ Spent ∷ []
 
--- the refusals of a removal
+-- the refusals of a removal, which needs no node
 abbrev pub remove_refusals : List Refusal
-remove_refusals = NoFile ∷ NodesFull ∷ Spent ∷ []
+remove_refusals = NoFile ∷ Spent ∷ []
 
 -- the refusals of a reading
 abbrev pub read_refusals : List Refusal

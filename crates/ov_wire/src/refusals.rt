@@ -62,11 +62,11 @@ fn revoke_refusals() -> &'static [Refusal]
     ]
 }
 
-/// The refusals of a removal.
+/// The refusals of a removal, which needs no node.
 fn remove_refusals() -> &'static [Refusal]
     ensures { result.now ≡ remove_refusals }
 {
-    &[Refusal::NoFile, Refusal::NodesFull, Refusal::Spent]
+    &[Refusal::NoFile, Refusal::Spent]
 }
 
 /// The refusals of a reading.
