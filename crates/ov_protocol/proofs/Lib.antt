@@ -1,3 +1,4 @@
+pub mod Following
 pub mod GoingOn
 pub mod Untold
 pub mod OneChain
