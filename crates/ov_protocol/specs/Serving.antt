@@ -56,15 +56,15 @@ pub record IsService (s : Serving) (v : Service) : Type 0 where
 abbrev pub brief_in : Catalogue → SealedUpdate → Brief
 brief_in c u = numbered_brief (file_names_shown c) (brief u)
 
--- the catalogue after these updates, each spelled to the server after those before it, under the
--- surface master
+-- the catalogue after these updates, each spelled by the names of the files after those before it,
+-- under the surface master
 abbrev pub catalogue_followed : List ℕ → Catalogue → List SealedUpdate → Catalogue
 catalogue_followed master c [] = c
 catalogue_followed master c (u ∷ updates) =
     catalogue_followed master (catalogue_after master c (brief_in c u)) updates
 
--- the stored bytes after these updates, each spelled to the server after those before it, from a
--- store with this catalogue, under the surface master
+-- the stored bytes after these updates as they are spelled, from a store with this catalogue, under
+-- the surface master
 abbrev pub stored_followed : List ℕ → Catalogue → List (List ℕ) → List SealedUpdate
     → List (List ℕ)
 stored_followed master c stored [] = stored
