@@ -1,10 +1,11 @@
 -- A plan that is told is within the limits of a store.
-use Rattle.std.proofs.Common.{◌≡◌, ℕ, ◌<◌, ◌≤◌, List, [], ◌∷◌, length, refl, sym, subst, arith}
-use Rattle.std.specs.Prelude.{None, Option, Some, Contains}
+use Rattle.std.proofs.Common.{◌≡◌, ◌∙◌, ℕ, ◌<◌, ◌≤◌, List, [], ◌∷◌, length, refl, sym, ap, subst}
+use Rattle.std.proofs.Common.{arith, true}
+use Rattle.std.specs.Prelude.{None, Option, Some, Contains, is_some, option_map, unwrap_or}
 use Rattle.std.specs.List.{AllByRecursion}
 use Rattle.std.proofs.lemmas.Nat.{ones-le}
 use Rattle.ov_base.specs.declared.limits.TheConstants.{MAX_USERS, MAX_FILES, MAX_LAYER_NODES}
-use Rattle.ov_base.specs.Sets.{IsBelow, size}
+use Rattle.ov_base.specs.Sets.{empty as nobody, IsBelow, size}
 use Rattle.ov_base.proofs.SetLaws.{IsBelow-small}
 use Rattle.ov_base.proofs.Tests.{gt_of_false}
 use Rattle.ov_graph.specs.Contents.{node_of, plan_of, planned}
@@ -14,14 +15,17 @@ use Rattle.ov_graph.proofs.ListLaws.{Contains-first, Contains-later, Contains-no
 use Rattle.ov_history.specs.History.{Created, Replaced}
 use Rattle.ov_history.specs.Asking.{refusal_at}
 use Rattle.ov_history.specs.Briefs.{BriefCreate, BriefReplace}
-use Rattle.ov_history.specs.Catalogue.{Catalogue, matrix_shown, outline}
-use Rattle.ov_history.specs.Layers.{list_in, with_set}
+use Rattle.ov_history.specs.Catalogue.{Catalogue, Filed, filed_at, matrix_shown, outline}
+use Rattle.ov_history.specs.Catalogue.{place_of_file}
+use Rattle.ov_history.specs.Layers.{list_at, list_in, with_set}
+use Rattle.ov_history.specs.Places.{living_at}
 use Rattle.ov_history.specs.Refusals.{tests_of}
+use Rattle.ov_history.proofs.Outlining.{lists-at}
 use Rattle.ov_history.proofs.PlanLaws.{with_set-has}
-use Rattle.ov_history.proofs.SoundSteps.{list_below}
 use Rattle.ov_history.proofs.SoundTests.{accepted, files_shown-length, none_applies}
 use Rattle.ov_state.specs.Contents.{IsWell}
 use Rattle.ov_state.specs.declared.covering.Planned.{Planned}
+use Rattle.ov_state.proofs.WantedSets.{list_below}
 use Rattle.ov_wire.specs.declared.answer.Answer.{Answer}
 use Rattle.ov_wire.specs.declared.answer.Answer.TheVariants as answers
 use Rattle.ov_wire.specs.declared.answer.Plan.{Plan}
@@ -30,6 +34,7 @@ use Rattle.ov_wire.specs.AnswersTo.{IsPlan}
 use Rattle.ov_wire.specs.Entries.{IsNode}
 use Rattle.ov_protocol.specs.Asking.{AnswersCover, AnswersReplan, plan_for}
 use Rattle.ov_server.specs.Telling.{PlansIn, plan_answer}
+use Rattle.ov_server.proofs.AskForms.{filed_there}
 
 -- nodes of which each is among these sets
 pub all_nodes : (from : List ℕ) (count : ℕ) → count ≤ MAX_LAYER_NODES
@@ -73,6 +78,23 @@ plan_form limit c name list len well none =
     roomy_form limit c list well (omega (arith, full, files_shown-length (outline c) c.files)) fine.0
     fine.1.base
 
+-- the list of a file that is there is read off its place in the layers
+list_is : (c : Catalogue) (file : ℕ) (f : Filed) → living_at c.files file ≡ Some f
+    → list_in (outline c) file ≡ list_at (outline c) (place_of_file f)
+list_is c file f there =
+    let list : Filed → ℕ = λ g. list_at (outline c) (place_of_file g) in
+    ap (λ (o : Option ℕ). unwrap_or o nobody)
+    (lists-at c file ∙ ap (λ (o : Option Filed). option_map list o) there)
+
+-- the users in it are there
+listed_below : (limit : ℕ) (c : Catalogue) (file : ℕ) → IsWell limit c
+    → is_some (living_at c.files file) ≡ true → IsBelow (length c.users) (list_in (outline c) file)
+listed_below limit c file well there =
+    let f : Filed = filed_at c file in
+    let found : living_at c.files file ≡ Some f = filed_there c file there in
+    subst (λ (list : ℕ). IsBelow (length c.users) list) (sym (list_is c file f found))
+    (list_below c f well.sound (well.sound.files file f found))
+
 -- what is planned for a replacement that isn't refused
 pub replan_form : (limit : ℕ) (c : Catalogue) (file len : ℕ) → IsWell limit c
     → refusal_at c (Replaced file len) ≡ None → IsPlan (plan_for c (list_in (outline c) file))
@@ -82,8 +104,8 @@ replan_form limit c file len well none =
     in
     let full = gt_of_false MAX_FILES (length (matrix_shown c).files) tests.1.0 in
     roomy_form limit c (list_in (outline c) file) well
-    (omega (arith, full, files_shown-length (outline c) c.files)) (list_below c file well.sound fine.0)
-    fine.1.base
+    (omega (arith, full, files_shown-length (outline c) c.files))
+    (listed_below limit c file well fine.0) fine.1.base
 
 -- the answer that tells a plan within the limits has form
 pub planned_form : {W : ℕ} (c : Catalogue) (list epoch : ℕ) (planned : Planned W)
