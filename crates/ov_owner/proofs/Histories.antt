@@ -1,11 +1,10 @@
 -- Histories at one epoch.
 use Rattle.std.proofs.Common.{◌≡◌, ℕ, ◌+◌, ◌∙◌, List, [], ◌∷◌, length, refl, ap, arith}
-use Rattle.std.proofs.lemmas.List.{length-append}
 use Rattle.ov_record.specs.Updates.{SealedUpdate}
 use Rattle.ov_history.specs.Catalogue.{empty_catalogue}
-use Rattle.ov_history.specs.Sealed.{SealedHistory, catalogue_of, file_names_of, with_spelled}
-use Rattle.ov_history.specs.Sent.{numbered}
+use Rattle.ov_history.specs.Sealed.{SealedHistory, catalogue_of, with_spelled}
 use Rattle.ov_protocol.specs.Serving.{followed}
+use Rattle.ov_protocol.proofs.Following.{followed-length}
 use Rattle.ov_protocol.proofs.GoingOn.{epochs_all}
 use Rattle.ov_peer.proofs.Following.{followed-nil}
 
@@ -22,17 +21,6 @@ followed-first : (g : SealedHistory) (us : List SealedUpdate) → (followed g us
 followed-first g [] = refl
 followed-first g (u ∷ us) = followed-first (with_spelled g u) us
 
--- each update is one more
-followed-many : (g : SealedHistory) (us : List SealedUpdate)
-    → length (followed g us).updates ≡ length g.updates + length us
-followed-many g [] = omega arith
-followed-many g (u ∷ us) =
-    omega (
-      arith,
-      followed-many (with_spelled g u) us,
-      length-append g.updates (numbered (file_names_of g) u ∷ []),
-    )
-
 -- what goes on from a history and has its epoch is that history
 pub same_epoch : (master : List ℕ) (g : SealedHistory) (between others : List SealedUpdate)
     → (catalogue_of master g).epoch
@@ -41,8 +29,8 @@ pub same_epoch : (master : List ℕ) (g : SealedHistory) (between others : List 
 same_epoch master g between others same =
     let one = epoch_is master g in
     let two = epoch_is master (followed (followed g between) others) in
-    let all = followed-many (followed g between) others in
-    let some = followed-many g between in
+    let all = followed-length (followed g between) others in
+    let some = followed-length g between in
     let later = followed-first (followed g between) others in
     let sooner = followed-first g between in
     let first : between ≡ [] = no_updates between (omega arith) in

@@ -27,7 +27,7 @@ use Rattle.ov_wire.specs.declared.answer.Known.{Known}
 use Rattle.ov_wire.specs.declared.answer.Plan.{Plan}
 use Rattle.ov_wire.specs.declared.answer.Answer.{Answer}
 use Rattle.ov_wire.specs.declared.answer.Answer.TheVariants as answers
-use Rattle.ov_protocol.specs.Serving.{Service, served}
+use Rattle.ov_protocol.specs.Serving.{Service, brief_in, served}
 use Rattle.ov_protocol.specs.Answers.{Answers}
 use Rattle.ov_protocol.specs.Replies.{updates_asked}
 use Rattle.ov_protocol.specs.Asking.{known_at, plan_for}
@@ -161,8 +161,7 @@ module _ (k : Masters) (p : PlainHistory) (legal : IsLegal (history_of p)) where
   module _ (plain : PlainUpdate) (u : SealedUpdate)
       (is : numbered (names_after p) u ≡ sealed_update k (layers_of (history_of p)) plain) where
     -- a catalogue sees the update without its bytes
-    pub brief_as : numbered_brief (file_names_shown c) (brief_as_spelled u)
-        ≡ brief (sealed_update k (layers_of (history_of p)) plain)
+    pub brief_as : brief_in c u ≡ brief (sealed_update k (layers_of (history_of p)) plain)
     brief_as =
         ap (λ (names : List (List ℕ)). numbered_brief names (brief_as_spelled u)) names_shown
         ∙ sym (updates_are_numbered (names_after p) u).0 ∙ ap (λ (x : NumberedUpdate). brief x) is
