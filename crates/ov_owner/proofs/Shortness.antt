@@ -15,7 +15,7 @@ use Rattle.ov_history.specs.Asking.{file_named}
 use Rattle.ov_history.specs.Catalogue.{Catalogue, outline}
 use Rattle.ov_history.specs.Layers.{layers_of, list_in}
 use Rattle.ov_history.specs.Lists.{file_number, set_named, user_number}
-use Rattle.ov_history.specs.History.{file_at, matrix_of}
+use Rattle.ov_history.specs.History.{matrix_of}
 use Rattle.ov_history.specs.Masters.{Masters}
 use Rattle.ov_history.specs.Plain.{PlainEnrol, PlainGrant, PlainHistory, PlainRemove, PlainRevoke, history_of}
 use Rattle.ov_history.specs.Refusals.{IsLegal}
@@ -23,7 +23,6 @@ use Rattle.ov_history.specs.Sealed.{SealedHistory, catalogue_of}
 use Rattle.ov_history.specs.Sealing.{IsSealedAs, sealed, sealed_update}
 use Rattle.ov_history.specs.Sent.{spelled}
 use Rattle.ov_history.proofs.Agreeing.{right_shows}
-use Rattle.ov_history.proofs.Staying.{list_of-file}
 use Rattle.ov_wire.specs.declared.request.Question.TheVariants as questions
 use Rattle.ov_wire.specs.declared.request.Request.{Request}
 use Rattle.ov_wire.specs.declared.answer.Answer.{Answer}
@@ -42,14 +41,14 @@ use Rattle.ov_peer.specs.Exchanges.{IsAnswerAt}
 use Rattle.ov_peer.proofs.Telling.{answer_at}
 use Rattle.ov_owner.specs.Alone.{AnsweredAlone, AskedAlone}
 use Rattle.ov_owner.specs.Errands.{Errand, creating, enrolling, granting, removing, replacing, revoking}
-use Rattle.ov_owner.specs.Laws.{TalksAreShort, frame_bytes}
+use Rattle.ov_owner.specs.Laws.{TalksAreShort, frame_bytes, list_size}
 use Rattle.ov_owner.specs.Talks.{Asks, Ends, Goes, IsAfter, Moves, Sends, Stage, Talks, after as stage_after, after_first, after_update, sends_if, start, update_request}
 use Rattle.ov_owner.specs.declared.fault.OwnerFault.{OwnerFault}
 use Rattle.ov_owner.proofs.Agreeing.{answers_alike}
 use Rattle.ov_owner.proofs.Leaving.{Serves, is_first, is_spelling, is_update, nothing_due, one_ask}
 use Rattle.ov_owner.proofs.Sizes.{ask_answer_short, cover_answer_short, cover_short, creation_short, list_few, question_short, replacement_short, replan_answer_short, replan_short, short_update, spelled_answer_short}
 use Rattle.ov_owner.proofs.Doing.{Does, create_does, enrol_does, grant_does, remove_does, replace_does, revoke_does}
-use Rattle.ov_owner.proofs.Telling.{names_after, shows, under}
+use Rattle.ov_owner.proofs.Telling.{list_here, list_shown, names_after, under}
 
 -- a reply to a request that was sent is an answer to it, or says that the disk failed
 reply_short : (v : Service) (request : Request) (reply : List ℕ) (made : List SealedUpdate) (most : ℕ)
@@ -295,16 +294,12 @@ talks_are_short k (commands.Remove file) e asks unanswered result v last p is ta
 talks_are_short k (commands.Replace file bytes) e asks unanswered result v last p is talks same legal right alone =
     let h = history_of p in
     let c = catalogue_of k.surface (sealed k p) in
-    let m = matrix_of h in
-    let s = shows k p legal in
-    let number = file_number m file in
-    let most = size (file_at m number).list in
-    let listed : list_in (layers_of h) number ≡ (file_at m number).list = list_of-file h number in
-    let shown : list_in (outline c) (file_named c file) ≡ list_in (layers_of h) number =
-    λ i. list_in (s.layers i) (file_number (s.matrix i) file) in
-    let few : size (list_in (layers_of h) number) ≤ most = omega (arith, ap size listed) in
+    let number = file_number (matrix_of h) file in
+    let most = list_size p file in
+    let few : size (list_in (layers_of h) number) ≤ most =
+    omega (arith, ap size (list_here k p legal file)) in
     let few_shown : size (list_in (outline c) (file_named c file)) ≤ most =
-    omega (arith, ap size shown, ap size listed) in
+    omega (arith, ap size (list_shown k p legal file)) in
     let n = by_sizes k (commands.Replace file bytes) (replacing k.base file bytes)
     (replace_does k file bytes)
     asks unanswered result v last p 70 (16 + SET_BYTES + 4 * most) (104 + 32 * most + length bytes)

@@ -1,5 +1,5 @@
 -- What an owner is told, and seals by it, at a history that is right.
-use Rattle.std.proofs.Common.{◌≡◌, ℕ, Bool, true, false, not, List, [], Some, None, Ok, Err, refl, sym, ap}
+use Rattle.std.proofs.Common.{◌≡◌, ℕ, Bool, true, false, not, List, [], Some, None, Ok, Err, refl, sym, ap, ◌∙◌}
 use Rattle.ov_base.specs.Sets.{has}
 use Rattle.ov_base.specs.declared.refusal.Refusal.{Refusal}
 use Rattle.ov_tokens.specs.declared.token.Token.{Token}
@@ -9,10 +9,10 @@ use Rattle.ov_record.specs.Updates.{SealedUpdate}
 use Rattle.ov_history.specs.Asking.{file_named, of_grant, refusal_at}
 use Rattle.ov_history.specs.Briefs.{brief, numbered_brief, outer}
 use Rattle.ov_history.specs.Catalogue.{Catalogue, file_names_shown, matrix_shown, outline}
-use Rattle.ov_history.specs.History.{Matrix, Update, matrix_of}
+use Rattle.ov_history.specs.History.{Matrix, Update, file_at, matrix_of}
 use Rattle.ov_history.specs.Laws.{ShowsHistory}
 use Rattle.ov_history.specs.Layers.{holders, layers_of, list_in, node_of, root_of}
-use Rattle.ov_history.specs.Lists.{file_names}
+use Rattle.ov_history.specs.Lists.{file_names, file_number}
 use Rattle.ov_history.specs.Masters.{Masters}
 use Rattle.ov_history.specs.Plain.{PlainCreate, PlainGrant, PlainHistory, PlainReplace, PlainUpdate, history_of, measured}
 use Rattle.ov_history.specs.Refusals.{IsLegal, first_of_tests, refusal_of, tests_of}
@@ -23,6 +23,7 @@ use Rattle.ov_history.proofs.Keeping.{kept_shows}
 use Rattle.ov_history.proofs.Numbering.{spelled_once, updates_are_numbered}
 use Rattle.ov_history.proofs.Outlining.{length-places}
 use Rattle.ov_history.proofs.Sealing.{measured-sealed}
+use Rattle.ov_history.proofs.Staying.{list_of-file}
 use Rattle.ov_wire.specs.declared.answer.Known.{Known}
 use Rattle.ov_wire.specs.declared.answer.Plan.{Plan}
 use Rattle.ov_wire.specs.declared.answer.Answer.{Answer}
@@ -112,6 +113,16 @@ module _ (k : Masters) (p : PlainHistory) (legal : IsLegal (history_of p)) where
   -- the names that are shown are those of the history
   pub names_shown : file_names_shown c ≡ names_after p
   names_shown = ap (λ (x : Matrix). file_names x.files) shows.matrix
+
+  -- the list of the file of a name, by number and as it is shown
+  pub list_here : (file : List ℕ)
+      → let n = file_number m file in list_in (layers_of (history_of p)) n ≡ (file_at m n).list
+  list_here file = list_of-file (history_of p) (file_number m file)
+
+  pub list_shown : (file : List ℕ)
+      → list_in (outline c) (file_named c file) ≡ (file_at m (file_number m file)).list
+  list_shown file =
+      let s = shows in (λ i. list_in (s.layers i) (file_number (s.matrix i) file)) ∙ list_here file
 
   -- an update by names is refused as the history refuses it
   pub refused_as : (named : Matrix → Update)

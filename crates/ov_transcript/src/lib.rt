@@ -4,9 +4,9 @@
 //! the list of its requests, each with the reply of a server of that history, in turn, ending at
 //! the first Refused. Which requests these are follows from the two masters and from the history
 //! without the bytes of its files. An enrolment, a grant, a revocation and a removal ask for numbers
-//! and send an update; a creation asks for the plan of its list and sends an update with the file; a
-//! read asks for the numbers of the user's keys, for the chains to the file, and for each of its
-//! chunks; a list and an epoch are one question.
+//! and send an update; a creation asks for the plan of its list, and a replacement for that of its
+//! file's list, and each sends an update with the new file; a read asks for the numbers of the user's
+//! keys, for the chains to the file, and for each of its chunks; a list and an epoch are one question.
 //!
 //! | file in `specs/` | says |
 //! |---|---|
