@@ -1,5 +1,5 @@
 -- Rows of transcripts and of servers.
-use Rattle.std.specs.Prelude.{◌≡◌, ℕ, List, [], ◌∷◌, length, replicate}
+use Rattle.std.specs.Prelude.{◌≡◌, ℕ, List, [], ◌∷◌, ◌++◌, length, replicate}
 use Rattle.ov_base.specs.declared.refusal.Refusal.TheVariants.{NoFile}
 use Rattle.ov_script.specs.declared.command.Command.TheVariants as commands
 use Rattle.ov_history.specs.History.{History}
@@ -43,6 +43,28 @@ pub record RemovalsAreShort : Type 0 where
   pub asks : length (framed (request_bytes (requests.Ask (questions.Remove (102 ∷ []))))) ≡ 8
   pub sends : length (framed (request_bytes
       (requests.Update 5 (6 ∷ 0 ∷ 0 ∷ 0 ∷ 0 ∷ []) (replicate 32 0)))) ≡ 46
+
+-- A replacement is two requests at any history, whatever the bytes. With a removal and a creation in
+-- its place it would be four.
+abbrev pub ReplacementsAreTwoRequests : Type 0
+ReplacementsAreTwoRequests =
+    (k : Masters) (h : History) (file bytes : List ℕ)
+    → length (requests_at k h (commands.Replace file bytes)) ≡ 2
+
+-- The spelling of a replacement of a file with a name of one byte by three bytes, with two tokens.
+-- The tokens and the tag are zeros.
+abbrev pub spelled_replacement : List ℕ
+spelled_replacement =
+    (7 ∷ 1 ∷ 102 ∷ 0 ∷ 2 ∷ []) ++ replicate 64 0 ++ replicate 32 0
+    ++ (0 ∷ 0 ∷ 0 ∷ 3 ∷ 97 ∷ 98 ∷ 99 ∷ [])
+
+-- The frames that an owner sends for it: the question has ten bytes beside the name, and the update,
+-- at epoch 4, has 81 beside name, tokens and bytes. With the list, as a creation has it, the second
+-- would have 128 more.
+pub record ReplacementsAreShort : Type 0 where
+  pub asks : length (framed (request_bytes (requests.Replan (102 ∷ []) 3))) ≡ 11
+  pub sends : length (framed (request_bytes
+      (requests.Update 4 spelled_replacement (replicate 32 0)))) ≡ 149
 
 -- A chunk has 65,536 bytes at most. If the last chunk had to be whole, a file of one byte would be
 -- asked for in none, and one of 65,537 in one.
