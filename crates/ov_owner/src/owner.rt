@@ -52,8 +52,9 @@ impl Owner {
     /// Makes a change. Gives the new epoch.
     ///
     /// However it ends, out of memory too, a peer that nobody else updates serves what it served
-    /// before or that with this one change, whatever history that is (`alone`). Over such a
-    /// peer, whose history is right under the owner's masters, it ends as the machine does, unless it is cut off (`complete`).
+    /// before or that with this one change, whatever history that is (`alone`). Over such a peer,
+    /// whose history is right under the owner's masters, it ends as the machine does, unless it is
+    /// cut off (`complete`).
     pub fn change<P: Peer>(
         &self,
         alloc: Global,

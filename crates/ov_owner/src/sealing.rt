@@ -101,8 +101,8 @@ fn seal_creation(
     })
 }
 
-/// A replacement, by the plan of the list that its file has: sealed as a new file is, and with no list
-/// of its own.
+/// A replacement, by the plan of the list that its file has: sealed as a new file is, and without a
+/// list of its own.
 fn seal_replacement(
     alloc: Global,
     base: &Master,

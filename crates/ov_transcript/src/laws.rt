@@ -36,9 +36,9 @@ pub fn transcripts_are_unique()
     ensures runs { RunsHaveOneTranscript }
 {}
 
-/// The transcript of a grant, a revocation or a removal is the same whatever the files' bytes are;
-/// that of a replacement has the new bytes and no others. The transcript of an update is short: only
-/// a creation's and a replacement's are as long as the list and the new file.
+/// The transcript of a grant, a revocation or a removal is the same whatever the files' bytes are,
+/// and that of a replacement has the new bytes and no others. The transcript of an update is short:
+/// only a creation's and a replacement's are as long as the list and the new file.
 pub fn transcripts_are_short()
     ensures same { GrantsSendNoBytes }
     ensures new_bytes { ReplacementsSendNewBytes }
