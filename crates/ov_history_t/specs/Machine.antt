@@ -75,8 +75,8 @@ ReplacesFiles =
     ++ reply_line (Bytes bob letter (97 ∷ 98 ∷ 99 ∷ [])) ++ reply_line (Accepted 6)
     ++ reply_line (Refused NoFile) ++ reply_line (Accepted 7)
 
--- A file that isn't there isn't replaced, and the history stays. If it were made all the same, there
--- would be a file without a name.
+-- A file that isn't there isn't replaced, and the history stays. If it were made all the same,
+-- there would be a file without a name.
 pub record ReplacesNoOther : Type 0 where
   pub reply : reply_to (history []) (Replace letter (104 ∷ [])) ≡ Refused NoFile
   pub stays : after (history []) (Replace letter (104 ∷ [])) ≡ history []

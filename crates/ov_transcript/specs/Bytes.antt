@@ -37,7 +37,7 @@ abbrev pub other_bytes : PlainHistory → List ℕ → ℕ
 other_bytes p file =
     let m = matrix_of (history_of p) in byte_sum (change_at gone (file_number m file) m.files)
 
--- the command changes a file that is there, and sends none: it is a grant, a revocation or a removal
+-- the command changes a file that is there and sends none: it is a grant, a revocation or a removal
 abbrev pub IsOfFile : Command → Type 0
 IsOfFile (Grant user file) = Unit {0}
 IsOfFile (Revoke user file) = Unit {0}

@@ -44,8 +44,8 @@ pub record RemovalsAreShort : Type 0 where
   pub sends : length (framed (request_bytes
       (requests.Update 5 (6 ∷ 0 ∷ 0 ∷ 0 ∷ 0 ∷ []) (replicate 32 0)))) ≡ 46
 
--- A replacement is two requests at any history, whatever the bytes. With a removal and a creation in
--- its place it would be four.
+-- A replacement is two requests at any history, whatever the bytes. With a removal and a creation
+-- in its place it would be four.
 abbrev pub ReplacementsAreTwoRequests : Type 0
 ReplacementsAreTwoRequests =
     (k : Masters) (h : History) (file bytes : List ℕ)
@@ -58,9 +58,9 @@ spelled_replacement =
     (7 ∷ 1 ∷ 102 ∷ 0 ∷ 2 ∷ []) ++ replicate 64 0 ++ replicate 32 0
     ++ (0 ∷ 0 ∷ 0 ∷ 3 ∷ 97 ∷ 98 ∷ 99 ∷ [])
 
--- The frames that an owner sends for it: the question has ten bytes beside the name, and the update,
--- at epoch 4, has 81 beside name, tokens and bytes. With the list, as a creation has it, the second
--- would have 128 more.
+-- The frames that an owner sends for it: the question has ten bytes beside the name, and the
+-- update, at epoch 4, has 81 beside name, tokens and bytes. With the list, as a creation has it, the
+-- second would have 128 more.
 pub record ReplacementsAreShort : Type 0 where
   pub asks : length (framed (request_bytes (requests.Replan (102 ∷ []) 3))) ≡ 11
   pub sends : length (framed (request_bytes
