@@ -126,13 +126,13 @@ cover_fits c file len names list (answers.Refused why) is form =
     one_of (tests_at c (Created file list len)) why is
 cover_fits c file len names list a is form = absurd is
 
-pub replan_fits : (c : Catalogue) (file : List ℕ) (len : ℕ) (a : Answer)
-    → AnswersReplan c (file_named c file) len a → HasAnswerForm a → IsAnswer (requests.Replan file len) a
+pub replan_fits : (c : Catalogue) (file : List ℕ) (len number : ℕ) (a : Answer)
+    → AnswersReplan c number len a → HasAnswerForm a → IsAnswer (requests.Replan file len) a
 unfolding whys
-replan_fits c file len (answers.Plan plan) is form = form
-replan_fits c file len (answers.Refused why) is form =
-    one_of (tests_at c (Replaced (file_named c file) len)) why is
-replan_fits c file len a is form = absurd is
+replan_fits c file len number (answers.Plan plan) is form = form
+replan_fits c file len number (answers.Refused why) is form =
+    one_of (tests_at c (Replaced number len)) why is
+replan_fits c file len number a is form = absurd is
 
 -- what is sealed of an answer is no wrong reply
 abbrev pub IsProperTold : Result (ℕ × SealedUpdate) OwnerFault → Type 0

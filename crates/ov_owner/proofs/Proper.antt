@@ -277,7 +277,7 @@ talks_are_proper k (commands.Replace file bytes) e asks unanswered result v last
     let c = catalogue_of k.surface (sealed k p) in
     talk_proper k (commands.Replace file bytes) (replacing k.base file bytes) (replace_does k file bytes)
     v.base_check p legal
-    (replan_fits c file (length bytes)) (λ a. replan_proper c _ (length bytes) a _)
+    (replan_fits c file (length bytes) (file_named c file)) (λ a. replan_proper c _ (length bytes) a _)
     (λ disk. disk)
     v.history right asks unanswered result last
     (subst (λ (x : Errand). Talks k.surface x asks unanswered result) is talks)
