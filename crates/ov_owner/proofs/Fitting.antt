@@ -13,6 +13,7 @@ use Rattle.ov_history.specs.History.{Created, Enrolled, Granted, Removed, Replac
 use Rattle.ov_history.specs.Layers.{layers_after}
 use Rattle.ov_history.specs.Lists.{is_file, is_user}
 use Rattle.ov_history.specs.Refusals.{Test, first_of_tests, is_last, is_past_nodes, tests_of}
+use Rattle.ov_history.specs.Sealed.{SealedHistory, StandsFor}
 use Rattle.ov_wire.specs.declared.request.Question.{Question}
 use Rattle.ov_wire.specs.declared.request.Question.TheVariants as questions
 use Rattle.ov_wire.specs.declared.request.Request.{Request}
@@ -28,6 +29,7 @@ use Rattle.ov_wire.proofs.AnswerForms.{answer_is_frame}
 use Rattle.ov_wire.proofs.AnswerLaws.{answer_again}
 use Rattle.ov_wire.proofs.LongFrames.{not_long}
 use Rattle.ov_protocol.specs.Asking.{AnswersAsk, AnswersCover, AnswersReplan, known_at, numbers_for}
+use Rattle.ov_protocol.proofs.Removing.{removals_need_no_node}
 use Rattle.ov_owner.specs.Errands.{known_of, plan_of, sealed_by}
 use Rattle.ov_owner.specs.Laws.{IsProper}
 use Rattle.ov_owner.specs.declared.fault.OwnerFault.{OwnerFault}
@@ -85,6 +87,16 @@ abbrev pub NeedsNoNode : Catalogue → Question → Type 0
 NeedsNoNode c (questions.Remove file) =
     is_past_nodes (layers_after (outline c) (Removed (file_named c file))) ≡ false
 NeedsNoNode c question = Unit {0}
+
+-- that is so at each store
+pub needs_no_node : (master : List ℕ) (c : Catalogue) (g : SealedHistory) (question : Question)
+    → StandsFor master c g → NeedsNoNode c question
+needs_no_node master c g (questions.Enrol user) stands = tt
+needs_no_node master c g (questions.Grant user file) stands = tt
+needs_no_node master c g (questions.Revoke user file) stands = tt
+needs_no_node master c g (questions.Remove file) stands =
+    removals_need_no_node master c g (file_named c file) stands
+needs_no_node master c g (questions.Key user) stands = tt
 
 -- a test for nodes that doesn't apply may be left out
 without_nodes : (absent past : Bool) (tests : List Test) (why : Refusal) → past ≡ false

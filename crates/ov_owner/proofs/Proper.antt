@@ -31,7 +31,6 @@ use Rattle.ov_protocol.specs.Answers.{Answers}
 use Rattle.ov_protocol.specs.Replies.{AnswersRead}
 use Rattle.ov_protocol.specs.Updating.{AnswersSealed, AnswersSpelled, AnswersUpdate, owner_tag}
 use Rattle.ov_protocol.proofs.Reading.{request_back}
-use Rattle.ov_protocol.proofs.Removing.{removals_need_no_node}
 use Rattle.ov_peer.specs.Asks.{Ask}
 use Rattle.ov_peer.specs.Tells.{IsReplyAt}
 use Rattle.ov_peer.specs.Disks.{MayNeedDisk}
@@ -46,7 +45,7 @@ use Rattle.ov_owner.proofs.Doing.{Does, create_does, enrol_does, grant_does, rem
 use Rattle.ov_owner.proofs.Leaving.{IsReady, Serves, is_first, is_update, nothing_due, one_ask}
 use Rattle.ov_owner.proofs.Stepping.{read_back}
 use Rattle.ov_owner.proofs.Telling.{brief_as, under}
-use Rattle.ov_owner.proofs.Fitting.{IsProperTold, ask_fits, ask_proper, cover_fits, cover_proper, reads_back, replan_fits, replan_proper}
+use Rattle.ov_owner.proofs.Fitting.{IsProperTold, ask_fits, ask_proper, cover_fits, cover_proper, needs_no_node, reads_back, replan_fits, replan_proper}
 
 -- ---- a talk
 
@@ -268,7 +267,7 @@ talks_are_proper k (commands.Remove file) e asks unanswered result v last p is t
     let c = catalogue_of k.surface (sealed k p) in
     talk_proper k (commands.Remove file) (removing file) (remove_does k file) v.base_check p legal
     (ask_fits c (questions.Remove file)
-    (removals_need_no_node k.surface c (sealed k p) (file_named c file) (sealed_is_sealed k p legal, refl))) (λ a. ask_proper c (questions.Remove file) a _)
+    (needs_no_node k.surface c (sealed k p) (questions.Remove file) (sealed_is_sealed k p legal, refl))) (λ a. ask_proper c (questions.Remove file) a _)
     (λ disk. disk)
     v.history right asks unanswered result last
     (subst (λ (x : Errand). Talks k.surface x asks unanswered result) is talks)
