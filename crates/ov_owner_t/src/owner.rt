@@ -280,8 +280,9 @@ fn a_removal_is_told_no_user(rt: HostRuntime) -> Result<(), Fail> {
 fn a_removal_is_refused(rt: HostRuntime) -> Result<(), Fail> {
     let refused = Err(OwnerFault::Refused(Refusal::NoFile));
     assert_eq!(rt; removed(rt.alloc(), &[0x88, 3])?, refused);
-    // It is never Taken, so that the owner takes no such reply.
+    // It is never Taken, and needs no node, so that the owner takes no such reply.
     assert_eq!(rt; is_bad_reply(removed(rt.alloc(), &[0x88, 1])?), true);
+    assert_eq!(rt; is_bad_reply(removed(rt.alloc(), &[0x88, 10])?), true);
     Ok(())
 }
 
