@@ -70,8 +70,9 @@ most_bytes p (Create file names bytes) = 512 + 101 * length names + length bytes
 most_bytes p (Replace file bytes) = 384 + 36 * list_size p file + length bytes
 most_bytes p command = 512
 
--- Of a server under the owner's surface master that nobody else updates meanwhile, the frames of a
--- call have no more bytes than the command allows, whatever files the server has.
+-- Of a server under the owner's surface master that nobody else updates meanwhile, and whose
+-- history is right by a plain one, the frames of a call have no more bytes than the command allows
+-- at this, whatever bytes its files have.
 abbrev pub TalksAreShort : Type 0
 TalksAreShort =
     (k : Masters) (command : Command) (e : Errand) (asks : List Ask) (unanswered : Option (List ℕ))

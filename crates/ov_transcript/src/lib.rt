@@ -24,7 +24,7 @@
 //! | a question sends its command's transcript, or a front | [`questions_are_transcribed`] |
 //! | a read sends its transcript, or a front | [`reads_are_transcribed`] |
 //! | a command has one transcript, and a run has one | [`transcripts_are_unique`] |
-//! | an update's is without the bytes of other files, and short | [`transcripts_are_short`] |
+//! | a grant's has no file's bytes, a replacement's the new ones; updates are short | [`transcripts_are_short`] |
 #![tactic(auto)]
 
 mod laws;
