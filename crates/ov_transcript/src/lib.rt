@@ -24,7 +24,7 @@
 //! | a question sends its command's transcript, or a front | [`questions_are_transcribed`] |
 //! | a read sends its transcript, or a front | [`reads_are_transcribed`] |
 //! | a command has one transcript, and a run has one | [`transcripts_are_unique`] |
-//! | a grant's has no file's bytes, a replacement's the new ones; updates are short | [`transcripts_are_short`] |
+//! | no update sends bytes of files but its own, and all are short | [`transcripts_are_short`] |
 #![tactic(auto)]
 
 mod laws;
