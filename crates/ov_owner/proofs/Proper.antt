@@ -267,7 +267,8 @@ talks_are_proper k (commands.Remove file) e asks unanswered result v last p is t
     let c = catalogue_of k.surface (sealed k p) in
     talk_proper k (commands.Remove file) (removing file) (remove_does k file) v.base_check p legal
     (ask_fits c (questions.Remove file)
-    (needs_no_node k.surface c (sealed k p) (questions.Remove file) (sealed_is_sealed k p legal, refl))) (λ a. ask_proper c (questions.Remove file) a _)
+    (needs_no_node k.surface c (sealed k p) (questions.Remove file) (sealed_is_sealed k p legal, refl)))
+    (λ a. ask_proper c (questions.Remove file) a _)
     (λ disk. disk)
     v.history right asks unanswered result last
     (subst (λ (x : Errand). Talks k.surface x asks unanswered result) is talks)

@@ -1,5 +1,5 @@
 -- What an owner is told, and seals by it, at a history that is right.
-use Rattle.std.proofs.Common.{◌≡◌, ℕ, Bool, true, false, not, List, [], Some, None, Ok, Err, refl, sym, ap, ◌∙◌}
+use Rattle.std.proofs.Common.{◌≡◌, ◌∙◌, ℕ, Bool, true, false, not, List, [], Some, None, Ok, Err, refl, sym, ap}
 use Rattle.ov_base.specs.Sets.{has}
 use Rattle.ov_base.specs.declared.refusal.Refusal.{Refusal}
 use Rattle.ov_tokens.specs.declared.token.Token.{Token}
