@@ -1,5 +1,5 @@
 //! Replacements as changes.
-ghost use Rattle.std.specs.Prelude.{◌≡◌, ◌≤◌, ◌+◌, ◌*◌, is_some, nat_lt, true, IfNone, IfOk};
+ghost use Rattle.std.specs.Prelude.{◌≡◌, ◌≤◌, ◌+◌, ◌*◌, is_some, nat_lt, true, IfOk};
 ghost use Rattle.ov_base.specs.declared.limits.TheConstants.{MAX_FILE_BYTES, MAX_STORE_BYTES};
 ghost use Rattle.ov_history.specs.Catalogue.{matrix_shown};
 ghost use Rattle.ov_history.specs.Lists.{byte_sum};
@@ -38,8 +38,7 @@ impl<B: Graph<Base, W>, S: Graph<Surface, W>, const W: usize> State<B, S, W> {
     /// and its epoch are looked at.
     pub(crate) fn refusal_replace(&self, file: u32, size: u32) -> Option<Refusal>
         requires { size ≤ MAX_FILE_BYTES }
-        ensures why { result ≡ first_of_tests (tests_replacing self.now.catalogue file size) }
-        ensures there { IfNone result (is_some (living_at self.now.catalogue.files file) ≡ true) }
+        ensures { result ≡ first_of_tests (tests_replacing self.now.catalogue file size) }
     {
         if !self.is_file(file) {
             Some(Refusal::NoFile)
