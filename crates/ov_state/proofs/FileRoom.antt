@@ -1,6 +1,6 @@
 -- Whether there is room for a new file, and an epoch after this one.
-use Rattle.std.proofs.Common.{◌≡◌, ℕ, true, false, List, [], ◌∷◌, ◌∙◌, ap, sym}
-use Rattle.std.specs.Prelude.{Option, Some, None}
+use Rattle.std.proofs.Common.{◌≡◌, ℕ, true, false, ◌∙◌, ap, sym}
+use Rattle.std.specs.Prelude.{Some, None}
 use Rattle.ov_base.specs.declared.refusal.Refusal.TheVariants.{NodesFull, Spent}
 use Rattle.ov_graph.specs.declared.cover.GraphRefusal.{GraphRefusal}
 use Rattle.ov_graph.specs.declared.cover.GraphRefusal.TheVariants.{NodesFull as GraphFull, Memory as GraphMemory}

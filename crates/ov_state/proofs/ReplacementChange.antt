@@ -1,6 +1,6 @@
 -- The change of a replacement makes the catalogue after it. It is that of a creation where the old
 -- file is gone.
-use Rattle.std.proofs.Common.{◌≡◌, ℕ, ◌+◌, ◌≤◌, true, List, [], ◌∷◌, ◌++◌, length, refl, sym, ◌∙◌, ap, subst, arith}
+use Rattle.std.proofs.Common.{◌≡◌, ℕ, ◌+◌, ◌≤◌, true, List, [], ◌∷◌, length, refl, sym, ◌∙◌, ap, subst, arith}
 use Rattle.std.specs.Prelude.{◌<◌, is_some, option_map, slice_index_or, Option, Some, None}
 use Rattle.ov_tokens.specs.declared.token.Token.{Token}
 use Rattle.ov_graph.specs.Contents.{plan_of}
