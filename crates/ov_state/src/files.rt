@@ -170,7 +170,8 @@ impl Files {
         requires few { length (change_at gone file self.old.files ++ Some (plain_file new) ∷ [])
             ≤ MAX_FILES }
         requires room { 1 ≤ self.old.spare }
-        ensures { self.new.files ≡ change_at gone file self.old.files ++ Some (plain_file new) ∷ [] }
+        ensures { self.new.files
+            ≡ change_at gone file self.old.files ++ Some (plain_file new) ∷ [] }
     {
         // A name isn't empty, so that no file has it when the old one is gone.
         let _bytes = new.name.as_bytes();

@@ -32,8 +32,8 @@
 //! there. So the holders stay, and a removal rewrites no file.
 //!
 //! A file that is replaced is gone too, and a new one has its name, its list and the next number.
-//! The new one is at the base node of the list as it is now: who was taken off the list before holds
-//! that node only where another file of it was given to them.
+//! The new one is at the base node of the list as it is now: who was taken off the list before
+//! holds that node only where another file of it was given to them.
 //!
 //! A state is given the surface master with each update and never the base master. It makes the
 //! surface layer's tokens; those of the base layer come with the update.
@@ -62,9 +62,9 @@
 //! * `ask_enrol`, `ask_grant`, `ask_revoke`, `ask_remove`, `cover` and `replan` tell an owner,
 //!   before an update, the numbers that it needs, or why the update would be refused. They touch no
 //!   bytes, and plan no surface nodes: of these they only count which sets would be new. A question
-//!   about a list and its update take the same steps: one decision on the list, and one pass over the
-//!   files that may move, with two collectors. What `cover` or `replan` told can be given back by
-//!   [`State::remember`], so that the creation or the replacement needn't plan it again.
+//!   about a list and its update take the same steps: one decision on the list, and one pass over
+//!   the files that may move, with two collectors. What `cover` or `replan` told can be given back
+//!   by [`State::remember`], so that the creation or the replacement needn't plan it again.
 //! * [`State::chain`] is refused exactly where a read is, unless memory is. It gives a reader of a
 //!   file the chains from the reader's two roots to the file's keys ([`Chained`]); over true tokens
 //!   they lead to these keys, and [`access_key_by`] walks the one of the base layer.

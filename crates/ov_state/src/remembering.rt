@@ -25,8 +25,9 @@ fn copy_of(alloc: Global, cover: &Cover) -> Result<Cover, Memory>
 }
 
 impl<B: Graph<Base, W>, S: Graph<Surface, W>, const W: usize> State<B, S, W> {
-    /// Keeps what [`State::cover`] or [`State::replan`] told, until a change is made or another plan
-    /// is kept: a new file for the same users then plans no cover of its own. It takes no memory.
+    /// Keeps what [`State::cover`] or [`State::replan`] told, until a change is made or another
+    /// plan is kept: a new file for the same users then plans no cover of its own. It takes no
+    /// memory.
     pub fn remember(&mut self, planned: Planned<W>)
         requires { IsPlannedIn self.old.catalogue.base.sets planned }
         ensures { self.new ≡ self.old }
