@@ -10,6 +10,7 @@ use Rattle.std.proofs.lemmas.Nat.{ones-le}
 use Rattle.ov_base.specs.Sets.{IsBelow, size}
 use Rattle.ov_base.proofs.SetLaws.{IsBelow-small}
 use Rattle.ov_graph.proofs.GraphLaws.{plan-few}
+use Rattle.ov_graph.specs.Contents.{plan_of}
 use Rattle.ov_record.specs.Briefs.{Brief as SpelledBrief, BriefEnrol as SpelledEnrol, BriefCreate as SpelledCreate, BriefGrant as SpelledGrant}
 use Rattle.ov_record.specs.Briefs.{BriefRemove as SpelledRemove, BriefReplace as SpelledReplace, BriefRevoke as SpelledRevoke}
 use Rattle.ov_history.specs.Asking.{file_named}
@@ -58,7 +59,8 @@ module _ (limit : ℕ) (s : Catalogue) where
   within_limits (SpelledReplace name tokens tag bytes) well fits (accepts, parts) =
       let file : ℕ = file_named s name in
       let list : ℕ = list_in (outline s) file in
-      let here : is_some (living_at s.files file) ≡ true = (accepted s (BriefReplace file tokens tag bytes) accepts).0 in (
-        omega (arith, parts, plan-few s.base.sets list, few_users (length s.users) list (list_in-below s file well.sound here), well.users),
+      let here : is_some (living_at s.files file) ≡ true = (accepted s (BriefReplace file tokens tag bytes) accepts).0 in
+      let many : length tokens ≡ length (plan_of s.base.sets list).from = parts in (
+        omega (arith, many, plan-few s.base.sets list, few_users (length s.users) list (list_in-below s file well.sound here), well.users),
         fits,
       )

@@ -1,5 +1,5 @@
-use Rattle.std.proofs.Common.{List, ◌≡◌, ◌∙◌, ◌<◌, length, ap, sym, arith, subst, true, ℕ}
-use Rattle.std.specs.Prelude.{◌-◌, is_some, slice_index_or, slice_set, vec_capacity, vec_len, None, Option}
+use Rattle.std.proofs.Common.{List, ◌≡◌, ◌∙◌, ◌<◌, ◌≤◌, length, ap, sym, arith, subst, true, ℕ}
+use Rattle.std.specs.Prelude.{◌-◌, is_some, min, slice_index_or, slice_set, vec_capacity, vec_len, None, Option}
 use Rattle.indexmap.specs.IndexMap.{spare}
 use Rattle.ov_base.specs.NameLists.{is_among}
 use Rattle.ov_history.specs.Catalogue.{Filed}
@@ -81,4 +81,4 @@ returns-clause-room c =
     let old = vec_capacity c.self.inside.by_node - vec_len c.self.inside.by_node in
     let new = vec_capacity c.take_out.new.numbers - vec_len c.take_out.new.numbers in
     let room = least-room list (spare c.self.inside.numbers) old (spare c.shift_remove.new.self) new c.shift_remove.ensures.room.0 c.take_out.ensures.room in
-    omega (arith, ap (λ (l : FileList). l.spare) c.self.view_is, room)
+    subst (λ (n : ℕ). n ≤ min list (min (spare c.shift_remove.new.self) new)) (ap (λ (l : FileList). l.spare) c.self.view_is) room
