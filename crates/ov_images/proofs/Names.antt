@@ -3,11 +3,13 @@
 use Rattle.std.proofs.Common.{◌≡◌, ◌<◌, ℕ, List, [], ◌∷◌, length, true, refl, ◌∙◌, ap, arith}
 use Rattle.std.specs.Prelude.{Option, None}
 use Rattle.ov_base.proofs.Tests.{true_of_not}
+use Rattle.ov_tokens.specs.declared.token.Token.{Token}
 use Rattle.ov_record.specs.Briefs.{Brief as SpelledBrief, BriefEnrol as SpelledEnrol}
 use Rattle.ov_record.specs.Briefs.{BriefCreate as SpelledCreate, BriefGrant as SpelledGrant}
 use Rattle.ov_record.specs.Briefs.{BriefRevoke as SpelledRevoke, BriefRemove as SpelledRemove}
 use Rattle.ov_record.specs.Briefs.{BriefReplace as SpelledReplace}
-use Rattle.ov_history.specs.Briefs.{Brief, brief, numbered_brief, outer, spelled_brief}
+use Rattle.ov_history.specs.Briefs.{Brief, BriefReplace, brief, numbered_brief, outer}
+use Rattle.ov_history.specs.Briefs.{spelled_brief}
 use Rattle.ov_history.specs.Catalogue.{Catalogue, file_names_shown, matrix_shown, outline}
 use Rattle.ov_history.specs.History.{File, Matrix, Replaced, changed, changed_all, no_one}
 use Rattle.ov_history.specs.Lists.{file_names, is_file}
@@ -55,6 +57,18 @@ names_shown master c p stands =
 
 -- ---- spelled updates
 
+-- the name of a file that is replaced is one of those that are shown
+pub named_below : (c : Catalogue) (name : List ℕ) (tokens : List Token) (tag : List ℕ) (size : ℕ)
+    → refusal_shown c (BriefReplace (place_of name (file_names_shown c)) tokens tag size) ≡ None
+    → place_of name (file_names_shown c) < length (file_names_shown c)
+named_below c name tokens tag size none =
+    let files : List (Option File) = (matrix_shown c).files in
+    let k : ℕ = place_of name (file_names files) in
+    let there : is_file (matrix_shown c) k ≡ true =
+    true_of_not (is_file (matrix_shown c) k)
+    (none_applies (tests_of (matrix_shown c) (outline c) c.epoch (Replaced k size)) none).0 in
+    omega (arith, below_some files k there, length-names files)
+
 -- an update that was spelled, and that a store with this catalogue doesn't refuse by number, is
 -- spelled so
 pub spelled_again : (c : Catalogue) (b : SpelledBrief)
@@ -67,14 +81,8 @@ spelled_again c (SpelledGrant user file token) none = refl
 spelled_again c (SpelledRevoke user file) none = refl
 spelled_again c (SpelledRemove file) none = refl
 spelled_again c (SpelledReplace name tokens tag size) none =
-    let files : List (Option File) = (matrix_shown c).files in
-    let k : ℕ = place_of name (file_names files) in
-    let there : is_file (matrix_shown c) k ≡ true =
-    true_of_not (is_file (matrix_shown c) k)
-    (none_applies (tests_of (matrix_shown c) (outline c) c.epoch (Replaced k size)) none).0 in
-    let below : k < length (file_names files) =
-    omega (arith, below_some files k there, length-names files) in
-    ap (λ these. SpelledReplace these tokens tag size) (name_at name (file_names files) below)
+    ap (λ these. SpelledReplace these tokens tag size)
+    (name_at name (file_names_shown c) (named_below c name tokens tag size none))
 
 -- so its record tells it
 pub told_again : (c : Catalogue) (b : SpelledBrief)
