@@ -8,9 +8,10 @@
 //! order; where each new extent lies in Blobs and took blocks that were free in the state before
 //! its record; and where the latest extent of each file that is there holds its stored bytes at the
 //! end. Nothing is said of files that are gone, whose blocks are free for the records after the one
-//! that removes or replaces them: of an image that keeps a history their bytes may be any. An image where no store was
-//! begun stands for the history without updates. The definitions read a whole image and know nothing
-//! of how it was written, so they say what a store on disk is with no store in sight.
+//! that removes or replaces them: of an image that keeps a history their bytes may be any. An image
+//! where no store was begun stands for the history without updates. The definitions read a whole
+//! image and know nothing of how it was written, so they say what a store on disk is with no store in
+//! sight.
 //!
 //! Stores of two *formats* keep histories. In one of the second all records are in the second form,
 //! with lists of 128 bytes. In one of the first, records are in the first form, with lists of 32

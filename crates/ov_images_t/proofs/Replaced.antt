@@ -1,6 +1,6 @@
 -- Rows of stores with a file that is replaced.
 use Rattle.std.proofs.Common.{inl, inr, ⊎_elim, ℕ, List, [], ◌∷◌, refl, sym, subst, arith, lit<, lit≤}
-use Rattle.std.specs.Prelude.{◌*◌, None}
+use Rattle.std.specs.Prelude.{None}
 use Rattle.ov_base.specs.Sets.{bytes_of}
 use Rattle.ov_base.specs.declared.mode.Mode.TheVariants.{Full}
 use Rattle.ov_record.specs.Briefs.{BriefReplace}

@@ -1,4 +1,4 @@
-use Rattle.std.proofs.Common.{◌*◌, List, ℕ, Option, ◌∙◌, ap, subst, sym}
+use Rattle.std.proofs.Common.{◌*◌, List, ℕ, Option, ◌∙◌, ap, subst}
 use Rattle.ov_history.specs.Catalogue.{Catalogue, file_names_shown}
 use Rattle.ov_history.specs.Sent.{numbered}
 use Rattle.ov_record.specs.Briefs.{Brief as SpelledBrief, plain_brief}
