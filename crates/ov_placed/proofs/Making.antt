@@ -4,10 +4,15 @@ use Rattle.std.proofs.Common.{Option, refl, sym, ◌∙◌, ap, subst, arith}
 use Rattle.std.proofs.lemmas.List.{drop_more}
 use Rattle.ov_blocks.specs.Extents.{AreApart}
 use Rattle.ov_blocks.specs.declared.extents.Extent.{Extent}
-use Rattle.ov_record.specs.Updates.{SealedUpdate}
 use Rattle.ov_history.proofs.ChangeLaws.{length-change_at}
-use Rattle.ov_history.specs.Briefs.{brief}
-use Rattle.ov_history.specs.Catalogue.{Catalogue, Filed}
+use Rattle.ov_record.specs.Briefs.{Brief as SpelledBrief, brief as brief_as_spelled}
+use Rattle.ov_record.specs.Briefs.{text_of as text_as_spelled}
+use Rattle.ov_record.specs.Forms.{second_form}
+use Rattle.ov_record.specs.Stored.{HasBriefForm, brief_spelling}
+use Rattle.ov_record.specs.Updates.{SealedUpdate as SpelledUpdate}
+use Rattle.ov_history.proofs.Numbering.{updates_are_numbered}
+use Rattle.ov_history.specs.Briefs.{Brief, brief, numbered_brief, spelled_brief}
+use Rattle.ov_history.specs.Catalogue.{Catalogue, Filed, file_names_shown}
 use Rattle.ov_disk.specs.Disk.{Image}
 use Rattle.ov_disk.specs.Tells.{DiskTells}
 use Rattle.ov_moves.specs.Placing.{AreMovesOf}
@@ -15,20 +20,23 @@ use Rattle.ov_moves.specs.declared.moves.Move.{Move}
 use Rattle.ov_history.specs.Placed.{HasFirsts, IsReplayedTo, PlacedHistory, count_of, first_if, left_if}
 use Rattle.ov_history.specs.Placed.{placed_after, replaced, takes_place}
 use Rattle.ov_history.specs.Sealed.{SealedHistory}
+use Rattle.ov_history.specs.Sent.{SealedUpdate, numbered}
 use Rattle.ov_history.specs.Placed.{with_unplaced}
 use Rattle.ov_history.specs.Places.{change_at, living_at}
 use Rattle.ov_history.specs.Rewrites.{Rewrite as PlainRewrite, files_after, rewrites_of}
 use Rattle.ov_images.specs.Images.{KeepsAt, Keys}
 use Rattle.ov_images.specs.Laws.{placed_as}
+use Rattle.ov_images.proofs.Names.{spelled_again, told_again}
 use Rattle.ov_state.specs.Changes.{applied}
 use Rattle.ov_state.specs.Contents.{IsWell}
 use Rattle.ov_state.specs.Entries.{plain_rewrites}
+use Rattle.ov_state.specs.Plans.{IsChange, numbered_at}
 use Rattle.ov_state.specs.declared.change.Rewrite.{Rewrite}
 use Rattle.ov_updating.proofs.Asking.{length-firsts}
 use Rattle.ov_updating.proofs.Counts.{counts_are_enough, held_are_counted}
 use Rattle.ov_updating.proofs.Taking.{files_counted}
-use Rattle.ov_updating.specs.Files.{AreHeldFor, files_of, firsts_of}
-use Rattle.ov_updating.specs.Updating.{CanGoOn, IsAskedFor, KeepsItOrMore, UpdateLasts}
+use Rattle.ov_updating.specs.Files.{AreHeldFor, files_of, firsts_of, removed_by}
+use Rattle.ov_updating.specs.Updating.{CanGoOn, IsAskedFor, IsSpelledAs, KeepsItOrMore, UpdateLasts}
 use Rattle.ov_placed.specs.Contents.{HoldsFiles, PlacedStore}
 use Rattle.ov_placed.specs.Updating.{IsPrepared, KeepsOrGoesOn, LastsMore, asked_of, bytes_of}
 use Rattle.ov_placed.specs.declared.preparing.Prepared.{Prepared}
@@ -72,6 +80,33 @@ module _ (all : List Rewrite) (firsts : List ℕ) (old : List (Option ℕ)) wher
   put_all i left now none was =
       (subst (λ (rs : List Rewrite). AreToPut all firsts old rs left now) none was).placed
 
+-- ---- what is prepared
+
+-- what is prepared from a spelled update, whose brief is this, is that of the update by number
+module _ {W : ℕ} (limit : ℕ) (master : List ℕ) (c : Catalogue) (s : SpelledUpdate)
+    (b : SpelledBrief) (p : Prepared W) where
+  pub is_prepared : b ≡ brief_as_spelled s → IsChange limit master c (numbered_at c b) p.change
+      → HasBriefForm second_form b → p.front ≡ brief_spelling second_form b
+      → p.text ≡ text_as_spelled s → p.removed ≡ removed_by (numbered_at c b)
+      → IsPrepared limit master c (numbered (file_names_shown c) s) p
+  is_prepared same change form front text removed =
+      let names : List (List ℕ) = file_names_shown c in
+      let both = updates_are_numbered names s in
+      let is : numbered_at c b ≡ brief (numbered names s) =
+      ap (λ (d : SpelledBrief). numbered_brief names d) same ∙ sym both.0 in
+      let again : b ≡ spelled_brief names (numbered_at c b) =
+      sym (spelled_again c b change.taken.0) in
+      record {
+        change = subst (λ (d : Brief). IsChange limit master c d p.change) is change;
+        spelled = subst (λ (d : Brief). IsSpelledAs c d p.front) is (record {
+          form = subst (HasBriefForm second_form) again form;
+          front_is = front ∙ ap (brief_spelling second_form) again;
+          told = told_again c b change.taken.0;
+        });
+        text = text ∙ sym both.1;
+        removed = removed ∙ ap removed_by is;
+      }
+
 -- ---- what an update is made from
 
 module _ {W : ℕ} (limit : ℕ) (master : List ℕ) (store : PlacedStore) (u : SealedUpdate)
@@ -85,8 +120,7 @@ module _ {W : ℕ} (limit : ℕ) (master : List ℕ) (store : PlacedStore) (u : 
   is_asked = record {
     taken = is.change.taken;
     rewrites = is.change.rewrites;
-    form = is.form;
-    front = is.front;
+    spelled = is.spelled;
     text = λ text some. ap (λ (o : Option (List ℕ)). bytes_of o) (is.text ∙ some);
     removed = is.removed;
     files = omega (

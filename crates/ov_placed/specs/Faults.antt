@@ -2,6 +2,7 @@
 use Rattle.std.specs.Prelude.{◌≡◌, ◌⊎◌, ℕ, ◌+◌, ◌<◌, ◌^◌, List, length, Option, ⊤}
 use Rattle.ov_blocks.specs.declared.extents.Extent.{Extent}
 use Rattle.ov_disk.specs.declared.area.Area.TheVariants.{Book}
+use Rattle.ov_record.specs.Briefs.{Brief as SpelledBrief}
 use Rattle.ov_record.specs.Forms.{Form}
 use Rattle.ov_history.specs.Briefs.{Brief}
 use Rattle.ov_history.specs.Catalogue.{Catalogue}
@@ -10,7 +11,7 @@ use Rattle.ov_history.specs.Rewrites.{rewrites_of}
 use Rattle.ov_images.specs.Damage.{BeginsWith, Spot, at_block, in_book}
 use Rattle.ov_images.specs.Extents.{IsFirstTaken, extents_in_use, new_extents}
 use Rattle.ov_images.specs.Records.{StopsInRecord, StopsInUpdate}
-use Rattle.ov_state.specs.Plans.{IsTaken}
+use Rattle.ov_state.specs.Plans.{IsTaken, numbered_at}
 use Rattle.ov_placed.specs.Replaying.{IsRecordOf}
 use Rattle.ov_placed.specs.declared.fault.ReplayFault.{ReplayFault}
 use Rattle.ov_placed.specs.declared.fault.ReplayFault.TheVariants.{Damaged, Memory}
@@ -71,18 +72,18 @@ UpdateIsTakenAt blocks c placed u spot =
 -- it. The spot is that of its gate.
 pub record BeginsUntaken (form : Form) (c : Catalogue) (body : List ℕ) (gate : ℕ) (spot : Spot)
     : Type 0 where
-  pub update : Brief
+  pub update : SpelledBrief
   pub begins : BeginsWith form update body
-  pub wrong : IsUntaken c update gate spot
+  pub wrong : IsUntaken c (numbered_at c update) gate spot
 
 -- The body begins with an update that a store with this catalogue takes, and isn't this update with
 -- as many first blocks as it needs. The spot is that at which reading these stops.
 pub record HasOtherFirsts (form : Form) (c : Catalogue) (body : List ℕ) (gate : ℕ) (spot : Spot)
     : Type 0 where
-  pub update : Brief
+  pub update : SpelledBrief
   pub begins : BeginsWith form update body
-  pub taken : IsTaken c update
-  pub wrong : StopsInBody form (count_of (rewrites_of c update)) body gate spot
+  pub taken : IsTaken c (numbered_at c update)
+  pub wrong : StopsInBody form (count_of (rewrites_of c (numbered_at c update))) body gate spot
 
 -- The body is an update that a store with this catalogue takes, with as many first blocks as it
 -- needs, and one of its new extents takes a block that is in use or past so many. The spot is that
@@ -90,7 +91,7 @@ pub record HasOtherFirsts (form : Form) (c : Catalogue) (body : List ℕ) (gate 
 pub record TakesUsedBlocks (form : Form) (blocks : ℕ) (c : Catalogue) (placed : List (Option ℕ))
     (body : List ℕ) (spot : Spot) : Type 0 where
   pub update : PlacedUpdate
-  pub is : IsRecordOf form update body
+  pub is : IsRecordOf form c update body
   pub taken : IsTaken c update.update
   pub firsts : HasFirsts c update
   pub wrong : UpdateIsTakenAt blocks c placed update spot

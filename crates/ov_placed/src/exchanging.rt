@@ -1,15 +1,16 @@
 //! First blocks that take the place of others.
 ghost use Rattle.std.specs.Prelude.{◌≡◌, ◌<◌, ◌≤◌, ◌-◌, OnOk, length, vec_capacity, vec_len};
 ghost use Rattle.ov_history.specs.Places.{change_at, living_at};
-ghost use Rattle.ov_history.specs.Placed.{replaced, with_unplaced};
+ghost use Rattle.ov_history.specs.Placed.{replaced};
 ghost use Rattle.ov_images.specs.Extents.{extent_at};
 ghost use Rattle.ov_record.specs.Briefs.{plain_brief};
 ghost use Rattle.ov_state.specs.Changes.{AreOfFiles};
 ghost use Rattle.ov_state.specs.Entries.{plain_rewrites};
-ghost use Rattle.ov_placed.specs.Holding.{given_up, AreHeld, IsWithAll};
+ghost use Rattle.ov_placed.specs.Holding.{given_up, makes_file, taken_away, with_none_if};
+ghost use Rattle.ov_placed.specs.Holding.{AreHeld, IsWithAll};
 
 use crate::first_blocks::next_first;
-use crate::removing::{give_up, take_one};
+use crate::removing::{give_up, take_away};
 use ov_base::Memory;
 use ov_blocks::Extents;
 use ov_record::Brief;
@@ -24,19 +25,35 @@ pub(crate) fn make_room(placed: &mut Vec<Option<u32>>) -> Result<(), Memory>
     Ok(())
 }
 
-/// Adds a new file, which has no first block yet, and takes that of a removed file away. There is
-/// room for a new one.
-pub(crate) fn unplace<const W: usize>(placed: &mut Vec<Option<u32>>, update: &Brief<W>)
-    requires { 1 ≤ vec_capacity placed.old - vec_len placed.old }
-    ensures { placed.new.items ≡ with_unplaced placed.old.items (plain_brief update.now) }
+/// Whether the update makes a file.
+pub(crate) fn makes_file<const W: usize>(update: &Brief<W>) -> bool
+    ensures { result ≡ makes_file (plain_brief update.now) }
 {
     match update {
-        Brief::Create { .. } => {
-            let _ = placed.push(None);
-        }
-        Brief::Remove { file } => take_one(placed, *file),
-        _ => {}
+        Brief::Create { .. } => true,
+        Brief::Replace { .. } => true,
+        _ => false,
     }
+}
+
+// Adds a new file, where there is one. It has no first block yet, and there is room for it.
+fn add_file(placed: &mut Vec<Option<u32>>, is_new: bool)
+    requires { 1 ≤ vec_capacity placed.old - vec_len placed.old }
+    ensures { placed.new.items ≡ with_none_if is_new placed.old.items }
+{
+    if is_new {
+        let _ = placed.push(None);
+    }
+}
+
+/// Adds a new file, where there is one, for which there is room; and takes the first block of the file
+/// of this number away, where there is a number.
+pub(crate) fn unplace(placed: &mut Vec<Option<u32>>, is_new: bool, removed: Option<u32>)
+    requires { 1 ≤ vec_capacity placed.old - vec_len placed.old }
+    ensures { placed.new.items ≡ taken_away removed (with_none_if is_new placed.old.items) }
+{
+    add_file(placed, is_new);
+    take_away(placed, removed);
 }
 
 /// Puts the first block of a file in place of its old one, and gives up the old extent.

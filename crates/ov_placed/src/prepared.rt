@@ -3,7 +3,7 @@ ghost use Rattle.std.specs.Prelude.{◌≡◌, ◌*◌, ℕ, List, Option, IfErr
 ghost use Rattle.ov_record.specs.Briefs.{plain_brief};
 ghost use Rattle.ov_record.specs.Forms.{form_in};
 ghost use Rattle.ov_state.specs.Changes.{HasRoomFor};
-ghost use Rattle.ov_state.specs.Plans.{IsChange, IsFitting};
+ghost use Rattle.ov_state.specs.Plans.{IsChange, IsFitting, numbered_at};
 ghost use Rattle.ov_placed.specs.Faults.{IsBadFor, IsUntaken, NamesSpot};
 ghost use Rattle.ov_placed.specs.Replaying.{placed_update, IsPlacedChange, IsRecordOf};
 
@@ -26,11 +26,12 @@ fn prepare_update(
 ) -> Result<Change<WIDTH>, ReplayFault>
     requires { IsFitting (plain_brief update) }
     ensures same { catalogue.new.catalogue ≡ catalogue.old.catalogue }
-    ensures change { IfOk result (λ change. IsChange (64 * WIDTH) surface.now.bytes
-        catalogue.old.catalogue (plain_brief update) change) }
+    ensures change { let c = catalogue.old.catalogue in
+        IfOk result (λ change. IsChange (64 * WIDTH) surface.now.bytes c
+        (numbered_at c (plain_brief update)) change) }
     ensures room { IfOk result (λ change. HasRoomFor catalogue.new.room change) }
-    ensures fault { IfErr result (NamesSpot
-        (IsUntaken catalogue.old.catalogue (plain_brief update) gate)) }
+    ensures fault { let c = catalogue.old.catalogue in
+        IfErr result (NamesSpot (IsUntaken c (numbered_at c (plain_brief update)) gate)) }
 {
     match catalogue.prepare(alloc, surface, update) {
         Ok(change) => Ok(change),
@@ -53,10 +54,11 @@ pub(crate) fn prepare_record(
     gate: u64,
 ) -> Result<(Change<WIDTH>, Stored<WIDTH>), ReplayFault>
     ensures same { catalogue.new.catalogue ≡ catalogue.old.catalogue }
-    ensures record { IfOk result (λ x.
-        IsRecordOf (form_in format) (placed_update x.1) body.now) }
-    ensures change { IfOk result (λ x. IsPlacedChange (64 * WIDTH) surface.now.bytes
-        catalogue.old.catalogue (placed_update x.1) x.0) }
+    ensures record { let c = catalogue.old.catalogue in
+        IfOk result (λ x. IsRecordOf (form_in format) c (placed_update c x.1) body.now) }
+    ensures change { let c = catalogue.old.catalogue in
+        IfOk result (λ x. IsPlacedChange (64 * WIDTH) surface.now.bytes c
+        (placed_update c x.1) x.0) }
     ensures room { IfOk result (λ x. HasRoomFor catalogue.new.room x.0) }
     ensures fault { (blocks : ℕ) (placed : List (Option ℕ)) → IfErr result (NamesSpot
         (IsBadFor (form_in format) blocks catalogue.old.catalogue placed body.now gate)) }

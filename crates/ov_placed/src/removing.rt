@@ -1,9 +1,10 @@
-//! A file that is removed: it has no first block any more, and its extent is given up.
+//! A file that is removed or replaced: it has no first block any more, and its extent is given up.
 ghost use Rattle.std.specs.Prelude.{◌≡◌};
 ghost use Rattle.ov_history.specs.Places.{change_at, gone, living_at};
 ghost use Rattle.ov_history.specs.Rewrites.{length_left};
 ghost use Rattle.ov_images.specs.Extents.{extent_at};
 ghost use Rattle.ov_record.specs.Briefs.{plain_brief};
+ghost use Rattle.ov_state.specs.Plans.{IsTaken, numbered_at};
 ghost use Rattle.ov_updating.specs.Files.{removed_by};
 ghost use Rattle.ov_placed.specs.Holding.{extent_removed, taken_away, AreHeld, IsWithAll};
 
@@ -14,12 +15,18 @@ use ov_record::Brief;
 use ov_state::State;
 use ov_tokens::{Base, Surface};
 
-/// The number of the file that the update removes, where it removes one.
-pub(crate) fn removed_by<const W: usize>(update: &Brief<W>) -> Option<u32>
-    ensures { result ≡ removed_by (plain_brief update.now) }
+/// The number of the file that the update removes or replaces, where it does either. A replacement has
+/// the file's name, so this is looked up while the file is there.
+pub(crate) fn removed_by<B: Graph<Base, W>, S: Graph<Surface, W>, const W: usize>(
+    catalogue: &State<B, S, W>,
+    update: &Brief<W>,
+) -> Option<u32>
+    ensures { let c = catalogue.now.catalogue in let b = numbered_at c (plain_brief update.now) in
+        IsTaken c b → result ≡ removed_by b }
 {
     match update {
         Brief::Remove { file } => Some(*file),
+        Brief::Replace { name, .. } => catalogue.file_number(name),
         _ => None,
     }
 }

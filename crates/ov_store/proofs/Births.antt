@@ -14,6 +14,7 @@ use Rattle.ov_journal.specs.Book.{Contents, contents_of, born, is_first}
 use Rattle.ov_journal.specs.Log.{Log, IsUnbornOrEmpty, IsKept, Stands}
 use Rattle.ov_journal.specs.Standing.{IsUnborn}
 use Rattle.ov_images.specs.Images.{HasRecords, Keys, Keeps, KeepsAt, IsImageOf, header_of}
+use Rattle.ov_images.proofs.Headers.{born_is_store}
 use Rattle.ov_placed.specs.Contents.{PlacedStore}
 use Rattle.ov_store.specs.Beginning.{IsBornStore}
 use Rattle.ov_store.specs.Opened.{Serves, IsSafe, open_with}
@@ -113,5 +114,9 @@ module _ {D : Type 0} (tells : DiskTells D)
       serves = serves_none;
       empty = is;
       told = λ i read. ((kept i read).now, (kept i read).is_read);
-      fresh = λ i read. ap (λ (c : Contents). is_first c.head) (kept_now i read).0;
+      fresh = λ i read. (
+        (born_is_store (header_of k 2 (blank_placed mode first)) None [] i.book (inr refl)
+            (kept_now i read).0).0,
+        ap (λ (c : Contents). is_first c.head) (kept_now i read).0,
+      );
     }

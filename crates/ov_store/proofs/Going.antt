@@ -13,17 +13,20 @@ use Rattle.ov_disk.specs.Tells.{DiskTells}
 use Rattle.ov_disk.proofs.Runs.{weaker}
 use Rattle.ov_moves.specs.Placing.{LiesIn}
 use Rattle.ov_moves.specs.Runs.{LeavesAtMost}
-use Rattle.ov_record.specs.Updates.{SealedUpdate}
+use Rattle.ov_record.specs.Updates.{SealedUpdate as SpelledUpdate}
 use Rattle.ov_history.specs.Briefs.{brief, text_of}
-use Rattle.ov_history.specs.Catalogue.{Catalogue, catalogue_after}
+use Rattle.ov_history.specs.Catalogue.{Catalogue, catalogue_after, file_names_shown}
+use Rattle.ov_history.specs.History.{Matrix, no_one}
 use Rattle.ov_history.specs.Placed.{IsReplayedTo, PlacedHistory, PlacedUpdate, cut, placed_after}
 use Rattle.ov_history.specs.Placed.{unplaced, with_placed}
 use Rattle.ov_history.specs.Places.{living_at}
 use Rattle.ov_history.specs.Rewrites.{length_left, rewrites_of, stored_after, without_gone}
-use Rattle.ov_history.specs.Sealed.{KeepsBytes, SealedHistory, StandsFor, with_sealed}
+use Rattle.ov_history.specs.Sealed.{KeepsBytes, SealedHistory, StandsFor, file_names_of, with_sealed}
+use Rattle.ov_history.specs.Sent.{SealedUpdate, numbered}
 use Rattle.ov_history.specs.Texts.{BriefHistory, brief_of, with_brief}
 use Rattle.ov_history.proofs.Briefly.{brief_of-push}
 use Rattle.ov_history.proofs.GoingOn.{histories_go_on, stored-push}
+use Rattle.ov_history.proofs.Numbering.{names_are_shown}
 use Rattle.ov_history.proofs.Placed.{files_are_placed, replays_go_on}
 use Rattle.ov_journal.specs.Book.{Contents, contents_of}
 use Rattle.ov_journal.specs.Log.{HasSameRecords, IsLogOf, IsLogOfFirst, Log, Stands, appended}
@@ -32,7 +35,8 @@ use Rattle.ov_journal.proofs.Logs.{first_same, still_first}
 use Rattle.ov_images.specs.Extents.{IsLaidOut, blocks_in, catalogue_at, extents_in_use, stored_in}
 use Rattle.ov_images.specs.Images.{HasRecords, Keeps, KeepsAt, KeepsEither, Keys}
 use Rattle.ov_images.specs.Laws.{placed_as}
-use Rattle.ov_images.specs.Records.{AllHaveFormFrom, bodies_of, form_behind, record_spelling}
+use Rattle.ov_images.specs.Records.{AllHaveFormFrom, bodies_of, form_behind, matrix_with}
+use Rattle.ov_images.specs.Records.{names_after, record_spelling}
 use Rattle.ov_images.proofs.Extents.{laid_out_front, unplaced-push}
 use Rattle.ov_images.proofs.Keeping.{places_once}
 use Rattle.ov_images.proofs.Records.{bodies-push}
@@ -50,10 +54,12 @@ use Rattle.ov_store.proofs.Histories.{begins_with, safe_of, stored_same}
 use Rattle.ov_store.proofs.Looking.{store_of}
 use Rattle.ov_store.proofs.Said.{cut_out, said, told_by}
 
-form_front : (step : Option ℕ) (count : ℕ) (us : List PlacedUpdate) (u : PlacedUpdate)
-    → AllHaveFormFrom step count (us ++ u ∷ []) → AllHaveFormFrom step count us
-form_front step count [] u all = tt
-form_front step count (v ∷ us) u all = (all.0, form_front step (count + 1) us u all.1)
+form_front : (step : Option ℕ) (count : ℕ) (m : Matrix) (us : List PlacedUpdate)
+    (u : PlacedUpdate) → AllHaveFormFrom step count m (us ++ u ∷ [])
+    → AllHaveFormFrom step count m us
+form_front step count m [] u all = tt
+form_front step count m (v ∷ us) u all =
+    (all.0, form_front step (count + 1) (matrix_with m v) us u all.1)
 
 -- ---- what is held lies in Blobs
 
@@ -142,14 +148,23 @@ told_before (Some i) new still k read = (i, refl)
 told_before None new still k read = absurd (cc (still refl, read))
 
 module _ {D : Type 0} (tells : DiskTells D) (k : Keys) (d0 d1 : D) (store : PlacedStore) (log : Log)
-    (safe : IsSafe tells log store (store_of tells d0 k store false)) (u : SealedUpdate)
-    (prepared : Prepared WIDTH) (is : IsPrepared (64 * WIDTH) k.surface store.catalogue u prepared)
+    (safe : IsSafe tells log store (store_of tells d0 k store false)) (s : SpelledUpdate)
+    (prepared : Prepared WIDTH) (is : IsPrepared (64 * WIDTH) k.surface store.catalogue
+    (numbered (file_names_shown store.catalogue) s) prepared)
     (leaves : LeavesAtMost tells (KeepsOrGoesOn (64 * WIDTH) k.surface store prepared) d0 d1) where
+  -- the update that is spelled so
+  abbrev u : SealedUpdate
+  u = numbered (file_names_shown store.catalogue) s
+
   abbrev p : PlacedHistory
   p = safe.history
 
   abbrev Stands0 : SealedHistory → Type 0
   Stands0 g = Serves tells g (store_of tells d0 k store false)
+
+  -- the catalogue shows the names of each of these histories
+  names_of : (g : SealedHistory) → Stands0 g → file_names_shown store.catalogue ≡ file_names_of g
+  names_of g serves = names_are_shown k.surface store.catalogue g serves.catalogue
 
   -- the image that is read keeps each history for which the store stands, with the first blocks that
   -- were replayed
@@ -173,12 +188,14 @@ module _ {D : Type 0} (tells : DiskTells D) (k : Keys) (d0 d1 : D) (store : Plac
   either g x (inr more) = inr (with_placed p (placed_as u more.0), more.1)
 
   pub leaves_either : (later : Opened D) → later.disk ≡ d1
-      → LeavesEither tells u (store_of tells d0 k store false) later
+      → LeavesEither tells s (store_of tells d0 k store false) later
   leaves_either later same g serves sound i read =
-      subst (λ (d : D). LeavesOnly tells d0 d (KeepsEither k g u)) (sym same)
+      subst (λ (names : List (List ℕ)).
+      LeavesOnly tells d0 later.disk (KeepsEither k g (numbered names s))) (names_of g serves)
+      (subst (λ (d : D). LeavesOnly tells d0 d (KeepsEither k g u)) (sym same)
       (weaker tells d0 d1 (KeepsOrGoesOn (64 * WIDTH) k.surface store prepared i) (KeepsEither k g u)
       (leaves.leaves i read)
-      (λ x goes. either g x (goes k p g u refl (may g serves i read)).0))
+      (λ x goes. either g x (goes k p g u refl (may g serves i read)).0)))
 
   pub leaves_step : Told (tells.reads d0) (λ i. LeavesOnly tells d0 d1 (HasSameStep i))
   leaves_step i read =
@@ -228,9 +245,9 @@ module _ {D : Type 0} (tells : DiskTells D) (k : Keys) (d0 d1 : D) (store : Plac
         let same : one.now ≡ i = cc (sym one.is_read ∙ read) in
         one.only x left ∙ same
 
-    pub serves_more : ServesMore tells u (store_of tells d0 k store false)
-        (store_of tells d1 k new false)
-    serves_more g serves = record {
+    serves_next : (g : SealedHistory) → Stands0 g
+        → Serves tells (with_sealed g u) (store_of tells d1 k new false)
+    serves_next g serves = record {
       catalogue = subst (λ (c : Catalogue). StandsFor k.surface c (with_sealed g u))
           (sym catalogue_more)
           (histories_go_on k.surface store.catalogue g u serves.catalogue is.change.taken.0
@@ -243,6 +260,13 @@ module _ {D : Type 0} (tells : DiskTells D) (k : Keys) (d0 d1 : D) (store : Plac
           (q, last g serves i read);
       after_fault = λ bad. absurd (cc bad);
     }
+
+    pub serves_more : ServesMore tells s (store_of tells d0 k store false)
+        (store_of tells d1 k new false)
+    serves_more g serves =
+        subst (λ (names : List (List ℕ)).
+        Serves tells (with_sealed g (numbered names s)) (store_of tells d1 k new false))
+        (names_of g serves) (serves_next g serves)
 
     pub safe_more : (later : Log) (count : ℕ) → HasSameRecords (appended count log) later
         → Stands tells later d1 → IsSafe tells later new (store_of tells d1 k new false)
@@ -317,11 +341,12 @@ module _ {D : Type 0} (tells : DiskTells D) (k : Keys) (d0 d1 : D) (store : Plac
         format = has.format;
         known = has.known;
         first = has.first;
-        form = form_front has.step 0 p.updates w has.form;
+        form = form_front has.step 0 no_one p.updates w has.form;
         laid_out = laid_out_front k.surface (blocks_in x.blobs) p p.updates (w ∷ []) has.laid_out;
         head = ap (λ (c : Contents). c.head) has.book;
         step_is = here;
-        rest = record_spelling (form_behind has.step (length p.updates)) w ∷ [];
+        rest =
+            record_spelling (form_behind has.step (length p.updates)) (names_after p.updates) w ∷ [];
         split = ap (λ (c : Contents). c.records.bodies) has.book
             ∙ bodies-push has.step p.updates w;
       })

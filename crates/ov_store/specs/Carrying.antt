@@ -14,9 +14,10 @@ use Rattle.ov_store.specs.Opened.{Opened}
 abbrev pub IsToBeCarriedOver : List ℕ → Type 0
 IsToBeCarriedOver book = HasMagic book × (is_due book ≡ true)
 
--- the Book isn't that of a store of the first format, so that all its records are in the second form
+-- the Book is that of a store, and not of one of the first format, so that all its records are in the
+-- second form
 abbrev pub IsOfSecondFormat : List ℕ → Type 0
-IsOfSecondFormat book = is_first (take 78 book) ≡ false
+IsOfSecondFormat book = HasMagic book × (is_first (take 78 book) ≡ false)
 
 -- After an update that was made, the disk has a store of the format from before. In the first format
 -- just those records come before its step record that came before it, or that were there while it

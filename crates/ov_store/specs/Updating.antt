@@ -1,14 +1,17 @@
--- What an update of a store answers, and what it leaves.
+-- What an update of a store answers, and what it leaves. The update is as it is spelled: a replacement
+-- has the name of its file, whose number is that of the catalogue.
 use Rattle.std.specs.Prelude.{◌≡◌, ℕ, ◌≤◌, Bool, true, false, Some, None, option_map, Result, Ok, Err, ⊤}
 use Rattle.ov_base.specs.Causes.{Rose}
 use Rattle.ov_base.specs.declared.limits.TheConstants.{SET_WORDS}
+use Rattle.ov_record.specs.Briefs.{Brief, brief, text_of}
 use Rattle.ov_record.specs.Updates.{SealedUpdate}
-use Rattle.ov_history.specs.Briefs.{Brief, brief, text_of}
+use Rattle.ov_history.specs.Briefs.{part_place}
 use Rattle.ov_history.specs.Catalogue.{Catalogue, outline, catalogue_after}
 use Rattle.ov_history.specs.Rewrites.{rewrites_of, stored_after, without_gone}
-use Rattle.ov_history.specs.Sealed.{SealedHistory, HasParts, refusal_shown, with_sealed}
-use Rattle.ov_state.specs.Plans.{IsTaken}
-use Rattle.ov_history.specs.Briefs.{part_place}
+use Rattle.ov_history.specs.Sealed.{SealedHistory, HasParts, file_names_of, refusal_shown}
+use Rattle.ov_history.specs.Sealed.{with_spelled}
+use Rattle.ov_history.specs.Sent.{numbered}
+use Rattle.ov_state.specs.Plans.{IsTaken, numbered_at}
 use Rattle.ov_disk.specs.Disk.{Told}
 use Rattle.ov_disk.specs.Moments.{LeavesOnly}
 use Rattle.ov_disk.specs.Tells.{DiskTells}
@@ -22,23 +25,25 @@ use Rattle.ov_store.specs.declared.fault.StoreFault.TheVariants.{Refused, BadPla
 -- Why an update isn't made, whose sets are as wide as a store's. A fault of the disk comes only to one
 -- that is taken. Memory may be refused at any time, and that a store failed has a clause of its own.
 abbrev pub IsFaultFor : Catalogue → Brief → StoreFault → Type 0
-IsFaultFor c b (Refused why) = refusal_shown c b ≡ Some why
+IsFaultFor c b (Refused why) = refusal_shown c (numbered_at c b) ≡ Some why
 IsFaultFor c b (BadPlan place) =
-    (refusal_shown c b ≡ None) × (HasParts (outline c) b → ⊥) × (place ≡ part_place SET_WORDS b)
-IsFaultFor c b DiskFailed = IsTaken c b
+    (refusal_shown c (numbered_at c b) ≡ None) × (HasParts (outline c) (numbered_at c b) → ⊥)
+    × (place ≡ part_place SET_WORDS b)
+IsFaultFor c b DiskFailed = IsTaken c (numbered_at c b)
 IsFaultFor c b Failed = ⊤
 IsFaultFor c b Memory = ⊤
 
 -- The update is made in the catalogue, and in the stored bytes where they are said, of which none are
--- left of a file that it removes; and its epoch is answered. Or it is made in neither, for this reason.
+-- left of a file that it removes or replaces; and its epoch is answered. Or it is made in neither, for
+-- this reason.
 abbrev pub Updates : {D : Type 0} → SealedUpdate → Opened D → Opened D → Result ℕ StoreFault
     → Type 0
-Updates u old new (Ok epoch) =
-    IsTaken old.catalogue (brief u)
-    × (new.catalogue ≡ catalogue_after old.keys.surface old.catalogue (brief u))
+Updates u old new (Ok epoch) = let b = numbered_at old.catalogue (brief u) in
+    IsTaken old.catalogue b
+    × (new.catalogue ≡ catalogue_after old.keys.surface old.catalogue b)
     × (new.stored ≡ option_map
-    (λ stored. stored_after old.keys.surface (rewrites_of old.catalogue (brief u)) (text_of u)
-    (without_gone stored (brief u))) old.stored)
+    (λ stored. stored_after old.keys.surface (rewrites_of old.catalogue b) (text_of u)
+    (without_gone stored b)) old.stored)
     × (epoch ≡ new.catalogue.epoch)
 Updates u old new (Err fault) =
     IsFaultFor old.catalogue (brief u) fault × (new.catalogue ≡ old.catalogue)
@@ -86,12 +91,12 @@ abbrev pub LeavesEither : {D : Type 0} → DiskTells D → SealedUpdate → Open
 LeavesEither tells u old new =
     (g : SealedHistory) → Serves tells g old → old.failed ≡ false
     → Told (tells.reads old.disk) (λ _.
-    LeavesOnly tells old.disk new.disk (KeepsEither old.keys g u))
+    LeavesOnly tells old.disk new.disk (KeepsEither old.keys g (numbered (file_names_of g) u)))
 
 -- the new store stands for each history for which the old one stood, with this update
 abbrev pub ServesMore : {D : Type 0} → DiskTells D → SealedUpdate → Opened D → Opened D → Type 0
 ServesMore tells u old new =
-    (g : SealedHistory) → Serves tells g old → Serves tells (with_sealed g u) new
+    (g : SealedHistory) → Serves tells g old → Serves tells (with_spelled g u) new
 
 -- ---- each call
 

@@ -4,15 +4,18 @@ ghost use Rattle.ov_disk.specs.Calls.{IsDiskCall};
 ghost use Rattle.ov_disk.specs.Disk.{Told};
 ghost use Rattle.ov_disk.specs.Moments.{IsUntouched};
 ghost use Rattle.ov_history.specs.Briefs.{brief};
+ghost use Rattle.ov_history.specs.Catalogue.{file_names_shown};
 ghost use Rattle.ov_history.specs.Placed.{AllEndWithin};
 ghost use Rattle.ov_history.specs.Sealed.{SealedHistory};
+ghost use Rattle.ov_history.specs.Sent.{SealedUpdate, numbered};
 ghost use Rattle.ov_images.specs.Damage.{BeginsWith};
 ghost use Rattle.ov_journal.specs.Book.{contents_of};
 ghost use Rattle.ov_journal.specs.Log.{IsLogOfFirst};
 ghost use Rattle.ov_journal.specs.declared.fault.CheckFault.TheVariants.{Disk as DiskFailed};
+ghost use Rattle.ov_record.specs.Briefs.{Brief as SpelledBrief, brief as brief_as_spelled};
 ghost use Rattle.ov_record.specs.Forms.{form_in};
-ghost use Rattle.ov_record.specs.Updates.{SealedUpdate, sealed_update};
-ghost use Rattle.ov_state.specs.Plans.{IsFitting, IsTaken};
+ghost use Rattle.ov_record.specs.Updates.{sealed_update};
+ghost use Rattle.ov_state.specs.Plans.{IsFitting, IsTaken, numbered_at};
 ghost use Rattle.ov_store.specs.Opened.{Serves};
 ghost use Rattle.ov_store.specs.Owners.{Checks, FollowsUpdate, HasTextIn, IsHistoryOf, is_gone_in};
 ghost use Rattle.ov_store.specs.Owners.{masters};
@@ -51,10 +54,11 @@ fn follow(
     update: Update<WIDTH>,
     gone: bool,
 ) -> Result<bool, Memory>
-    requires { IsFitting (brief (sealed_update update)) }
-    ensures { IfOk result (λ yes. IsTaken state.old.catalogue (brief (sealed_update update))
-        → FollowsUpdate (masters base.now.bytes surface.now.bytes)
-        state.old.catalogue gone (sealed_update update) state.new.catalogue yes) }
+    requires { IsFitting (brief_as_spelled (sealed_update update)) }
+    ensures { let c = state.old.catalogue in
+        IfOk result (λ yes. IsTaken c (numbered_at c (brief_as_spelled (sealed_update update)))
+        → FollowsUpdate (masters base.now.bytes surface.now.bytes) c gone
+        (numbered (file_names_shown c) (sealed_update update)) state.new.catalogue yes) }
 {
     if !is_owners(alloc, state, base, &update, gone)? {
         return Ok(false);
@@ -86,7 +90,8 @@ fn follow_record<D: Disk>(
     requires { Told (D.tells.reads disk.old) (λ i.
         AllEndWithin (length i.blobs) placed.now.catalogue.files placed.now.placed) }
     ensures followed { IfOk result (λ yes. Told (D.tells.reads disk.old) (λ i.
-        (u : SealedUpdate) → BeginsWith (form_in format) (brief u) body.now
+        (u : SealedUpdate) (b : SpelledBrief) → BeginsWith (form_in format) b body.now
+        → brief u ≡ numbered_at state.old.catalogue b
         → HasTextIn surface.now.bytes placed.now (length state.old.catalogue.files) i.blobs u
         → IsTaken state.old.catalogue (brief u)
         → FollowsUpdate (masters base.now.bytes surface.now.bytes) state.old.catalogue

@@ -1,16 +1,19 @@
 //! Whether an update is as its owner seals it.
 ghost use Rattle.std.specs.Prelude.{◌≡◌, ◌≤◌, Bool, List, Some, true, false, ℕ, IfOk, length};
 ghost use Rattle.ov_base.specs.declared.limits.TheConstants.{MAX_FILE_BYTES};
-ghost use Rattle.ov_history.specs.Briefs.{BriefCreate, BriefGrant, brief};
-ghost use Rattle.ov_history.specs.Catalogue.{outline};
+ghost use Rattle.ov_history.specs.Briefs.{BriefGrant, BriefReplace};
+ghost use Rattle.ov_history.specs.Catalogue.{file_names_shown, outline};
 ghost use Rattle.ov_history.specs.Masters.{Masters};
-ghost use Rattle.ov_record.specs.Updates.{SealedCreate, SealedGrant, sealed_update};
+ghost use Rattle.ov_history.specs.Places.{place_of};
+ghost use Rattle.ov_history.specs.Sent.{SealedCreate, SealedGrant, SealedReplace, numbered};
+ghost use Rattle.ov_record.specs.Briefs.{brief};
+ghost use Rattle.ov_record.specs.Updates.{sealed_update};
 ghost use Rattle.ov_surface.specs.Coats.{base_text};
 ghost use Rattle.ov_surface.specs.Tags.{tag_of_file};
-ghost use Rattle.ov_state.specs.Plans.{IsFitting, IsTaken};
-ghost use Rattle.ov_store.specs.Owners.{TellsOwners};
+ghost use Rattle.ov_state.specs.Plans.{IsFitting, IsTaken, numbered_at};
+ghost use Rattle.ov_store.specs.Owners.{HasRoomFor, TellsOwners};
 
-use ov_base::{Key, Memory, Octets, UserSet};
+use ov_base::{Key, Memory, Name, Octets, UserSet};
 use ov_base_layer::{seal_access, seal_cover};
 use ov_graph::{GraphRefusal, root};
 use ov_record::Update;
@@ -78,9 +81,9 @@ fn tag_under(alloc: Global, access: &Key, number: u32, bytes: &Octets) -> Result
     Ok(file_tag(access, number, plain.as_slice()))
 }
 
-// Whether the tokens of a creation, and the tag unless the file is gone, are those that the owner sends
-// with these bytes.
-fn is_creation(
+// Whether the tokens of a new file for this list, and the tag unless the file is gone, are those that
+// the owner sends with these bytes.
+fn is_new_file(
     alloc: Global,
     state: &Catalogue,
     base: &Master,
@@ -92,8 +95,7 @@ fn is_creation(
 ) -> Result<bool, Memory>
     requires { length bytes.now ≤ MAX_FILE_BYTES }
     ensures { IfOk result (λ yes. (k : Masters) (name : List ℕ) → k.base ≡ base.now.bytes
-        → IsTaken state.now.catalogue
-        (BriefCreate name list.now tokens.now tag.now (length bytes.now))
+        → HasRoomFor state.now.catalogue list.now
         → TellsOwners k (outline state.now.catalogue) gone
         (SealedCreate name list.now tokens.now tag.now bytes.now) yes) }
 {
@@ -118,6 +120,32 @@ fn is_creation(
     Ok(true)
 }
 
+// Whether a replacement of the file of this name is as its owner seals it: its file is a new one for the
+// list of the old one.
+fn is_replacement(
+    alloc: Global,
+    state: &Catalogue,
+    base: &Master,
+    name: &Name,
+    tokens: &Tokens,
+    tag: &[u8; 32],
+    bytes: &Octets,
+    gone: bool,
+) -> Result<bool, Memory>
+    requires { length bytes.now ≤ MAX_FILE_BYTES }
+    ensures { let c = state.now.catalogue in let file = place_of name.now (file_names_shown c) in
+        IfOk result (λ yes. (k : Masters) → k.base ≡ base.now.bytes
+        → IsTaken c (BriefReplace file tokens.now tag.now (length bytes.now))
+        → TellsOwners k (outline c) gone (SealedReplace file tokens.now tag.now bytes.now) yes) }
+{
+    let file = match state.file_number(name) {
+        Some(file) => file,
+        None => return Ok(false),
+    };
+    let list = state.list_of(file);
+    is_new_file(alloc, state, base, &list, tokens, tag, bytes, gone)
+}
+
 /// Whether an update is, after what the catalogue has, as its owner seals it under the base master;
 /// but for the tag and the bytes of its file, where that is gone by now.
 pub(crate) fn is_owners(
@@ -128,9 +156,11 @@ pub(crate) fn is_owners(
     gone: bool,
 ) -> Result<bool, Memory>
     requires { IsFitting (brief (sealed_update update.now)) }
-    ensures { IfOk result (λ yes. (k : Masters) → k.base ≡ base.now.bytes
-        → IsTaken state.now.catalogue (brief (sealed_update update.now))
-        → TellsOwners k (outline state.now.catalogue) gone (sealed_update update.now) yes) }
+    ensures { let c = state.now.catalogue in
+        IfOk result (λ yes. (k : Masters) → k.base ≡ base.now.bytes
+        → IsTaken c (numbered_at c (brief (sealed_update update.now)))
+        → TellsOwners k (outline c) gone
+        (numbered (file_names_shown c) (sealed_update update.now)) yes) }
 {
     match update {
         Update::Create {
@@ -139,7 +169,13 @@ pub(crate) fn is_owners(
             tag,
             bytes,
             ..
-        } => is_creation(alloc, state, base, list, tokens, tag, bytes, gone),
+        } => is_new_file(alloc, state, base, list, tokens, tag, bytes, gone),
+        Update::Replace {
+            name,
+            tokens,
+            tag,
+            bytes,
+        } => is_replacement(alloc, state, base, name, tokens, tag, bytes, gone),
         Update::Grant { user, file, token } => match token {
             Some(token) => Ok(is_grant(state, base, *user, *file, token)),
             None => Ok(true),

@@ -17,14 +17,14 @@ use Rattle.ov_fields.specs.Spelling.{u32}
 use Rattle.ov_record.specs.Briefs.{Brief}
 use Rattle.ov_record.specs.Forms.{second_form}
 use Rattle.ov_record.specs.Stored.{HasBriefForm, IsNumber, Stored, brief_spelling, stored_spelling}
-use Rattle.ov_record.specs.Updates.{SealedUpdate}
 use Rattle.ov_record.proofs.BriefLaws.{few_bytes, some_bytes}
 use Rattle.ov_record.proofs.UpdateLaws.{second_has_room}
 use Rattle.ov_history.specs.Places.{living_at}
-use Rattle.ov_history.specs.Briefs.{brief}
-use Rattle.ov_history.specs.Catalogue.{Catalogue, Filed}
+use Rattle.ov_history.specs.Briefs.{brief, spelled_brief}
+use Rattle.ov_history.specs.Catalogue.{Catalogue, Filed, file_names_shown}
 use Rattle.ov_history.specs.Placed.{takes_place}
 use Rattle.ov_history.specs.Rewrites.{Rewrite, files_after, length_left, rewrites_of}
+use Rattle.ov_history.specs.Sent.{SealedUpdate}
 use Rattle.ov_history.proofs.Placing.{size_after, sized}
 use Rattle.ov_recoat.specs.Laws.{Ascend}
 use Rattle.ov_recoat.proofs.Bytes.{above}
@@ -225,6 +225,7 @@ module _ (c : Catalogue) (u : SealedUpdate) (a : Asked) (is : IsAskedFor c u a) 
 
   pub spells : SpellsBodies (body_with a.front) (files_of a.placed a.rewrites)
   spells moves are =
-      subst (λ (front : List ℕ). IsBody (front ++ flat_map u32 (firsts_of moves))) (sym is.front)
-      (is_body (brief u) (firsts_of moves) is.form
+      subst (λ (front : List ℕ). IsBody (front ++ flat_map u32 (firsts_of moves)))
+      (sym is.spelled.front_is)
+      (is_body (spelled_brief (file_names_shown c) (brief u)) (firsts_of moves) is.spelled.form
       (omega (arith, length-firsts moves, are.many, files_few a.placed a.rewrites, rewrites_few)))

@@ -1,5 +1,5 @@
 -- Where the files of an update's rewrites have gone, that no two are at one block, and that none is at
--- that of a file that is removed.
+-- that of a file that is removed or replaced.
 use Rattle.std.proofs.Common.{◌≡◌, ◌⊎◌, inl, inr, ℕ, ◌<◌, ◌≤◌, List, length, get_or, refl, sym, ◌∙◌, ap, subst, arith}
 use Rattle.std.specs.Prelude.{true, Contains, IfSome, Option, Some, None, is_some, slice_index_or}
 use Rattle.std.proofs.lemmas.Bool.{cases_lt, ltb-true}
@@ -11,12 +11,12 @@ use Rattle.ov_moves.specs.Releasing.{BeginsOld, MayGoOn, no_file}
 use Rattle.ov_moves.specs.declared.moves.Move.{Move}
 use Rattle.ov_moves.specs.declared.placing.Placed.{Placed}
 use Rattle.ov_moves.proofs.NewExtents.{blocks_some}
-use Rattle.ov_record.specs.Updates.{SealedUpdate}
 use Rattle.ov_history.specs.Places.{living_at}
 use Rattle.ov_history.specs.Briefs.{brief}
 use Rattle.ov_history.specs.Catalogue.{Catalogue, Filed}
 use Rattle.ov_history.specs.Placed.{placed_after, replaced, takes_place, with_unplaced}
 use Rattle.ov_history.specs.Rewrites.{Rewrite, files_after, length_left}
+use Rattle.ov_history.specs.Sent.{SealedUpdate}
 use Rattle.ov_history.proofs.ChangeLaws.{below_some}
 use Rattle.ov_history.proofs.Placing.{grown_size, length-placed_after, length-with_unplaced, size_after, sized}
 use Rattle.ov_history.proofs.Storing.{length-files_after}
@@ -237,9 +237,9 @@ module _ (c : Catalogue) (u : SealedUpdate) (a : Asked) (is : IsAskedFor c u a) 
         ]
       ]
 
-  -- ---- a file that is removed
+  -- ---- a file that is gone afterwards
 
-  -- the file that the update removes, with its first block
+  -- the file that the update removes or replaces, with its first block
   pub record IsRemovedAt (first : ℕ) : Type 0 where
     pub file : ℕ
     pub removed : removed_by (brief u) ≡ Some file
@@ -294,7 +294,7 @@ module _ (c : Catalogue) (u : SealedUpdate) (a : Asked) (is : IsAskedFor c u a) 
         f.some,
         sized c (brief u) f.rewrite (of_update c u a is f.rewrite f.there),
         ap size (same_file f.rewrite.file gone.file first begun gone.was),
-        removed_size c (brief u) gone.file gone.removed,
+        removed_size c (brief u) gone.file (was_below gone.file first gone.was) gone.removed,
       )
 
   -- so its extent is held until it is given up

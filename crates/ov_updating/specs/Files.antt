@@ -1,11 +1,12 @@
--- The files whose bytes an update writes, the file that it removes, and the extents that files have.
+-- The files whose bytes an update writes, the file that it removes or replaces, and the extents that
+-- files have.
 use Rattle.std.specs.Prelude.{◌≡◌, ℕ, ◌<◌, ◌≤◌, Bool, true, false, List, [], ◌∷◌, length}
 use Rattle.std.specs.Prelude.{slice_index_or, Option, Some, None}
 use Rattle.ov_blocks.specs.declared.extents.Extent.{Extent}
 use Rattle.ov_moves.specs.declared.moves.Move.{Move}
 use Rattle.ov_moves.specs.declared.placing.Placed.{Placed}
 use Rattle.ov_history.specs.Briefs.{Brief, BriefEnrol, BriefCreate, BriefGrant, BriefRevoke}
-use Rattle.ov_history.specs.Briefs.{BriefRemove}
+use Rattle.ov_history.specs.Briefs.{BriefRemove, BriefReplace}
 use Rattle.ov_history.specs.Catalogue.{Filed}
 use Rattle.ov_history.specs.Placed.{ArePlaced, takes_place}
 use Rattle.ov_history.specs.Rewrites.{Rewrite}
@@ -34,15 +35,16 @@ abbrev pub firsts_of : List Move → List ℕ
 firsts_of [] = []
 firsts_of (m ∷ moves) = m.to ∷ firsts_of moves
 
--- ---- a file that is removed
+-- ---- a file that is gone afterwards
 
--- the number of the file that the update removes, where it removes one
+-- the number of the file that the update removes or replaces, where it does either
 abbrev pub removed_by : Brief → Option ℕ
 removed_by (BriefEnrol user) = None
 removed_by (BriefCreate file list tokens tag size) = None
 removed_by (BriefGrant user file token) = None
 removed_by (BriefRevoke user file) = None
 removed_by (BriefRemove file) = Some file
+removed_by (BriefReplace file tokens tag size) = Some file
 
 -- the first block of the file of this number, where there is a number and the file has a block
 abbrev pub first_at : List (Option ℕ) → Option ℕ → Option ℕ
