@@ -27,7 +27,7 @@ use Rattle.ov_model.specs.Lines.{lines}
 use Rattle.ov_model.specs.Step.{reply_to, after, after_all}
 use Rattle.ov_model.proofs.Runs.{after_all-more, lines-more}
 use Rattle.ov_machine.specs.Disks.{Holds, KeepsPlain, KeepsStep, StandsForPlain}
-use Rattle.ov_machine.specs.Machine.{AreOtherTags, MachineGoesOn, IsCommand, KeptOn, LeavesStep, StandsFor, StepsAt}
+use Rattle.ov_machine.specs.Machine.{AreOtherTags, MachineGoesOn, IsCommand, KeptOn, MayLeave, StandsFor, StepsAt}
 use Rattle.ov_machine.specs.Sinks.{Grows}
 use Rattle.ov_machine.proofs.Stays.{holds_stands, keeps_stands}
 use Rattle.ov_machine.specs.declared.fault.BadTag.{BadTag}
@@ -183,7 +183,7 @@ module _ {D : Type 0} (tells : DiskTells D) where
       reaches = λ holds. record {
         holds = holds;
         moments = started tells first.disk (KeepsFirst k p text)
-            (λ c left. ([], (1, MAX_SCRIPT_BYTES, text, (refl, refl, refl)), holds_stands tells k p first.disk holds c left));
+            (λ c left. ([], (1, MAX_SCRIPT_BYTES, text, (refl, refl, refl)), holds_stands tells k p p first.disk holds c left));
       };
     }
 
@@ -215,14 +215,14 @@ module _ {D : Type 0} (tells : DiskTells D) where
       -- what keeps the history from before the question for the epoch or behind it keeps what it
       -- was
       epoch_first : (text t : List ℕ) (s : AnsweredSoFar tells k p text t line room old now first mid) (c : Image)
-          → KeepsStep k (after_all p s.commands) AskEpoch c → KeepsFirst k p text c
-      epoch_first text t s c (inl keeps) = (s.commands, (line, room, t, s.begins), keeps_stands k (after_all p s.commands) c keeps)
-      epoch_first text t s c (inr keeps) = (s.commands, (line, room, t, s.begins), keeps_stands k (after_all p s.commands) c keeps)
+          → KeepsStep k p (after_all p s.commands) AskEpoch c → KeepsFirst k p text c
+      epoch_first text t s c (inl keeps) = (s.commands, (line, room, t, s.begins), keeps_stands k p (after_all p s.commands) c keeps)
+      epoch_first text t s c (inr keeps) = (s.commands, (line, room, t, s.begins), keeps_stands k p (after_all p s.commands) c keeps)
 
       epoch_now : (text t : List ℕ) (s : AnsweredSoFar tells k p text t line room old now first mid) (c : Image)
-          → KeepsStep k (after_all p s.commands) AskEpoch c → KeepsNext k p text s.commands c
-      epoch_now text t s c (inl keeps) = inl (keeps_stands k (after_all p s.commands) c keeps)
-      epoch_now text t s c (inr keeps) = inl (keeps_stands k (after_all p s.commands) c keeps)
+          → KeepsStep k p (after_all p s.commands) AskEpoch c → KeepsNext k p text s.commands c
+      epoch_now text t s c (inl keeps) = inl (keeps_stands k p (after_all p s.commands) c keeps)
+      epoch_now text t s c (inr keeps) = inl (keeps_stands k p (after_all p s.commands) c keeps)
 
       pub answered_end : (input rest : Option (List ℕ)) (reply : Reply)
           → IfSome input (λ text. SoFar tells k p text rest line room old now first mid) → IfSome rest (λ t. Reads line room t [] AtEnd)
@@ -237,24 +237,24 @@ module _ {D : Type 0} (tells : DiskTells D) where
             put = s.put;
             stands = goes.stands;
             reaches = λ holds. record {
-              holds = goes.holds (s.reaches holds).holds;
-              moments = then_on tells first.disk mid.disk last.disk (KeepsFirst k p text) (KeepsStep k (after_all p s.commands) AskEpoch)
-                  (s.reaches holds).moments (goes.leaves (s.reaches holds).holds).moments (epoch_first text t s);
+              holds = goes.holds p (s.reaches holds).holds;
+              moments = then_on tells first.disk mid.disk last.disk (KeepsFirst k p text) (KeepsStep k p (after_all p s.commands) AskEpoch)
+                  (s.reaches holds).moments (goes.leaves p (s.reaches holds).holds).moments (epoch_first text t s);
             };
           }
 
       -- the question for the epoch isn't answered
       end_first : (text t : List ℕ) (s : AnsweredSoFar tells k p text t line room old now first mid)
-          → (Holds tells k (after_all p s.commands) mid.disk → LeavesStep tells k (after_all p s.commands) AskEpoch mid.disk last.disk)
+          → MayLeave tells k (after_all p s.commands) AskEpoch mid.disk last.disk
           → AnsweredFirst tells k p text old now first last
       end_first text t s leaves = record {
         commands = s.commands;
         begins = (line, room, t, s.begins);
         put = s.put;
         stopped = λ holds. record {
-          now = λ c left. epoch_now text t s c ((leaves (s.reaches holds).holds).now c left);
-          moments = then_on tells first.disk mid.disk last.disk (KeepsFirst k p text) (KeepsStep k (after_all p s.commands) AskEpoch)
-              (s.reaches holds).moments (leaves (s.reaches holds).holds).moments (epoch_first text t s);
+          now = λ c left. epoch_now text t s c ((leaves p (s.reaches holds).holds).now c left);
+          moments = then_on tells first.disk mid.disk last.disk (KeepsFirst k p text) (KeepsStep k p (after_all p s.commands) AskEpoch)
+              (s.reaches holds).moments (leaves p (s.reaches holds).holds).moments (epoch_first text t s);
         };
       }
 
@@ -288,7 +288,7 @@ module _ {D : Type 0} (tells : DiskTells D) where
       put = s.put;
       stopped = λ holds. record {
         now = λ c left.
-            inl (holds_stands tells k (after_all p s.commands) mid.disk (s.reaches holds).holds c left);
+            inl (holds_stands tells k p (after_all p s.commands) mid.disk (s.reaches holds).holds c left);
         moments = (s.reaches holds).moments;
       };
     }
@@ -309,36 +309,39 @@ module _ {D : Type 0} (tells : DiskTells D) where
         after_is : after_all p (s.commands ++ command ∷ []) ≡ after q command
         after_is = after_all-more p s.commands command
 
-        keeps_more : (c : Image) → KeepsPlain k (after q command) c
-            → StandsForPlain k (after_all p (s.commands ++ command ∷ [])) c
-        keeps_more c keeps = subst (λ h. StandsForPlain k h c) (sym after_is) (keeps_stands k (after q command) c keeps)
+        keeps_more : (c : Image) → KeepsPlain k p (after q command) c
+            → StandsForPlain k p (after_all p (s.commands ++ command ∷ [])) c
+        keeps_more c keeps =
+            subst (λ h. StandsForPlain k p h c) (sym after_is)
+            (keeps_stands k p (after q command) c keeps)
 
-        step_first : (c : Image) → KeepsStep k q command c → KeepsFirst k p text c
-        step_first c (inl keeps) = (s.commands, (line, room, t, s.begins), keeps_stands k q c keeps)
+        step_first : (c : Image) → KeepsStep k p q command c → KeepsFirst k p text c
+        step_first c (inl keeps) = (s.commands, (line, room, t, s.begins), keeps_stands k p q c keeps)
         step_first c (inr keeps) = (s.commands ++ command ∷ [], begins_script, keeps_more c keeps)
 
-        step_next : (c : Image) → KeepsStep k q command c → KeepsNext k p text s.commands c
-        step_next c (inl keeps) = inl (keeps_stands k q c keeps)
+        step_next : (c : Image) → KeepsStep k p q command c → KeepsNext k p text s.commands c
+        step_next c (inl keeps) = inl (keeps_stands k p q c keeps)
         step_next c (inr keeps) = inr (command, begins_script, keeps_more c keeps)
 
-        goes_on_so : MachineGoesOn tells k q command mid last → Holds tells k p first.disk
+        goes_on_so : MachineGoesOn tells k q command mid last → Holds tells k p p first.disk
             → Reaches tells k p (after_all p (s.commands ++ command ∷ [])) text first.disk last.disk
         goes_on_so goes holds = record {
-          holds = subst (λ h. Holds tells k h last.disk) (sym after_is) (goes.holds (s.reaches holds).holds);
-          moments = then_on tells first.disk mid.disk last.disk (KeepsFirst k p text) (KeepsStep k q command)
-              (s.reaches holds).moments (goes.leaves (s.reaches holds).holds).moments step_first;
+          holds = subst (λ h. Holds tells k p h last.disk) (sym after_is)
+              (goes.holds p (s.reaches holds).holds);
+          moments = then_on tells first.disk mid.disk last.disk (KeepsFirst k p text) (KeepsStep k p q command)
+              (s.reaches holds).moments (goes.leaves p (s.reaches holds).holds).moments step_first;
         }
 
-        stops_so : (Holds tells k q mid.disk → LeavesStep tells k q command mid.disk last.disk)
+        stops_so : MayLeave tells k q command mid.disk last.disk
             → Keeps now now' → AnsweredFirst tells k p text old now' first last
         stops_so leaves keeps = record {
           commands = s.commands;
           begins = (line, room, t, s.begins);
           put = Appends-kept old now now' (lines p s.commands) s.put keeps;
           stopped = λ holds. record {
-            now = λ c left. step_next c ((leaves (s.reaches holds).holds).now c left);
-            moments = then_on tells first.disk mid.disk last.disk (KeepsFirst k p text) (KeepsStep k q command)
-                (s.reaches holds).moments (leaves (s.reaches holds).holds).moments step_first;
+            now = λ c left. step_next c ((leaves p (s.reaches holds).holds).now c left);
+            moments = then_on tells first.disk mid.disk last.disk (KeepsFirst k p text) (KeepsStep k p q command)
+                (s.reaches holds).moments (leaves p (s.reaches holds).holds).moments step_first;
           };
         }
 

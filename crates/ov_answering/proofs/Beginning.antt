@@ -15,6 +15,7 @@ use Rattle.ov_history.specs.Kept.{AreKept, IsKept}
 use Rattle.ov_history.specs.Sealed.{KeepsBytes, SealedHistory, catalogue_of, stored_of}
 use Rattle.ov_history.specs.Sealing.{IsSealedAs}
 use Rattle.ov_history.proofs.Agreeing.{right_keeps, right_shows}
+use Rattle.ov_history.proofs.Since.{sealed_since}
 use Rattle.ov_store.specs.Beginning.{IsNew, LeavesHistory}
 use Rattle.ov_store.specs.Opened.{Opened, Serves}
 use Rattle.ov_store.specs.declared.fault.BeginFault.{BeginFault}
@@ -73,30 +74,38 @@ pub opens_image : {D : Type 0} (tells : DiskTells D) (k : Masters) (mode : Mode)
 opens_image tells k mode p disk opens =
     let (g, right, image) = opens.stands in (p, g, (opens.legal, right), opens.mode_is, image)
 
+-- and each image that a crash may leave of it stands for the history
+pub opens_plain : {D : Type 0} (tells : DiskTells D) (k : Masters) (mode : Mode) (p : PlainHistory)
+    (disk : D) → OpensAs tells k mode p disk
+    → (c : Image) → tells.may_leave disk c → StandsForPlain k p p c
+opens_plain tells k mode p disk opens c left =
+    let (g, right, image) = opens.stands in
+    (g, sealed_since k p g right, subst (IsImageOf (keys_of k) g) (sym (opens.settled c left)) image)
+
 -- ---- scripts
 
 module _ {D : Type 0} (tells : DiskTells D) (k : Masters) (p : PlainHistory) where
   -- before the first command each image stands for the history
-  pub first_of_all : (text : List ℕ) (c : Image) → StandsForPlain k p c → KeepsFirst k p text c
+  pub first_of_all : (text : List ℕ) (c : Image) → StandsForPlain k p p c → KeepsFirst k p text c
   first_of_all text c stands = ([], none_read text, stands)
 
   -- an error line and nothing else was put
   pub survives_alone : (text error : List ℕ) (code : ℕ) (first last : D) (old new : Option (List ℕ)) (status : ℕ)
-      → EndsIn (101 ∷ 114 ∷ error) code old new status → LeavesOnly tells first last (StandsForPlain k p)
+      → EndsIn (101 ∷ 114 ∷ error) code old new status → LeavesOnly tells first last (StandsForPlain k p p)
       → Survives tells k p text first last old new
   survives_alone text error code first last old new status ends leaves = record {
-    any_moment = weaker tells first last (StandsForPlain k p) (KeepsFirst k p text) leaves (first_of_all text);
+    any_moment = weaker tells first last (StandsForPlain k p p) (KeepsFirst k p text) leaves (first_of_all text);
     at_exit = (
       [],
       none_read text,
       answered_error p text [] old old new (Appends-nil old) error (front_put (101 ∷ 114 ∷ error) code old new status ends),
-      λ c left. inl (now_so tells first last (StandsForPlain k p) leaves c left),
+      λ c left. inl (now_so tells first last (StandsForPlain k p p) leaves c left),
     );
   }
 
   -- the disk didn't open
   pub ends_refused : (text : List ℕ) (first last : D) (old new : Option (List ℕ)) (status : ℕ)
-      → EndsIn disk_line 4 old new status ⊎ EndsIn memory_line 7 old new status → LeavesOnly tells first last (StandsForPlain k p)
+      → EndsIn disk_line 4 old new status ⊎ EndsIn memory_line 7 old new status → LeavesOnly tells first last (StandsForPlain k p p)
       → EndsAs tells k p text first last old new status (Unit {0})
   ends_refused text first last old new status (inl e) leaves = record {
     concluded = at_once p text disk_line DiskFault old new status (disk_printed p text) e;
@@ -128,17 +137,18 @@ module _ {D : Type 0} (tells : DiskTells D) (k : Masters) (p : PlainHistory) whe
               ∙ right_keeps k p g legal right),
         )
 
-    pub begun_holds : (i : Image) × (tells.reads m.disk ≡ Some i) → Holds tells k p m.disk
+    pub begun_holds : (i : Image) × (tells.reads m.disk ≡ Some i) → Holds tells k p p m.disk
     begun_holds told = record {
       told = told;
       kept = g;
       right = right;
+      since = sealed_since k p g right;
       each = λ c left. subst (λ (x : Masters). Keeps (keys_of x) g c) masters (serves.disk sound told.0 told.1 c left);
     }
 
     pub ends_begun : (text : List ℕ) (first last : D) (old new : Option (List ℕ)) (status : ℕ) → (i : Image) × (tells.reads m.disk ≡ Some i)
-        → LeavesOnly tells first m.disk (StandsForPlain k p)
-        → EndsAs tells k p text m.disk last old new status (Holds tells k p m.disk)
+        → LeavesOnly tells first m.disk (StandsForPlain k p p)
+        → EndsAs tells k p text m.disk last old new status (Holds tells k p p m.disk)
         → EndsAs tells k p text first last old new status (Unit {0})
     ends_begun text first last old new status told leaves ends =
         let holds = begun_holds told in
@@ -146,7 +156,7 @@ module _ {D : Type 0} (tells : DiskTells D) (k : Masters) (p : PlainHistory) whe
           concluded = ends.concluded;
           survives = λ _. record {
             any_moment = then_on tells first m.disk last (KeepsFirst k p text) (KeepsFirst k p text)
-                (weaker tells first m.disk (StandsForPlain k p) (KeepsFirst k p text) leaves (first_of_all text))
+                (weaker tells first m.disk (StandsForPlain k p p) (KeepsFirst k p text) leaves (first_of_all text))
                 after.any_moment (λ c keeps. keeps);
             at_exit = after.at_exit;
           };
@@ -201,12 +211,12 @@ module _ {D : Type 0} (tells : DiskTells D) (k : Masters) (mode : Mode) (p : Pla
 module _ {D : Type 0} (tells : DiskTells D) (k : Masters) (mode : Mode) (p : PlainHistory)
     (first : D) (opens : OpensAs tells k mode p first) (input old new : Option (List ℕ))
     (status : ℕ) where
-  pub leaves_plain : (last : D) → LeavesHistory tells (keys_of k) mode first last → LeavesOnly tells first last (StandsForPlain k p)
+  pub leaves_plain : (last : D) → LeavesHistory tells (keys_of k) mode first last → LeavesOnly tells first last (StandsForPlain k p p)
   leaves_plain last any =
-      weaker tells first last (IsImageOf (keys_of k) opens.stands.0) (StandsForPlain k p)
+      weaker tells first last (IsImageOf (keys_of k) opens.stands.0) (StandsForPlain k p p)
       (any opens.image opens.told opens.settled opens.stands.0
       (right_mode k p opens.stands.0 mode opens.stands.1 opens.mode_is) opens.stands.2)
-      (λ c image. (opens.stands.0, opens.stands.1, image))
+      (λ c image. (opens.stands.0, sealed_since k p opens.stands.0 opens.stands.1, image))
 
   pub over_refused : (last : D) (fault : BeginFault) → Told (tells.reads first) (λ i. Refuses k mode i fault)
       → EndsOr (fault_line fault) (fault_status fault) old new status → LeavesHistory tells (keys_of k) mode first last
@@ -225,18 +235,18 @@ module _ {D : Type 0} (tells : DiskTells D) (k : Masters) (mode : Mode) (p : Pla
     pub told : (i : Image) × (tells.reads m.disk ≡ Some i)
     told = subst (λ (o : Opened D). (i : Image) × (tells.reads o.disk ≡ Some i)) (sym is) (found.1 opens.image opens.told)
 
-    pub leaves : LeavesOnly tells first m.disk (StandsForPlain k p)
-    leaves = subst (λ (o : Opened D). LeavesOnly tells first o.disk (StandsForPlain k p)) (sym is) (leaves_plain s.disk any)
+    pub leaves : LeavesOnly tells first m.disk (StandsForPlain k p p)
+    leaves = subst (λ (o : Opened D). LeavesOnly tells first o.disk (StandsForPlain k p p)) (sym is) (leaves_plain s.disk any)
 
     pub over_begun : (last : D)
         → ((q : PlainHistory) → StandsFor m.kept q → IfSome input (λ text. EndsAs tells m.kept.masters q text m.disk last old new status
-        (Holds tells m.kept.masters q m.disk)))
+        (Holds tells m.kept.masters q q m.disk)))
         → IfSome input (λ text. EndsAs tells k p text first last old new status (Unit {0}))
     over_begun last ends = by_text input (ends p (over_stands tells k mode p first opens m s is masters fresh found)) where
       by_text : (input : Option (List ℕ)) → IfSome input (λ text. EndsAs tells m.kept.masters p text m.disk last old new status
-          (Holds tells m.kept.masters p m.disk)) → IfSome input (λ text. EndsAs tells k p text first last old new status (Unit {0}))
+          (Holds tells m.kept.masters p p m.disk)) → IfSome input (λ text. EndsAs tells k p text first last old new status (Unit {0}))
       by_text None e = tt
       by_text (Some text) e =
           ends_begun tells k p m masters (sound tells k mode p first opens m s is masters fresh found)
           opens.stands.0 opens.stands.1 (serves tells k mode p first opens m s is masters fresh found) text first last old new status told leaves
-          (subst (λ (x : Masters). EndsAs tells x p text m.disk last old new status (Holds tells x p m.disk)) masters e)
+          (subst (λ (x : Masters). EndsAs tells x p text m.disk last old new status (Holds tells x p p m.disk)) masters e)

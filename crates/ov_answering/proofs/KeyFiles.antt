@@ -2,7 +2,6 @@
 use Rattle.std.proofs.Common.{◌≡◌, ℕ, List, sym, subst, arith, Option, Some, None}
 use Rattle.std.specs.Prelude.{IfSome}
 use Rattle.ov_base.specs.declared.mode.Mode.{Mode}
-use Rattle.ov_disk.specs.Disk.{Image}
 use Rattle.ov_disk.specs.Moments.{LeavesOnly}
 use Rattle.ov_disk.proofs.Runs.{started}
 use Rattle.ov_disk.specs.Tells.{DiskTells}
@@ -16,7 +15,7 @@ use Rattle.ov_machine.specs.Machine.{AreMasters}
 use Rattle.ov_answering.specs.Ending.{EndsAs}
 use Rattle.ov_answering.specs.Lasting.{OpensAs}
 use Rattle.ov_answering.specs.Printing.{ReadFault, read_line}
-use Rattle.ov_answering.proofs.Beginning.{survives_alone}
+use Rattle.ov_answering.proofs.Beginning.{opens_plain, survives_alone}
 use Rattle.ov_answering.proofs.Concluding.{at_once, read_printed}
 use Rattle.ov_answering.proofs.Surviving.{not_zero}
 
@@ -69,8 +68,8 @@ pub ends_untouched : {D : Type 0} (tells : DiskTells D) (k : Masters) (mode : Mo
     (old new : Option (List ℕ)) (status : ℕ) → EndsIn read_line 5 old new status → OpensAs tells k mode p disk
     → EndsAs tells k p text disk disk old new status (Unit {0})
 ends_untouched tells k mode p text disk old new status e opens =
-    let here : (c : Image) → tells.may_leave disk c → StandsForPlain k p c = λ c left. subst (λ (x : Image). StandsForPlain k p x) (sym (opens.settled c left)) opens.stands in
-    let leaves : LeavesOnly tells disk disk (StandsForPlain k p) = started tells disk (StandsForPlain k p) here in record {
+    let leaves : LeavesOnly tells disk disk (StandsForPlain k p p) =
+    started tells disk (StandsForPlain k p p) (opens_plain tells k mode p disk opens) in record {
       concluded = at_once p text read_line ReadFault old new status (read_printed p text) e;
       survives = λ _. survives_alone tells k p text _ 5 disk disk old new status e leaves;
       lasts = λ _ zero. absurd (not_zero read_line 5 old new status e (λ z. omega arith) zero);

@@ -29,8 +29,9 @@ module _ {D : Type 0} (tells : DiskTells D) where
   lent_opens k mode p loan o =
       record { image = o.image; told = o.told; settled = o.settled; legal = o.legal; mode_is = o.mode_is; stands = o.stands }
 
-  pub lent_lasts_as : (k : Masters) (p : PlainHistory) (last : MutBor D) → LastsAs (lent_disk tells) k p last → LastsAs tells k p last.now
-  lent_lasts_as k p last l = record {
+  pub lent_lasts_as : (k : Masters) (start p : PlainHistory) (last : MutBor D)
+      → LastsAs (lent_disk tells) k start p last → LastsAs tells k start p last.now
+  lent_lasts_as k start p last l = record {
     image = l.image;
     told = l.told;
     reads_it = l.reads_it;

@@ -8,7 +8,7 @@ use Rattle.ov_base.specs.declared.limits.TheConstants.{MAX_SCRIPT_BYTES}
 use Rattle.ov_disk.specs.Disk.{Image}
 use Rattle.ov_disk.proofs.Runs.{started}
 use Rattle.ov_disk.specs.Tells.{DiskTells}
-use Rattle.ov_images.specs.Images.{keys_of}
+use Rattle.ov_images.specs.Images.{Keeps as KeepsHistory, keys_of}
 use Rattle.ov_images.proofs.Keeping.{keeps_once}
 use Rattle.ov_script.specs.declared.command.Command.{Command}
 use Rattle.ov_script.specs.declared.reply.Reply.{Reply}
@@ -23,7 +23,7 @@ use Rattle.ov_history.specs.History.{matrix_of}
 use Rattle.ov_history.specs.Masters.{Masters}
 use Rattle.ov_history.specs.Plain.{PlainHistory, history_of}
 use Rattle.ov_history.specs.Refusals.{IsLegal}
-use Rattle.ov_history.specs.Sealed.{catalogue_of}
+use Rattle.ov_history.specs.Sealed.{SealedHistory, catalogue_of}
 use Rattle.ov_history.specs.Sealing.{IsSealedAs, sealed}
 use Rattle.ov_history.proofs.DerivedKeys.{closure_keys}
 use Rattle.ov_history.proofs.Published.{published_is_matrix}
@@ -34,7 +34,7 @@ use Rattle.ov_history.proofs.Agreeing.{right_shows}
 use Rattle.ov_model.proofs.Runs.{lines-more}
 use Rattle.ov_report.specs.Ends.{EndsIn, EndsOr}
 use Rattle.ov_report.specs.Faults.{disk_line, memory_line}
-use Rattle.ov_machine.specs.Disks.{Holds, KeepsPlain, StandsForPlain}
+use Rattle.ov_machine.specs.Disks.{Holds, StandsForPlain}
 use Rattle.ov_machine.specs.Machine.{KeptOn}
 use Rattle.ov_machine.proofs.Reading.{take_whole}
 use Rattle.ov_machine.proofs.Stays.{holds_each, holds_stands}
@@ -59,24 +59,26 @@ publishes_matrix k p legal =
     }
 
 -- an image keeps no other history but for what nobody can tell
-publishes_matrix_of : (k : Masters) (p : PlainHistory) → IsLegal (history_of p) → (i : Image) → KeepsPlain k p i → PublishesMatrixOf k p i
-publishes_matrix_of k p legal i (h, right, keeps) = λ g other.
+publishes_matrix_of : (k : Masters) (p : PlainHistory) → IsLegal (history_of p) → (h : SealedHistory)
+    → IsSealedAs k p h → (i : Image) → KeepsHistory (keys_of k) h i → PublishesMatrixOf k p i
+publishes_matrix_of k p legal h right i keeps = λ g other.
     let same : IsSealedAs k p g = sym (keeps_once (keys_of k) h g i keeps other) ∙ right in
     subst (λ (c : Catalogue). PublishesMatrix k (matrix_of (history_of p)) c)
     (sym (right_shows k p g legal same)) (publishes_matrix k p legal)
 
 -- what a disk holds lasts on it
-pub lasts_held : {D : Type 0} (tells : DiskTells D) (k : Masters) (p : PlainHistory) → IsLegal (history_of p) → (disk : D)
-    → Holds tells k p disk → LastsAs tells k p disk
-lasts_held tells k p legal disk held =
-    let reads = holds_each tells k p disk held held.told.0
-    (tells.reads_one disk held.told.0 held.told.1) in record {
+pub lasts_held : {D : Type 0} (tells : DiskTells D) (k : Masters) (start p : PlainHistory)
+    → IsLegal (history_of p) → (disk : D) → Holds tells k start p disk → LastsAs tells k start p disk
+lasts_held tells k start p legal disk held =
+    let here = tells.reads_one disk held.told.0 held.told.1 in record {
       image = held.told.0;
       told = held.told.1;
-      reads_it = reads;
-      leaves_it = holds_each tells k p disk held;
-      tokens_read = publishes_matrix_of k p legal held.told.0 reads;
-      tokens_left = λ c left. publishes_matrix_of k p legal c (holds_each tells k p disk held c left);
+      reads_it = holds_each tells k start p disk held held.told.0 here;
+      leaves_it = holds_each tells k start p disk held;
+      tokens_read = publishes_matrix_of k p legal held.kept held.right held.told.0
+          (held.each held.told.0 here);
+      tokens_left = λ c left.
+          publishes_matrix_of k p legal held.kept held.right c (held.each c left);
     }
 
 -- ---- scripts
@@ -217,7 +219,7 @@ module _ (p : PlainHistory) (text : List ℕ) (commands : List Command) (next : 
 
 module _ {D : Type 0} (tells : DiskTells D) (k : Masters) (p : PlainHistory) (text : List ℕ)
     (old mid new : Option (List ℕ)) where
-  module _ (first last : KeptOn D) (holds : Holds tells k p first.disk) where
+  module _ (first last : KeptOn D) (holds : Holds tells k p p first.disk) where
     survives_whole : (ending : Ending) → AnsweredAll tells k p text ending old mid first last
         → (rest : List ℕ) × Appends mid new rest → Survives tells k p text first.disk last.disk old new
     survives_whole ending a more = record {
@@ -226,7 +228,7 @@ module _ {D : Type 0} (tells : DiskTells D) (k : Masters) (p : PlainHistory) (te
         a.commands,
         Reads-begins 1 MAX_SCRIPT_BYTES text a.commands ending a.read,
         answered_whole p text a.commands old mid new a.put ending a.read more,
-        λ c left. inl (holds_stands tells k (after_all p a.commands) last.disk (a.reaches holds).holds c left),
+        λ c left. inl (holds_stands tells k p (after_all p a.commands) last.disk (a.reaches holds).holds c left),
       );
     }
 
@@ -243,8 +245,8 @@ module _ {D : Type 0} (tells : DiskTells D) (k : Masters) (p : PlainHistory) (te
         let line = reply_line (reply_to (after_all p a.commands) a.next) in
         let puts = Appends-kept old mid new (lines p a.commands ++ take a.count line) a.put kept in
         record { any_moment = (a.reaches holds).moments; at_exit = at_exit (part_answered p text a.commands a.next old new a.begins_next a.count puts) } where
-          stands_for : (c : Image) → tells.may_leave last.disk c → StandsForPlain k (after_all p (a.commands ++ a.next ∷ [])) c
-          stands_for = holds_stands tells k (after_all p (a.commands ++ a.next ∷ [])) last.disk (a.reaches holds).holds
+          stands_for : (c : Image) → tells.may_leave last.disk c → StandsForPlain k p (after_all p (a.commands ++ a.next ∷ [])) c
+          stands_for = holds_stands tells k p (after_all p (a.commands ++ a.next ∷ [])) last.disk (a.reaches holds).holds
 
           at_exit : HasAnswered p text a.commands old new ⊎ HasAnswered p text (a.commands ++ a.next ∷ []) old new
               → (commands : List Command) × BeginsScript text commands × HasAnswered p text commands old new
@@ -269,7 +271,8 @@ module _ {D : Type 0} (tells : DiskTells D) (k : Masters) (p : PlainHistory) (te
     lasts_whole a = record {
       commands = a.commands;
       whole = a.read;
-      lasts = lasts_held tells k (after_all p a.commands) a.stands.0.0 last.disk (a.reaches holds).holds;
+      lasts = lasts_held tells k p (after_all p a.commands) a.stands.0.0 last.disk
+          (a.reaches holds).holds;
     }
 
     lasts_at : (stop : Stop) (n status : ℕ)
@@ -287,7 +290,7 @@ module _ {D : Type 0} (tells : DiskTells D) (k : Masters) (p : PlainHistory) (te
 
   pub ends_at : (first last : KeptOn D) → (stop : Stop) (n status : ℕ)
       → Stops tells k p text stop old mid first last → Finishes stop n mid new status → n ≡ last.kept.catalogue.epoch
-      → EndsAs tells k p text first.disk last.disk old new status (Holds tells k p first.disk)
+      → EndsAs tells k p text first.disk last.disk old new status (Holds tells k p p first.disk)
   ends_at first last stop n status a f count = record {
     concluded = concluded_at tells k p text old mid new first last status stop n a f count;
     survives = λ holds. survives_at first last holds stop n status a f;
@@ -299,7 +302,7 @@ pub ends_all : {D : Type 0} (tells : DiskTells D) (k : Masters) (p : PlainHistor
     (old mid new : Option (List ℕ)) (first last : KeptOn D) → (stop : Stop) (n status : ℕ)
     → IfSome (prepend_known [] input) (λ text. Stops tells k p text stop old mid first last) → Finishes stop n mid new status
     → n ≡ last.kept.catalogue.epoch
-    → IfSome input (λ text. EndsAs tells k p text first.disk last.disk old new status (Holds tells k p first.disk))
+    → IfSome input (λ text. EndsAs tells k p text first.disk last.disk old new status (Holds tells k p p first.disk))
 ends_all tells k p None old mid new first last stop n status a f count = tt
 ends_all tells k p (Some text) old mid new first last stop n status a f count =
     ends_at tells k p text old mid new first last stop n status a f count
@@ -308,17 +311,17 @@ ends_all tells k p (Some text) old mid new first last stop n status a f count =
 pub ends_unread : {D : Type 0} (tells : DiskTells D) (k : Masters) (p : PlainHistory) (input : Option (List ℕ))
     (old new : Option (List ℕ)) (first : D) (status : ℕ)
     → EndsIn memory_line 7 old new status
-    → IfSome input (λ text. EndsAs tells k p text first first old new status (Holds tells k p first))
+    → IfSome input (λ text. EndsAs tells k p text first first old new status (Holds tells k p p first))
 ends_unread tells k p None old new first status e = tt
 ends_unread tells k p (Some text) old new first status e = record {
   concluded = at_once p text memory_line OutOfMemory old new status (memory_printed p text) e;
   survives = λ holds. record {
-    any_moment = started tells first (KeepsFirst k p text) (λ c left. ([], none_read text, holds_stands tells k p first holds c left));
+    any_moment = started tells first (KeepsFirst k p text) (λ c left. ([], none_read text, holds_stands tells k p p first holds c left));
     at_exit = (
       [],
       none_read text,
       answered_error p text [] old old new (Appends-nil old) _ (front_put memory_line 7 old new status e),
-      λ c left. inl (holds_stands tells k p first holds c left),
+      λ c left. inl (holds_stands tells k p p first holds c left),
     );
   };
   lasts = λ holds zero_is. absurd (not_zero memory_line 7 old new status e (λ z. omega arith) zero_is);

@@ -19,7 +19,7 @@ use Rattle.ov_history.specs.Masters.{Masters}
 use Rattle.ov_report.specs.Ends.{EndsIn, EndsOr}
 use Rattle.ov_report.specs.Faults.{disk_line, memory_line}
 use Rattle.ov_machine.specs.Disks.{Holds}
-use Rattle.ov_machine.specs.Machine.{AreOtherTags, MachineGoesOn, Kept, KeptOn, LeavesStep, StandsFor}
+use Rattle.ov_machine.specs.Machine.{AreOtherTags, MachineGoesOn, Kept, KeptOn, MayLeave, StandsFor}
 use Rattle.ov_machine.specs.declared.fault.BadTag.{BadTag}
 use Rattle.ov_machine.specs.declared.fault.StepFault.{StepFault}
 use Rattle.ov_machine.specs.declared.fault.StepFault.TheVariants.{Disk as NoDisk}
@@ -109,14 +109,11 @@ module _ {D : Type 0} (tells : DiskTells D) where
       ((n : ℕ) × Appends old new (take n (reply_line (reply_to p command))))
       × MachineGoesOn tells k p command first last
   Answers k p command (Some Memory) old new first last =
-      Keeps old new
-      × (Holds tells k p first.disk → LeavesStep tells k p command first.disk last.disk)
+      Keeps old new × MayLeave tells k p command first.disk last.disk
   Answers k p command (Some Disk) old new first last =
-      Keeps old new
-      × (Holds tells k p first.disk → LeavesStep tells k p command first.disk last.disk)
+      Keeps old new × MayLeave tells k p command first.disk last.disk
   Answers k p command (Some Trace) old new first last =
-      Keeps old new
-      × (Holds tells k p first.disk → LeavesStep tells k p command first.disk last.disk)
+      Keeps old new × MayLeave tells k p command first.disk last.disk
   Answers k p command (Some End) old new first last = ⊥
   Answers k p command (Some (BadLine n)) old new first last = ⊥
   Answers k p command (Some Long) old new first last = ⊥
@@ -129,7 +126,7 @@ module _ {D : Type 0} (tells : DiskTells D) where
   -- history q, and a crash at any moment leaves the history after some first commands.
   pub record Reaches (k : Masters) (p q : PlainHistory) (text : List ℕ) (first last : D)
       : Type 0 where
-    pub holds : Holds tells k q last
+    pub holds : Holds tells k p q last
     pub moments : LeavesOnly tells first last (KeepsFirst k p text)
 
   -- The answering of a script stopped behind these commands, of which the next one may have been
@@ -147,7 +144,7 @@ module _ {D : Type 0} (tells : DiskTells D) where
     pub read : IsScript text commands ending
     pub put : Appends old new (lines p commands)
     pub stands : StandsFor last.kept (after_all p commands)
-    pub reaches : Holds tells k p first.disk
+    pub reaches : Holds tells k p p first.disk
         → Reaches k p (after_all p commands) text first.disk last.disk
 
   -- the lines of the first commands were put
@@ -156,7 +153,7 @@ module _ {D : Type 0} (tells : DiskTells D) where
     pub commands : List Command
     pub begins : BeginsScript text commands
     pub put : Appends old new (lines p commands)
-    pub stopped : Holds tells k p first.disk → Stopped k p text commands first.disk last.disk
+    pub stopped : Holds tells k p p first.disk → Stopped k p text commands first.disk last.disk
 
   -- the lines of the first commands were put, and a front of that of the next one
   pub record AnsweredPart (k : Masters) (p : PlainHistory) (text : List ℕ)
@@ -168,7 +165,7 @@ module _ {D : Type 0} (tells : DiskTells D) where
     pub count : ℕ
     pub put : Appends old new
         (lines p commands ++ take count (reply_line (reply_to (after_all p commands) next)))
-    pub reaches : Holds tells k p first.disk
+    pub reaches : Holds tells k p p first.disk
         → Reaches k p (after_all p (commands ++ next ∷ [])) text first.disk last.disk
 
   -- what was put, and what is left, where the answering stopped so
@@ -191,7 +188,7 @@ module _ {D : Type 0} (tells : DiskTells D) where
     pub begins : BeginsWith 1 MAX_SCRIPT_BYTES text commands line room rest
     pub put : Appends old now (lines p commands)
     pub stands : StandsFor last.kept (after_all p commands)
-    pub reaches : Holds tells k p first.disk
+    pub reaches : Holds tells k p p first.disk
         → Reaches k p (after_all p commands) text first.disk last.disk
 
   -- some first commands were read and answered, and the rest that is left is told

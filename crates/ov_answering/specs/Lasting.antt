@@ -20,25 +20,27 @@ use Rattle.ov_history.specs.Places.{living_at}
 use Rattle.ov_history.specs.Plain.{PlainHistory, history_of}
 use Rattle.ov_history.specs.Refusals.{IsLegal}
 use Rattle.ov_history.specs.Sealed.{SealedHistory, catalogue_of}
-use Rattle.ov_images.specs.Images.{Keeps, keys_of}
+use Rattle.ov_history.specs.Sealing.{IsSealedAs}
+use Rattle.ov_images.specs.Images.{IsImageOf, Keeps, keys_of}
 use Rattle.ov_model.specs.Lines.{lines}
 use Rattle.ov_model.specs.Step.{after_all, reply_to}
 use Rattle.ov_machine.specs.Disks.{KeepsPlain, StandsForPlain}
 
 -- ---- images
 
--- the image stands for the history after some first commands of the script
+-- The image stands for the history after some first commands of the script. Of files that were gone
+-- before the first one nobody can tell the tags and the bytes.
 abbrev pub KeepsFirst : Masters → PlainHistory → List ℕ → Image → Type 0
 KeepsFirst k p text c =
     (commands : List Command) × BeginsScript text commands
-    × StandsForPlain k (after_all p commands) c
+    × StandsForPlain k p (after_all p commands) c
 
 -- the image stands for the history after just these commands, or after these and the next one
 abbrev pub KeepsNext : Masters → PlainHistory → List ℕ → List Command → Image → Type 0
 KeepsNext k p text commands c =
-    StandsForPlain k (after_all p commands) c
+    StandsForPlain k p (after_all p commands) c
     ⊎ ((next : Command) × BeginsScript text (commands ++ next ∷ [])
-    × StandsForPlain k (after_all p (commands ++ next ∷ [])) c)
+    × StandsForPlain k p (after_all p (commands ++ next ∷ [])) c)
 
 -- ---- lines
 
@@ -82,16 +84,16 @@ module _ {D : Type 0} (tells : DiskTells D) where
     pub settled : Only image (tells.may_leave disk)
     pub legal : IsLegal (history_of p)
     pub mode_is : p.mode ≡ mode
-    pub stands : StandsForPlain k p image
+    pub stands : (g : SealedHistory) × IsSealedAs k p g × IsImageOf (keys_of k) g image
 
-  -- What lasts of a history on a disk. As it reads, and as each image that a stop may leave of it,
-  -- it keeps the history, so a store was begun there; and what it publishes, read again from that
-  -- image, is the matrix of the history.
-  pub record LastsAs (k : Masters) (p : PlainHistory) (disk : D) : Type 0 where
+  -- What lasts on a disk of a history that goes on from a start. As it reads, and as each image that
+  -- a stop may leave of it, it keeps the history, so a store was begun there; and what it publishes,
+  -- read again from that image, is the matrix of the history.
+  pub record LastsAs (k : Masters) (start p : PlainHistory) (disk : D) : Type 0 where
     pub image : Image
     pub told : tells.reads disk ≡ Some image
-    pub reads_it : KeepsPlain k p image
-    pub leaves_it : (c : Image) → tells.may_leave disk c → KeepsPlain k p c
+    pub reads_it : KeepsPlain k start p image
+    pub leaves_it : (c : Image) → tells.may_leave disk c → KeepsPlain k start p c
     pub tokens_read : PublishesMatrixOf k p image
     pub tokens_left : (c : Image) → tells.may_leave disk c → PublishesMatrixOf k p c
 
@@ -100,7 +102,7 @@ module _ {D : Type 0} (tells : DiskTells D) where
   pub record Lasts (k : Masters) (p : PlainHistory) (text : List ℕ) (disk : D) : Type 0 where
     pub commands : List Command
     pub whole : IsScript text commands AtEnd
-    pub lasts : LastsAs k (after_all p commands) disk
+    pub lasts : LastsAs k p (after_all p commands) disk
 
   -- What a stop leaves of a script that is answered from a disk which stood for the history. At
   -- any moment since the start each image stands for the history after some first commands; and

@@ -84,7 +84,7 @@ parts_back y true (SealedReplace file tokens tag text) parts = parts
 -- ---- all updates
 
 -- how many files these updates make
-abbrev made_all : List SealedUpdate → ℕ
+abbrev pub made_all : List SealedUpdate → ℕ
 made_all [] = 0
 made_all (u ∷ updates) = made_by u + made_all updates
 
@@ -107,7 +107,7 @@ made_after m (SealedReplace file tokens tag text) =
     )
 
 -- the numbers of files are as many as the updates made
-made_many : (m : Matrix) (updates : List SealedUpdate)
+pub made_many : (m : Matrix) (updates : List SealedUpdate)
     → length (changed_all m (outer_all updates)).files ≡ length m.files + made_all updates
 made_many m [] = omega arith
 made_many m (u ∷ updates) =
@@ -115,7 +115,7 @@ made_many m (u ∷ updates) =
     ∙ ap (λ n. n + made_all updates) (made_after m u) ∙ omega arith
 
 module _ (is_out : ℕ → Bool) where
-  made_all-faded : (number : ℕ) (updates : List SealedUpdate)
+  pub made_all-faded : (number : ℕ) (updates : List SealedUpdate)
       → made_all (faded_all is_out number updates) ≡ made_all updates
   made_all-faded number [] = refl
   made_all-faded number (u ∷ updates) =
@@ -124,7 +124,7 @@ module _ (is_out : ℕ → Bool) where
       ∙ ap (λ n. made_by u + n) (made_all-faded (number + made_by u) updates)
 
   -- one more update fades by its own number
-  faded-append : (number : ℕ) (updates : List SealedUpdate) (u : SealedUpdate)
+  pub faded-append : (number : ℕ) (updates : List SealedUpdate) (u : SealedUpdate)
       → faded_all is_out number (updates ++ u ∷ [])
       ≡ faded_all is_out number updates
       ++ faded_if (is_out (number + made_all updates)) u ∷ []

@@ -1,6 +1,7 @@
 -- Sealed histories but for the tags and the bytes of files that are gone, which nobody can tell.
-use Rattle.std.specs.Prelude.{◌≡◌, ℕ, ◌+◌, Bool, true, false, not, List, [], ◌∷◌, length, replicate}
-use Rattle.ov_history.specs.History.{matrix_of}
+use Rattle.std.specs.Prelude.{◌≡◌, ℕ, ◌+◌, Bool, true, false, not, ◌&&◌, nat_lt, List, [], ◌∷◌}
+use Rattle.std.specs.Prelude.{length, replicate}
+use Rattle.ov_history.specs.History.{History, matrix_of}
 use Rattle.ov_history.specs.Lists.{is_file}
 use Rattle.ov_history.specs.Sent.{SealedUpdate, SealedEnrol, SealedCreate, SealedGrant}
 use Rattle.ov_history.specs.Sent.{SealedRevoke, SealedRemove, SealedReplace}
@@ -53,3 +54,18 @@ faded_of g = record g { updates = faded_all (is_gone_from g) 0 g.updates }
 -- two histories are the same but for the tags and the bytes of files that are gone
 abbrev pub AgreeButGone : SealedHistory → SealedHistory → Type 0
 AgreeButGone g h = faded_of g ≡ faded_of h
+
+-- ---- files that were gone at a start
+
+-- the history made a file of this number, which is gone at its end
+abbrev pub was_gone : History → ℕ → Bool
+was_gone start file =
+    nat_lt file (length (matrix_of start).files) && not (is_file (matrix_of start) file)
+
+-- the history, with zeros for the tags and the bytes of the files that were gone after the start
+abbrev pub faded_from : History → SealedHistory → SealedHistory
+faded_from start g = record g { updates = faded_all (was_gone start) 0 g.updates }
+
+-- two histories are the same but for the tags and the bytes of files that were gone after the start
+abbrev pub AgreeFrom : History → SealedHistory → SealedHistory → Type 0
+AgreeFrom start g h = faded_from start g ≡ faded_from start h

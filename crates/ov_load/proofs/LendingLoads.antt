@@ -32,7 +32,7 @@ module _ {D : Type 0} (tells : DiskTells D) (first last : MutBor D) (final : D)
       LoadsWell (EndsLoad asked h old new status) (IsComplete status key_faults out disk)
       (LoadTracesAs tells k h asked final t_old t_new status (Unit {0}))
       (LeavesOnly tells first.now final (KeepsSome k h asked))
-      (status ≡ 0 → LastsAs tells k (after_load h asked) final)
+      (status ≡ 0 → LastsAs tells k h (after_load h asked) final)
 
   well : (key_faults out disk : Type 0) → (status ≡ 4 → disk) → (status ≡ 5 → key_faults) → (status ≡ 6 → out)
       → (k : Masters) (h : PlainHistory) → E k h load → W key_faults out disk k h load
@@ -43,7 +43,7 @@ module _ {D : Type 0} (tells : DiskTells D) (first last : MutBor D) (final : D)
         (sent_lent tells k h load last t_old t_new status (Unit {0}) e.traced);
     survives = subst (λ d. LeavesOnly tells first.now d (KeepsSome k h load)) back
         (lent_leaves tells first last (KeepsSome k h load) (e.survives tt));
-    lasts = λ zero. subst (λ d. LastsAs tells k (after_load h load) d) back (lent_lasts_as tells k (after_load h load) last (e.lasts tt zero));
+    lasts = λ zero. subst (λ d. LastsAs tells k h (after_load h load) d) back (lent_lasts_as tells k h (after_load h load) last (e.lasts tt zero));
   }
 
   pub load_well : (key_faults out disk : Type 0) → (status ≡ 4 → disk) → (status ≡ 5 → key_faults) → (status ≡ 6 → out)

@@ -1,5 +1,5 @@
 -- How a load ends, by how the answering of its commands did.
-use Rattle.std.proofs.Common.{◌≡◌, ◌⊎◌, inl, inr, ℕ, ◌+◌, List, ◌++◌, refl, sym, ◌∙◌, ap, subst, arith, Option, None, Ok, Err}
+use Rattle.std.proofs.Common.{◌≡◌, ◌⊎◌, inl, inr, ℕ, ◌+◌, List, ◌++◌, refl, ◌∙◌, ap, subst, arith, Option, None, Ok, Err}
 use Rattle.sha2.specs.Sha256.{sha256}
 use Rattle.ov_disk.specs.Disk.{Image, StaysTold, Told}
 use Rattle.ov_disk.specs.Moments.{LeavesOnly}
@@ -30,7 +30,7 @@ use Rattle.ov_answering.specs.Answering.{Finishes, stop_for}
 use Rattle.ov_answering.specs.Judging.{FindsPlain, Refuses}
 use Rattle.ov_answering.specs.Lasting.{LastsAs, OpensAs}
 use Rattle.ov_answering.specs.Printing.{IsScriptStatus, read_line}
-use Rattle.ov_answering.proofs.Beginning.{begun_holds, ends_in_fault, leaves, leaves_plain, opens_image, over_stands, serves, sound, told}
+use Rattle.ov_answering.proofs.Beginning.{begun_holds, ends_in_fault, leaves, leaves_plain, opens_image, opens_plain, over_stands, serves, sound, told}
 use Rattle.ov_answering.proofs.Statuses.{ends_so, not_code, not_code_or, script_seven, script_six}
 use Rattle.ov_answering.proofs.Surviving.{lasts_held, none_put, not_zero}
 use Rattle.ov_load.specs.LoadEnding.{LoadEndsAs, LoadTracesAs, TracedTo, TracesLoad}
@@ -132,18 +132,18 @@ module _ {D : Type 0} (tells : DiskTells D) (k : Masters) (h : PlainHistory) (lo
           inl (inl (subst (λ l. EndsIn l 0 old new status) (is (lines h (workload load.number load.count)) s.hashed ∙ summary_is n count) e))
       printed_so n count (inr e) = inl (inr e)
 
-      lasts_so : Holds tells k h first.disk → LastsAs tells k (after_load h load) last.disk
-      lasts_so holds = lasts_held tells k (after_load h load) s.stands.0.0 last.disk (s.holds holds)
+      lasts_so : Holds tells k h h first.disk → LastsAs tells k h (after_load h load) last.disk
+      lasts_so holds = lasts_held tells k h (after_load h load) s.stands.0.0 last.disk (s.holds holds)
 
       pub ends_loaded : (n : ℕ) → n ≡ last.kept.catalogue.epoch
-          → PutsSummary load tally n old new status → TracesLoad tells k h load last.disk t_old t_new (Holds tells k h first.disk) (Ok tally)
-          → LoadEndsAs tells k h load first.disk last.disk old new t_old t_new status (Holds tells k h first.disk)
+          → PutsSummary load tally n old new status → TracesLoad tells k h load last.disk t_old t_new (Holds tells k h h first.disk) (Ok tally)
+          → LoadEndsAs tells k h load first.disk last.disk old new t_old t_new status (Holds tells k h h first.disk)
       ends_loaded n count puts sent =
           record { printed = printed_so n count puts; traced = as_sent tells k h load last.disk t_old t_new _ status sent; survives = λ holds. s.moments holds; lasts = λ holds zero. lasts_so holds }
 
     pub ends_faulted : (fault : StepFault) (n : ℕ) → Loads tells k h load first last (Err fault) → Finishes (stop_for fault) n old new status
-        → TracedTo tells k h load last.disk t_old t_new (Holds tells k h first.disk)
-        → LoadEndsAs tells k h load first.disk last.disk old new t_old t_new status (Holds tells k h first.disk)
+        → TracedTo tells k h load last.disk t_old t_new (Holds tells k h h first.disk)
+        → LoadEndsAs tells k h load first.disk last.disk old new t_old t_new status (Holds tells k h h first.disk)
     ends_faulted Disk n loads f sent = record {
       printed = inr (inl f);
       traced = as_stopped tells k h load last.disk t_old t_new _ status (not_zero disk_line 4 old new status f (λ z. omega arith)) sent;
@@ -166,7 +166,7 @@ module _ {D : Type 0} (tells : DiskTells D) (k : Masters) (h : PlainHistory) (lo
 
   -- ---- from the call that opens the disk
 
-  some_first : (c : Image) → StandsForPlain k h c → KeepsSome k h load c
+  some_first : (c : Image) → StandsForPlain k h h c → KeepsSome k h load c
   some_first c stands = (0, omega arith, stands)
 
   module _ (first : D) (opens : OpensAs tells k load.mode h first) where
@@ -178,11 +178,11 @@ module _ {D : Type 0} (tells : DiskTells D) (k : Masters) (h : PlainHistory) (lo
       said : EndsIn disk_line 4 old new status ⊎ EndsIn memory_line 7 old new status
       said = ends_in_fault fault old new status ((refuses opens.image opens.told).opens (opens_image tells k load.mode h first opens)) ends
 
-      plain : LeavesOnly tells first last (StandsForPlain k h)
+      plain : LeavesOnly tells first last (StandsForPlain k h h)
       plain = leaves_plain tells k load.mode h first opens None old new status last any
 
       moments : LeavesOnly tells first last (KeepsSome k h load)
-      moments = weaker tells first last (StandsForPlain k h) (KeepsSome k h load) plain some_first
+      moments = weaker tells first last (StandsForPlain k h h) (KeepsSome k h load) plain some_first
 
       unsent : (status ≡ 0 → ⊥) → LoadTracesAs tells k h load last t_old t_old status (Unit {0})
       unsent never = as_unsent tells k h load last t_old (Unit {0}) status never (λ _ c left. plain.each c (tells.counts_now last (tells.moment first) c plain.later left))
@@ -202,8 +202,8 @@ module _ {D : Type 0} (tells : DiskTells D) (k : Masters) (h : PlainHistory) (lo
         lasts = λ _ zero. absurd (not_zero memory_line 7 old new status e (λ z. omega arith) zero);
       }
 
-    here : (c : Image) → tells.may_leave first c → StandsForPlain k h c
-    here c left = subst (λ (x : Image). StandsForPlain k h x) (sym (opens.settled c left)) opens.stands
+    here : (c : Image) → tells.may_leave first c → StandsForPlain k h h c
+    here = opens_plain tells k load.mode h first opens
 
     -- the key file couldn't be read
     pub load_unread : EndsIn read_line 5 old new status
@@ -219,7 +219,7 @@ module _ {D : Type 0} (tells : DiskTells D) (k : Masters) (h : PlainHistory) (lo
     module _ (m : KeptOn D) (s : Opened D) (is : opened_of m ≡ s) (masters : m.kept.masters ≡ k) (fresh : IsNew (keys_of k) load.mode s)
         (found : Told (tells.reads first) (λ i. FindsPlain tells k load.mode i s) × StaysTold (tells.reads first) (tells.reads s.disk))
         (any : LeavesHistory tells (keys_of k) load.mode first s.disk) where
-      held : Holds tells k h m.disk
+      held : Holds tells k h h m.disk
       held =
           begun_holds tells k h m masters
           (sound tells k load.mode h first opens m s is masters fresh found)
@@ -229,15 +229,15 @@ module _ {D : Type 0} (tells : DiskTells D) (k : Masters) (h : PlainHistory) (lo
 
       pub load_begun : (last : D)
           → ((q : PlainHistory) → StandsFor m.kept q → LoadEndsAs tells m.kept.masters q load m.disk last old new t_old t_new status
-          (Holds tells m.kept.masters q m.disk))
+          (Holds tells m.kept.masters q q m.disk))
           → LoadEndsAs tells k h load first last old new t_old t_new status (Unit {0})
       load_begun last ends =
-          let e = subst (λ (x : Masters). LoadEndsAs tells x h load m.disk last old new t_old t_new status (Holds tells x h m.disk)) masters
+          let e = subst (λ (x : Masters). LoadEndsAs tells x h load m.disk last old new t_old t_new status (Holds tells x h h m.disk)) masters
           (ends h (over_stands tells k load.mode h first opens m s is masters fresh found)) in record {
             printed = e.printed;
             traced = record { whole = e.traced.whole; first = sent_holding tells k h load last t_old t_new _ held e.traced.first };
             survives = λ _. then_on tells first m.disk last (KeepsSome k h load) (KeepsSome k h load)
-                (weaker tells first m.disk (StandsForPlain k h) (KeepsSome k h load)
+                (weaker tells first m.disk (StandsForPlain k h h) (KeepsSome k h load)
                 (leaves tells k load.mode h first opens None old new status m s is masters fresh found any) some_first)
                 (e.survives held) (λ c keeps. keeps);
             lasts = λ _. e.lasts held;

@@ -61,7 +61,7 @@ module _ {D : Type 0} (tells : DiskTells D) (k : Masters) (h : PlainHistory) (lo
   -- the transcripts of these commands were put, and no more
   pub stops_behind : (place : ℕ) → place ≤ WORKLOAD_USERS + load.count → (tally : Tally) (mid : KeptOn D) (old now : Option (List ℕ))
       → LoadedTo tells k h load place tally first mid → TranscribesAll k h (first_commands load.number place) old now
-      → TracedTo tells k h load mid.disk old now (Holds tells k h first.disk)
+      → TracedTo tells k h load mid.disk old now (Holds tells k h h first.disk)
   stops_behind place low tally mid old now s (bytes, all, put) = record {
     place = place;
     low = low;
@@ -70,7 +70,7 @@ module _ {D : Type 0} (tells : DiskTells D) (k : Masters) (h : PlainHistory) (lo
     transcripts = all;
     front = inl refl;
     put = subst (Appends old now) (sym (append-nil bytes)) put;
-    leaves = λ holds c left. inl (holds_stands tells k (after_first h load place) mid.disk (s.holds holds) c left);
+    leaves = λ holds c left. inl (holds_stands tells k h (after_first h load place) mid.disk (s.holds holds) c left);
     made = λ holds c left. nothing_made k h load place c;
   }
 
@@ -91,11 +91,11 @@ module _ {D : Type 0} (tells : DiskTells D) (k : Masters) (h : PlainHistory) (lo
     -- one more command wasn't answered
     stops_in : (command : Command) → ((bytes : List ℕ) → IsTranscriptFront k q command bytes → IsFrontAt k h load place bytes)
         → ((bytes : List ℕ) → (Transcribed k q command bytes → HasMade tells k q command mid.disk last.disk)
-        → Holds tells k q mid.disk → (c : Image) → tells.may_leave last.disk c → IsMadeAt k h load place bytes c)
+        → Holds tells k h q mid.disk → (c : Image) → tells.may_leave last.disk c → IsMadeAt k h load place bytes c)
         → ((j : PlainHistory) → StandsFor mid.kept j
         → BreaksOff mid.kept.masters j command (HasMade tells mid.kept.masters j command mid.disk last.disk) now new)
-        → (Holds tells k q mid.disk → (c : Image) → tells.may_leave last.disk c → KeepsAt k h load place c)
-        → TracedTo tells k h load last.disk old new (Holds tells k h first.disk)
+        → (Holds tells k h q mid.disk → (c : Image) → tells.may_leave last.disk c → KeepsAt k h load place c)
+        → TracedTo tells k h load last.disk old new (Holds tells k h h first.disk)
     stops_in command is_front is_made traces leaves =
         let (bytes, all, put) = sent in
         let (more, front, whole, put_more) =
@@ -140,36 +140,36 @@ module _ {D : Type 0} (tells : DiskTells D) (k : Masters) (h : PlainHistory) (lo
     after_is : after_first h load (suc w.place) ≡ after (after_first h load w.place) (command_at load.number w.place)
     after_is = after_all-more h (first_commands load.number w.place) (command_at load.number w.place)
 
-    keeps_at : (c : Image) → KeepsStep k (after_first h load w.place) (command_at load.number w.place) c → KeepsAt k h load w.place c
-    keeps_at c (inl keeps) = inl (keeps_stands k (after_first h load w.place) c keeps)
+    keeps_at : (c : Image) → KeepsStep k h (after_first h load w.place) (command_at load.number w.place) c → KeepsAt k h load w.place c
+    keeps_at c (inl keeps) = inl (keeps_stands k h (after_first h load w.place) c keeps)
     keeps_at c (inr keeps) = inr (
       under,
-      subst (λ x. StandsForPlain k x c) (sym after_is)
-          (keeps_stands k (after (after_first h load w.place) (command_at load.number w.place)) c keeps),
+      subst (λ x. StandsForPlain k h x c) (sym after_is)
+          (keeps_stands k h (after (after_first h load w.place) (command_at load.number w.place)) c keeps),
     )
 
     leaves_now : (T : Type 0) (fault : StepFault)
         → TalliesAt tells {T = T} k (after_first h load w.place) (command_at load.number w.place) before now_tally mid last (Err fault)
-        → Holds tells k (after_first h load w.place) mid.disk → (c : Image) → tells.may_leave last.disk c → KeepsAt k h load w.place c
-    leaves_now T Disk tallies holds c left = keeps_at c ((tallies holds).now c left)
-    leaves_now T Trace tallies holds c left = keeps_at c ((tallies holds).now c left)
-    leaves_now T Memory tallies holds c left = keeps_at c ((tallies holds).now c left)
+        → Holds tells k h (after_first h load w.place) mid.disk → (c : Image) → tells.may_leave last.disk c → KeepsAt k h load w.place c
+    leaves_now T Disk tallies holds c left = keeps_at c ((tallies h holds).now c left)
+    leaves_now T Trace tallies holds c left = keeps_at c ((tallies h holds).now c left)
+    leaves_now T Memory tallies holds c left = keeps_at c ((tallies h holds).now c left)
     leaves_now T (Tag bad) tallies holds c left = absurd tallies
 
     made_at : (bytes : List ℕ)
         → (Transcribed k (after_first h load w.place) command bytes
         → HasMade tells k (after_first h load w.place) command mid.disk last.disk)
-        → Holds tells k (after_first h load w.place) mid.disk → (c : Image) → tells.may_leave last.disk c → IsMadeAt k h load w.place bytes c
+        → Holds tells k h (after_first h load w.place) mid.disk → (c : Image) → tells.may_leave last.disk c → IsMadeAt k h load w.place bytes c
     made_at bytes has_made holds c left = λ low whole.
-        let there = has_made (subst (λ x. Transcribed k (after_first h load w.place) x bytes) (sym command_is) whole) holds c left in
-        keeps_stands k (after_first h load (suc w.place)) c
-        (subst (λ x. KeepsPlain k x c) (ap (after (after_first h load w.place)) command_is ∙ sym after_is) there)
+        let there = has_made (subst (λ x. Transcribed k (after_first h load w.place) x bytes) (sym command_is) whole) h holds c left in
+        keeps_stands k h (after_first h load (suc w.place)) c
+        (subst (λ x. KeepsPlain k h x c) (ap (after (after_first h load w.place)) command_is ∙ sym after_is) there)
 
     pub sent_stops : {T : Type 0} (r : Result T StepFault) (fault : StepFault) → r ≡ Err fault
         → ((j : Masters) (q : PlainHistory) → mid.kept.masters ≡ j → StandsFor mid.kept q → TalliesAt tells j q command before now_tally mid last r)
         → ((j : PlainHistory) → StandsFor mid.kept j
         → BreaksOff mid.kept.masters j command (HasMade tells mid.kept.masters j command mid.disk last.disk) now new)
-        → TracedTo tells k h load last.disk old new (Holds tells k h first.disk)
+        → TracedTo tells k h load last.disk old new (Holds tells k h h first.disk)
     sent_stops {T} r fault at tallies traces =
         stops_in w.place below before mid last masters old now new s sent command
         (λ bytes front. inl (under, subst (λ c. IsTranscriptFront k (after_first h load w.place) c bytes) command_is front)) made_at traces
@@ -190,39 +190,39 @@ module _ {D : Type 0} (tells : DiskTells D) (k : Masters) (h : PlainHistory) (lo
     abbrev AreSteps : Result Reply StepFault → Type 0
     AreSteps r = (j : Masters) (q : PlainHistory) → mid.kept.masters ≡ j → StandsFor mid.kept q → StepsAt tells j q AskEpoch mid last r
 
-    keeps_end : (c : Image) → KeepsStep k (after_load h load) AskEpoch c → KeepsAt k h load (WORKLOAD_USERS + load.count) c
-    keeps_end c (inl keeps) = inl (keeps_stands k (after_load h load) c keeps)
-    keeps_end c (inr keeps) = inl (keeps_stands k (after_load h load) c keeps)
+    keeps_end : (c : Image) → KeepsStep k h (after_load h load) AskEpoch c → KeepsAt k h load (WORKLOAD_USERS + load.count) c
+    keeps_end c (inl keeps) = inl (keeps_stands k h (after_load h load) c keeps)
+    keeps_end c (inr keeps) = inl (keeps_stands k h (after_load h load) c keeps)
 
     leaves_end : (fault : StepFault) → StepsAt tells k (after_load h load) AskEpoch mid last (Err fault)
-        → Holds tells k (after_load h load) mid.disk → (c : Image) → tells.may_leave last.disk c → KeepsAt k h load (WORKLOAD_USERS + load.count) c
-    leaves_end Disk steps holds c left = keeps_end c ((steps holds).now c left)
-    leaves_end Trace steps holds c left = keeps_end c ((steps holds).now c left)
-    leaves_end Memory steps holds c left = keeps_end c ((steps holds).now c left)
+        → Holds tells k h (after_load h load) mid.disk → (c : Image) → tells.may_leave last.disk c → KeepsAt k h load (WORKLOAD_USERS + load.count) c
+    leaves_end Disk steps holds c left = keeps_end c ((steps h holds).now c left)
+    leaves_end Trace steps holds c left = keeps_end c ((steps h holds).now c left)
+    leaves_end Memory steps holds c left = keeps_end c ((steps h holds).now c left)
     leaves_end (Tag bad) steps holds c left = absurd steps
 
     -- behind the last command no other is made
     none_made : (bytes : List ℕ)
         → (Transcribed k (after_load h load) AskEpoch bytes → HasMade tells k (after_load h load) AskEpoch mid.disk last.disk)
-        → Holds tells k (after_load h load) mid.disk → (c : Image) → tells.may_leave last.disk c → IsMadeAt k h load (WORKLOAD_USERS + load.count) bytes c
+        → Holds tells k h (after_load h load) mid.disk → (c : Image) → tells.may_leave last.disk c → IsMadeAt k h load (WORKLOAD_USERS + load.count) bytes c
     none_made bytes has_made holds c left = λ low whole. absurd (omega (arith, low))
 
     pub sent_end : (reply : Reply) → AreSteps (Ok reply) → ((j : PlainHistory) → StandsFor mid.kept j → Transcribes mid.kept.masters j AskEpoch now new)
-        → TracesWhole k h load old new × TracedTo tells k h load last.disk old new (Holds tells k h first.disk)
+        → TracesWhole k h load old new × TracedTo tells k h load last.disk old new (Holds tells k h h first.disk)
     sent_end reply steps traces = (
       all_on (WORKLOAD_USERS + load.count) (omega arith) tally mid last masters old now new s sent AskEpoch traces,
       stops_in (WORKLOAD_USERS + load.count) (omega arith) tally mid last masters old now new s sent AskEpoch (λ bytes front. inr (refl, front)) none_made
           (λ j stands. sent_unread mid.kept.masters j AskEpoch (HasMade tells mid.kept.masters j AskEpoch mid.disk last.disk) now new
-          (λ holds c left. holds_each tells mid.kept.masters j last.disk
-          ((steps mid.kept.masters j refl stands).1.holds holds) c left) (traces j stands))
-          (λ holds c left. inl (holds_stands tells k (after_load h load) last.disk
-          ((steps k (after_load h load) masters s.stands).1.holds holds) c left)),
+          (λ start holds c left. holds_each tells mid.kept.masters start j last.disk
+          ((steps mid.kept.masters j refl stands).1.holds start holds) c left) (traces j stands))
+          (λ holds c left. inl (holds_stands tells k h (after_load h load) last.disk
+          ((steps k (after_load h load) masters s.stands).1.holds h holds) c left)),
     )
 
     pub sent_end_stops : (r : Result Reply StepFault) (fault : StepFault) → r ≡ Err fault → AreSteps r
         → ((j : PlainHistory) → StandsFor mid.kept j
         → BreaksOff mid.kept.masters j AskEpoch (HasMade tells mid.kept.masters j AskEpoch mid.disk last.disk) now new)
-        → TracedTo tells k h load last.disk old new (Holds tells k h first.disk)
+        → TracedTo tells k h load last.disk old new (Holds tells k h h first.disk)
     sent_end_stops r fault at steps traces =
         stops_in (WORKLOAD_USERS + load.count) (omega arith) tally mid last masters old now new s sent AskEpoch (λ bytes front. inr (refl, front)) none_made traces
         (leaves_end fault (subst (λ (x : Result Reply StepFault). StepsAt tells k (after_load h load) AskEpoch mid last x) at
@@ -257,7 +257,7 @@ module _ {D : Type 0} (tells : DiskTells D) (k : Masters) (h : PlainHistory) (lo
 
 -- nothing was sent, and the disk stands for the history from before
 pub as_unsent : {D : Type 0} (tells : DiskTells D) (k : Masters) (h : PlainHistory) (load : Load) (last : D) (trace : Option (List ℕ)) (holds : Type 0) (status : ℕ)
-    → (status ≡ 0 → ⊥) → (holds → (c : Image) → tells.may_leave last c → StandsForPlain k h c) → LoadTracesAs tells k h load last trace trace status holds
+    → (status ≡ 0 → ⊥) → (holds → (c : Image) → tells.may_leave last c → StandsForPlain k h h c) → LoadTracesAs tells k h load last trace trace status holds
 as_unsent tells k h load last trace holds status never stands = record {
   whole = λ zero. absurd (never zero);
   first = record {

@@ -127,7 +127,7 @@ module _ {D : Type 0} (tells : DiskTells D) where
       stands = stands;
       holds = λ holds. holds;
       moments = λ holds. started tells first.disk (KeepsSome k h load)
-          (λ c left. (0, omega arith, holds_stands tells k h first.disk holds c left));
+          (λ c left. (0, omega arith, holds_stands tells k h h first.disk holds c left));
     }
 
     module _ (place next : ℕ) (is : next ≡ place + 1) (low : place < WORKLOAD_USERS + load.count)
@@ -142,18 +142,18 @@ module _ {D : Type 0} (tells : DiskTells D) where
       after_is : after_first h load next ≡ after q command
       after_is = ap (after_all h) (first_more load.number place next is) ∙ after_all-more h (first_commands load.number place) command
 
-      step_some : (c : Image) → KeepsStep k q command c → KeepsSome k h load c
-      step_some c (inl keeps) = (place, omega (arith, low), keeps_stands k q c keeps)
+      step_some : (c : Image) → KeepsStep k h q command c → KeepsSome k h load c
+      step_some c (inl keeps) = (place, omega (arith, low), keeps_stands k h q c keeps)
       step_some c (inr keeps) = (
         next,
         omega (arith, low, is),
-        subst (λ x. StandsForPlain k x c) (sym after_is) (keeps_stands k (after q command) c keeps),
+        subst (λ x. StandsForPlain k h x c) (sym after_is) (keeps_stands k h (after q command) c keeps),
       )
 
-      moments_so : LeavesStep tells k q command mid.disk last.disk → Holds tells k h first.disk
+      moments_so : LeavesStep tells k h q command mid.disk last.disk → Holds tells k h h first.disk
           → LeavesOnly tells first.disk last.disk (KeepsSome k h load)
       moments_so leaves holds =
-          then_on tells first.disk mid.disk last.disk (KeepsSome k h load) (KeepsStep k q command)
+          then_on tells first.disk mid.disk last.disk (KeepsSome k h load) (KeepsStep k h q command)
           (s.moments holds) leaves.moments step_some
 
       -- one more is answered
@@ -167,17 +167,18 @@ module _ {D : Type 0} (tells : DiskTells D) where
             (sym (ap (lines h) (first_more load.number place next is) ∙ lines-more h (first_commands load.number place) command))
             (takes.1 (lines h (first_commands load.number place)) s.hashed);
         stands = subst (StandsFor last.kept) (sym after_is) goes.stands;
-        holds = λ holds. subst (λ x. Holds tells k x last.disk) (sym after_is) (goes.holds (s.holds holds));
-        moments = λ holds. moments_so (goes.leaves (s.holds holds)) holds;
+        holds = λ holds.
+            subst (λ x. Holds tells k h x last.disk) (sym after_is) (goes.holds h (s.holds holds));
+        moments = λ holds. moments_so (goes.leaves h (s.holds holds)) holds;
       }
 
       -- the next command isn't answered
       loads_stop : (T : Type 0) (now : Tally) (fault : StepFault)
           → TalliesAt tells {T = T} k q command before now mid last (Err fault)
           → Loads tells k h load first last (Err fault)
-      loads_stop T now Disk stops = λ holds. moments_so (stops (s.holds holds)) holds
-      loads_stop T now Trace stops = λ holds. moments_so (stops (s.holds holds)) holds
-      loads_stop T now Memory stops = λ holds. moments_so (stops (s.holds holds)) holds
+      loads_stop T now Disk stops = λ holds. moments_so (stops h (s.holds holds)) holds
+      loads_stop T now Trace stops = λ holds. moments_so (stops h (s.holds holds)) holds
+      loads_stop T now Memory stops = λ holds. moments_so (stops h (s.holds holds)) holds
       loads_stop T now (Tag bad) stops = absurd stops
 
     -- ---- at the end the epoch is asked for
@@ -191,14 +192,15 @@ module _ {D : Type 0} (tells : DiskTells D) where
       abbrev AreSteps : Result Reply StepFault → Type 0
       AreSteps r = (j : Masters) (q : PlainHistory) → mid.kept.masters ≡ j → StandsFor mid.kept q → StepsAt tells j q AskEpoch mid last r
 
-      epoch_some : (c : Image) → KeepsStep k (after_load h load) AskEpoch c → KeepsSome k h load c
+      epoch_some : (c : Image) → KeepsStep k h (after_load h load) AskEpoch c → KeepsSome k h load c
       epoch_some c (inl keeps) = (WORKLOAD_USERS + load.count, omega arith, inr keeps)
       epoch_some c (inr keeps) = (WORKLOAD_USERS + load.count, omega arith, inr keeps)
 
-      moments_at_end : LeavesStep tells k (after_load h load) AskEpoch mid.disk last.disk → Holds tells k h first.disk
+      moments_at_end : LeavesStep tells k h (after_load h load) AskEpoch mid.disk last.disk
+          → Holds tells k h h first.disk
           → LeavesOnly tells first.disk last.disk (KeepsSome k h load)
       moments_at_end leaves holds =
-          then_on tells first.disk mid.disk last.disk (KeepsSome k h load) (KeepsStep k (after_load h load) AskEpoch)
+          then_on tells first.disk mid.disk last.disk (KeepsSome k h load) (KeepsStep k h (after_load h load) AskEpoch)
           (s.moments holds) leaves.moments epoch_some
 
       pub ends_asked : (reply : Reply) → AreSteps (Ok reply)
@@ -208,15 +210,15 @@ module _ {D : Type 0} (tells : DiskTells D) where
             counts = s.counts;
             hashed = s.hashed;
             stands = goes.stands;
-            holds = λ holds. goes.holds (s.holds holds);
-            moments = λ holds. moments_at_end (goes.leaves (s.holds holds)) holds;
+            holds = λ holds. goes.holds h (s.holds holds);
+            moments = λ holds. moments_at_end (goes.leaves h (s.holds holds)) holds;
           }
 
       by_fault : (fault : StepFault) → StepsAt tells k (after_load h load) AskEpoch mid last (Err fault)
           → Loads tells k h load first last (Err fault)
-      by_fault Disk steps = λ holds. moments_at_end (steps (s.holds holds)) holds
-      by_fault Trace steps = λ holds. moments_at_end (steps (s.holds holds)) holds
-      by_fault Memory steps = λ holds. moments_at_end (steps (s.holds holds)) holds
+      by_fault Disk steps = λ holds. moments_at_end (steps h (s.holds holds)) holds
+      by_fault Trace steps = λ holds. moments_at_end (steps h (s.holds holds)) holds
+      by_fault Memory steps = λ holds. moments_at_end (steps h (s.holds holds)) holds
       by_fault (Tag bad) steps = absurd steps
 
       pub ends_unasked : (r : Result Reply StepFault) (fault : StepFault) → r ≡ Err fault → AreSteps r

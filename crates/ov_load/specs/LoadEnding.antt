@@ -23,9 +23,9 @@ use Rattle.ov_load.specs.declared.tally.Tally.{Tally}
 -- more, where the load has one more
 abbrev pub KeepsAt : Masters → PlainHistory → Load → ℕ → Image → Type 0
 KeepsAt k h load place c =
-    StandsForPlain k (after_first h load place) c
+    StandsForPlain k h (after_first h load place) c
     ⊎ ((place < WORKLOAD_USERS + load.count)
-    × StandsForPlain k (after_first h load (suc place)) c)
+    × StandsForPlain k h (after_first h load (suc place)) c)
 
 -- a front of what is asked and replied for the command behind this many, or for the end of the load
 abbrev pub IsFrontAt : Masters → PlainHistory → Load → ℕ → List ℕ → Type 0
@@ -41,7 +41,7 @@ abbrev pub IsMadeAt : Masters → PlainHistory → Load → ℕ → List ℕ →
 IsMadeAt k h load place bytes c =
     place < WORKLOAD_USERS + load.count
     → Transcribed k (after_first h load place) (command_at load.number place) bytes
-    → StandsForPlain k (after_first h load (suc place)) c
+    → StandsForPlain k h (after_first h load (suc place)) c
 
 -- The transcripts of this many first commands were put, and perhaps a front of what comes next; and
 -- where this holds of the disk from before, each image that a crash may leave of it now stands for
@@ -88,4 +88,4 @@ module _ {D : Type 0} (tells : DiskTells D) where
     pub printed : EndsLoad load h old new status
     pub traced : LoadTracesAs tells k h load last t_old t_new status holds
     pub survives : holds → LeavesOnly tells first last (KeepsSome k h load)
-    pub lasts : holds → status ≡ 0 → LastsAs tells k (after_load h load) last
+    pub lasts : holds → status ≡ 0 → LastsAs tells k h (after_load h load) last

@@ -19,7 +19,7 @@ use Rattle.ov_model.specs.Step.{after_all, reply_to}
 use Rattle.ov_report.specs.Ends.{EndsIn, EndsOr}
 use Rattle.ov_report.specs.Faults.{disk_line, memory_line}
 use Rattle.ov_machine.specs.Disks.{Holds, StandsForPlain}
-use Rattle.ov_machine.specs.Machine.{AreMasters, MachineGoesOn, KeptOn, LeavesStep, StandsFor}
+use Rattle.ov_machine.specs.Machine.{AreMasters, MachineGoesOn, KeptOn, MayLeave, StandsFor}
 use Rattle.ov_machine.specs.declared.fault.StepFault.{StepFault}
 use Rattle.ov_machine.specs.declared.fault.StepFault.TheVariants.{Disk, Memory, Tag, Trace}
 use Rattle.ov_answering.specs.Lasting.{OpensAs}
@@ -45,7 +45,7 @@ after_load h load = after_all h (workload load.number load.count)
 abbrev pub KeepsSome : Masters → PlainHistory → Load → Image → Type 0
 KeepsSome k h load c =
     (place : ℕ) × (place ≤ WORKLOAD_USERS + load.count)
-    × StandsForPlain k (after_first h load place) c
+    × StandsForPlain k h (after_first h load place) c
 
 -- ---- what is printed
 
@@ -89,11 +89,11 @@ module _ {D : Type 0} (tells : DiskTells D) where
       Takes before (reply_to h command) (reply_line (reply_to h command)) now
       × MachineGoesOn tells k h command first last
   TalliesAt k h command before now first last (Err Disk) =
-      Holds tells k h first.disk → LeavesStep tells k h command first.disk last.disk
+      MayLeave tells k h command first.disk last.disk
   TalliesAt k h command before now first last (Err Trace) =
-      Holds tells k h first.disk → LeavesStep tells k h command first.disk last.disk
+      MayLeave tells k h command first.disk last.disk
   TalliesAt k h command before now first last (Err Memory) =
-      Holds tells k h first.disk → LeavesStep tells k h command first.disk last.disk
+      MayLeave tells k h command first.disk last.disk
   TalliesAt k h command before now first last (Err (Tag bad)) = ⊥
 
   -- This many first commands of the workload were answered, and their replies tallied.
@@ -103,8 +103,8 @@ module _ {D : Type 0} (tells : DiskTells D) where
         ≡ counted_all none_counted h (first_commands load.number place)
     pub hashed : Holds256 tally.hasher (lines h (first_commands load.number place))
     pub stands : StandsFor last.kept (after_first h load place)
-    pub holds : Holds tells k h first.disk → Holds tells k (after_first h load place) last.disk
-    pub moments : Holds tells k h first.disk
+    pub holds : Holds tells k h h first.disk → Holds tells k h (after_first h load place) last.disk
+    pub moments : Holds tells k h h first.disk
         → LeavesOnly tells first.disk last.disk (KeepsSome k h load)
 
   -- all commands of the workload were answered and their replies tallied; or a crash leaves the
@@ -114,11 +114,11 @@ module _ {D : Type 0} (tells : DiskTells D) where
   Loads k h load first last (Ok tally) =
       LoadedTo k h load (WORKLOAD_USERS + load.count) tally first last
   Loads k h load first last (Err Disk) =
-      Holds tells k h first.disk → LeavesOnly tells first.disk last.disk (KeepsSome k h load)
+      Holds tells k h h first.disk → LeavesOnly tells first.disk last.disk (KeepsSome k h load)
   Loads k h load first last (Err Trace) =
-      Holds tells k h first.disk → LeavesOnly tells first.disk last.disk (KeepsSome k h load)
+      Holds tells k h h first.disk → LeavesOnly tells first.disk last.disk (KeepsSome k h load)
   Loads k h load first last (Err Memory) =
-      Holds tells k h first.disk → LeavesOnly tells first.disk last.disk (KeepsSome k h load)
+      Holds tells k h h first.disk → LeavesOnly tells first.disk last.disk (KeepsSome k h load)
   Loads k h load first last (Err (Tag bad)) = ⊥
 
 -- This holds of the load that the words ask for, under the masters of the key file, for each

@@ -45,7 +45,7 @@ fn load_machine<O: Sink, T: Sink, D: Disk>(
         → LoadEndsAs D.tells k h load.now
         machine.old.disk machine.new.disk (O.tells.written out.old) (O.tells.written out.new)
         (T.tells.written trace.old) (T.tells.written trace.new) result
-        (Holds D.tells k h machine.old.disk) }
+        (Holds D.tells k h h machine.old.disk) }
     ensures causes { EndsFor D.tells machine.old.disk machine.new.disk result
         ⊥ (Rose (O.tells.faults out.old) (O.tells.faults out.new)
         ⊎ Rose (T.tells.faults trace.old) (T.tells.faults trace.new))
@@ -174,7 +174,7 @@ pub fn load<K: Source, O: Sink, T: Sink, D: Disk>(
         (LoadTracesAs D.tells k h load disk.new
         (T.tells.written trace.old) (T.tells.written trace.new) result (Unit {0}))
         (LeavesOnly D.tells disk.old disk.new (KeepsSome k h load))
-        (result ≡ 0 → LastsAs D.tells k (after_load h load) disk.new)) }
+        (result ≡ 0 → LastsAs D.tells k h (after_load h load) disk.new)) }
     ensures image { ForLoadImage (D.tells.reads disk.old) words.now (K.tells.left keys.old)
         (λ k mode i. JudgesImage k mode i result
         (O.tells.written out.old) (O.tells.written out.new) (trace.new ≡ trace.old) (LeavesAsAtStart D.tells disk.old disk.new)) }

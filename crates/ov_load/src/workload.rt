@@ -64,7 +64,7 @@ pub fn answer_workload<D: Disk, T: Sink>(
     ensures traced { (h : PlainHistory) → StandsFor machine.old.kept h
         → TracesLoad D.tells machine.old.kept.masters h load.now machine.new.disk
         (T.tells.written trace.old) (T.tells.written trace.new)
-        (Holds D.tells machine.old.kept.masters h machine.old.disk) result }
+        (Holds D.tells machine.old.kept.masters h h machine.old.disk) result }
     ensures trace { PutsTo T.tells (result ≡ Err StepFault.Trace) trace.old trace.new }
 {
     let mut workload = Workload::new(alloc, load.number, load.count);

@@ -5,11 +5,12 @@ use Rattle.ov_history.specs.Layers.{layers_of}
 use Rattle.ov_history.specs.Masters.{Masters}
 use Rattle.ov_history.specs.Plain.{PlainHistory, PlainUpdate, history_of, with_plain}
 use Rattle.ov_history.specs.Sealed.{SealedHistory, file_names_of, with_sealed}
-use Rattle.ov_history.specs.Fading.{faded_of}
-use Rattle.ov_history.specs.Sealing.{IsSealedAs, sealed, sealed_update}
+use Rattle.ov_history.specs.Fading.{AgreeFrom, faded_from, faded_of}
+use Rattle.ov_history.specs.Sealing.{IsSealedAs, IsSealedSince, sealed, sealed_update}
 use Rattle.ov_history.specs.Sent.{numbered}
 use Rattle.ov_history.proofs.Agreeing.{agreement_goes_on}
 use Rattle.ov_history.proofs.Sealing.{sealing_goes_on}
+use Rattle.ov_history.proofs.Since.{since_goes_on}
 use Rattle.ov_protocol.specs.Serving.{followed}
 use Rattle.ov_owner.proofs.Agreeing.{right_names}
 use Rattle.ov_owner.proofs.Telling.{names_after}
@@ -34,3 +35,14 @@ module _ (k : Masters) (p : PlainHistory) where
       ap (λ (names : List (List ℕ)). faded_of (with_sealed g (numbered names u)))
       (right_names k p g right ∙ sym names_sealed)
       ∙ agreement_goes_on g (sealed k p) (numbered (file_names_of (sealed k p)) u) right
+
+  -- and it does so but for files that were gone at a start
+  pub since_follows : (start : PlainHistory) (g : SealedHistory) (u : SealedUpdate)
+      → IsSealedAs k p g → IsSealedSince k start p g
+      → AgreeFrom (history_of start) (followed g (u ∷ [])) (followed (sealed k p) (u ∷ []))
+  since_follows start g u right since =
+      ap (λ (names : List (List ℕ)).
+      faded_from (history_of start) (with_sealed g (numbered names u)))
+      (right_names k p g right ∙ sym names_sealed)
+      ∙ since_goes_on (history_of start) g (sealed k p)
+      (numbered (file_names_of (sealed k p)) u) since

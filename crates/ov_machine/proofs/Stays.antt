@@ -46,9 +46,9 @@ shows_told s v (serves, told) =
 -- ---- images
 
 -- an image that keeps the history stands for it
-pub keeps_stands : (k : Masters) (p : PlainHistory) (c : Image) → KeepsPlain k p c
-    → StandsForPlain k p c
-keeps_stands k p c (g, right, keeps) = (g, right, inr keeps)
+pub keeps_stands : (k : Masters) (start p : PlainHistory) (c : Image) → KeepsPlain k start p c
+    → StandsForPlain k start p c
+keeps_stands k start p c (g, since, keeps) = (g, since, inr keeps)
 
 -- ---- counts
 
@@ -99,22 +99,25 @@ module _ {D : Type 0} (tells : DiskTells D) where
   -- ---- its disk
 
   -- each image that a crash may leave of a disk that holds the history keeps it
-  pub holds_each : (k : Masters) (p : PlainHistory) (disk : D) → Holds tells k p disk
-      → (c : Image) → tells.may_leave disk c → KeepsPlain k p c
-  holds_each k p disk holds c left = (holds.kept, holds.right, holds.each c left)
+  pub holds_each : (k : Masters) (start p : PlainHistory) (disk : D)
+      → Holds tells k start p disk → (c : Image) → tells.may_leave disk c → KeepsPlain k start p c
+  holds_each k start p disk holds c left = (holds.kept, holds.since, holds.each c left)
 
   -- and stands for it
-  pub holds_stands : (k : Masters) (p : PlainHistory) (disk : D) → Holds tells k p disk
-      → (c : Image) → tells.may_leave disk c → StandsForPlain k p c
-  holds_stands k p disk holds c left = (holds.kept, holds.right, inr (holds.each c left))
+  pub holds_stands : (k : Masters) (start p : PlainHistory) (disk : D)
+      → Holds tells k start p disk
+      → (c : Image) → tells.may_leave disk c → StandsForPlain k start p c
+  holds_stands k start p disk holds c left = (holds.kept, holds.since, inr (holds.each c left))
 
   module _ (old new : D) (quiet : IsUntouched tells old new) where
     -- a disk holds the history that it held
-    pub holds_still : (k : Masters) (p : PlainHistory) → Holds tells k p old → Holds tells k p new
-    holds_still k p holds = record {
+    pub holds_still : (k : Masters) (start p : PlainHistory) → Holds tells k start p old
+        → Holds tells k start p new
+    holds_still k start p holds = record {
       told = (holds.told.0, quiet.reads_same ∙ holds.told.1);
       kept = holds.kept;
       right = holds.right;
+      since = holds.since;
       each = λ c left. holds.each c (quiet.no_more c left);
     }
 

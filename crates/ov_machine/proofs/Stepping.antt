@@ -14,10 +14,10 @@ use Rattle.ov_history.specs.Laws.{ShowsHistory}
 use Rattle.ov_history.specs.Masters.{Masters}
 use Rattle.ov_history.specs.Plain.{PlainHistory, PlainUpdate, history_of, measured_all, with_plain}
 use Rattle.ov_history.specs.Refusals.{IsLegal}
-use Rattle.ov_history.specs.Fading.{faded_of}
+use Rattle.ov_history.specs.Fading.{faded_from, faded_of}
 use Rattle.ov_history.specs.Kept.{AreKept}
 use Rattle.ov_history.specs.Sealed.{KeepsBytes, SealedHistory, StandsFor as SealedFor}
-use Rattle.ov_history.specs.Sealing.{IsSealedAs, sealed}
+use Rattle.ov_history.specs.Sealing.{IsSealedAs, IsSealedSince, sealed}
 use Rattle.ov_history.proofs.PlainLaws.{measured_all-append}
 use Rattle.ov_model.specs.Step.{after}
 use Rattle.ov_history.proofs.Agreeing.{right_is_sealed, right_keeps, right_shows}
@@ -39,7 +39,7 @@ use Rattle.ov_owner.specs.declared.fault.OwnerFault.{OwnerFault}
 use Rattle.ov_owner.specs.declared.fault.OwnerFault.TheVariants as faults
 use Rattle.ov_owner.proofs.Stepping.{read_back}
 use Rattle.ov_machine.specs.Disks.{HasMade, Holds, KeepsPlain, KeepsStep}
-use Rattle.ov_machine.specs.Machine.{Kept, KeptOn, LeavesStep, StandsAsTold, StandsFor, StepsAt, opened_of}
+use Rattle.ov_machine.specs.Machine.{Kept, KeptOn, MayLeave, StandsAsTold, StandsFor, StepsAt, opened_of}
 use Rattle.ov_machine.specs.Seats.{Stays}
 use Rattle.ov_machine.specs.Replying.{change_reply}
 use Rattle.ov_machine.specs.declared.fault.StepFault.{StepFault}
@@ -47,7 +47,7 @@ use Rattle.ov_machine.specs.declared.fault.StepFault.TheVariants.{Disk, Memory, 
 use Rattle.ov_machine.proofs.AsTold.{all_told, as_far_as_told, refused_so, reply_is, sealed_is, serves_as_told, service_at, shows_as_told, stands_as_told, stands_then}
 use Rattle.ov_machine.proofs.Changed.{Changes, IsFailed, IsMade, IsSentTo, cut, refused, sent}
 use Rattle.ov_machine.proofs.Errands.{IsHonest}
-use Rattle.ov_machine.proofs.Following.{right_follows}
+use Rattle.ov_machine.proofs.Following.{right_follows, since_follows}
 use Rattle.ov_machine.proofs.Making.{ComesTo}
 use Rattle.ov_machine.proofs.Stays.{are_told, fails_same, holds_each, holds_still, if_told}
 use Rattle.ov_machine.proofs.Stays.{quiet_then, serves_still, shows_same}
@@ -102,16 +102,16 @@ module _ {D : Type 0} (tells : DiskTells D) (old new : KeptOn D) (p : PlainHisto
   as_told = as_far_as_told old.kept p stands
 
   -- what is kept is also that of a store after the history that the disk holds
-  kept_shown : (holds : Holds tells k p old.disk)
+  kept_shown : (start : PlainHistory) (holds : Holds tells k start p old.disk)
       → SealedFor k.surface old.kept.catalogue holds.kept
-  kept_shown holds = (
+  kept_shown start holds = (
     right_is_sealed k p holds.kept legal holds.right,
     stands.0.1 ∙ sym (right_shows k p holds.kept legal holds.right),
   )
 
-  kept_stored : (holds : Holds tells k p old.disk)
+  kept_stored : (start : PlainHistory) (holds : Holds tells k start p old.disk)
       → IfSome old.kept.stored (λ bytes. KeepsBytes k.surface bytes holds.kept)
-  kept_stored holds =
+  kept_stored start holds =
       if_told old.kept.stored (AreKept k p) (λ bytes. KeepsBytes k.surface bytes holds.kept) stands.1
       (λ bytes are. are ∙ sym (right_keeps k p holds.kept legal holds.right))
 
@@ -129,17 +129,19 @@ module _ {D : Type 0} (tells : DiskTells D) (old new : KeptOn D) (p : PlainHisto
     serves_there : IsServedBy mid (service_at k p)
     serves_there = serves_still tells s mid x.stays (service_at k p) (serves_at old p stands)
 
-    holds_there : Holds tells k p old.disk → Holds tells k p mid.disk
-    holds_there = holds_still tells old.disk mid.disk x.stays.writes.disk k p
+    holds_there : (start : PlainHistory) → Holds tells k start p old.disk
+        → Holds tells k start p mid.disk
+    holds_there start = holds_still tells old.disk mid.disk x.stays.writes.disk k start p
 
     -- it stands for the history that the disk holds
-    stands_there : (holds : Holds tells k p old.disk) → Serves tells holds.kept mid
-    stands_there holds = record {
+    stands_there : (start : PlainHistory) (holds : Holds tells k start p old.disk)
+        → Serves tells holds.kept mid
+    stands_there start holds = record {
       catalogue = subst (λ (y : Opened D). SealedFor y.keys.surface y.catalogue holds.kept)
-          (sym x.stays.writes.same) (kept_shown holds);
+          (sym x.stays.writes.same) (kept_shown start holds);
       bytes = subst (λ (y : Opened D). IfSome y.stored (λ bytes. KeepsBytes y.keys.surface bytes
-          holds.kept)) (sym x.stays.writes.same) (kept_stored holds);
-      told = serves_there.1 ∙ sym (ap is_some (holds_there holds).told.1);
+          holds.kept)) (sym x.stays.writes.same) (kept_stored start holds);
+      told = serves_there.1 ∙ sym (ap is_some (holds_there start holds).told.1);
       disk = λ _ i read c left. subst (λ (y : Opened D). Keeps y.keys holds.kept c)
           (sym x.stays.writes.same) (holds.each c (x.stays.writes.disk.no_more c left));
       after_fault = λ failed. absurd (true≢false (sym failed ∙ sound_there));
@@ -149,11 +151,18 @@ module _ {D : Type 0} (tells : DiskTells D) (old new : KeptOn D) (p : PlainHisto
     after_is = sealed_is tells old new p as_told masters command e ours is_honest result x
 
     -- what the disk holds, with the update, is right for the history after the command
-    right_then : (holds : Holds tells k p old.disk)
+    right_then : (start : PlainHistory) (holds : Holds tells k start p old.disk)
         → IsSealedAs k (after p command) (followed holds.kept (x.update ∷ []))
-    right_then holds =
+    right_then start holds =
         right_follows k p holds.kept x.update holds.right
         ∙ ap (λ (g : SealedHistory). faded_of g) after_is
+
+    -- and it is its sealed form but for the files that were gone at the start
+    since_then : (start : PlainHistory) (holds : Holds tells k start p old.disk)
+        → IsSealedSince k start (after p command) (followed holds.kept (x.update ∷ []))
+    since_then start holds =
+        since_follows k p start holds.kept x.update holds.right holds.since
+        ∙ ap (λ (g : SealedHistory). faded_from (history_of start) g) after_is
 
     -- what the request asks for is the update
     asks_it : updates_asked (request_of (request_bytes (update_request k.surface x.epoch x.update))) ≡ x.update ∷ []
@@ -161,39 +170,39 @@ module _ {D : Type 0} (tells : DiskTells D) (old new : KeptOn D) (p : PlainHisto
         ap updates_asked (request_back (update_request k.surface x.epoch x.update) x.form.1)
         ∙ ap spelled_by (read_back x.update x.form.0)
 
-    either : (holds : Holds tells k p old.disk) (c : Image)
+    either : (start : PlainHistory) (holds : Holds tells k start p old.disk) (c : Image)
         → KeepsWith (keys_of k) holds.kept (updates_asked (request_of (request_bytes (update_request k.surface x.epoch x.update)))) c
-        → KeepsStep k p command c
-    either holds c (inl keeps) = inl (holds.kept, holds.right, keeps)
-    either holds c (inr keeps) =
+        → KeepsStep k start p command c
+    either start holds c (inl keeps) = inl (holds.kept, holds.since, keeps)
+    either start holds c (inr keeps) =
         inr (
           followed holds.kept (x.update ∷ []),
-          right_then holds,
+          since_then start holds,
           subst (λ (us : List SealedUpdate). Keeps (keys_of k) (followed holds.kept us) c) asks_it keeps,
         )
 
-    either_there : (holds : Holds tells k p old.disk) (c : Image)
+    either_there : (start : PlainHistory) (holds : Holds tells k start p old.disk) (c : Image)
         → KeepsWith mid.keys holds.kept (updates_asked (request_of (request_bytes (update_request k.surface x.epoch x.update)))) c
-        → KeepsStep k p command c
-    either_there holds c keeps =
-        either holds c (subst (λ (y : Opened D). KeepsWith y.keys holds.kept
+        → KeepsStep k start p command c
+    either_there start holds c keeps =
+        either start holds c (subst (λ (y : Opened D). KeepsWith y.keys holds.kept
         (updates_asked (request_of (request_bytes (update_request k.surface x.epoch x.update)))) c)
         x.stays.writes.same keeps)
 
-    leaves_so : Holds tells k p old.disk
-        → LeavesStep tells k p command old.disk new.disk
-    leaves_so holds =
+    leaves_so : MayLeave tells k p command old.disk new.disk
+    leaves_so = λ start holds.
         let moments = weaker tells mid.disk new.disk
         (KeepsWith mid.keys holds.kept (updates_asked (request_of (request_bytes (update_request k.surface x.epoch x.update)))))
-        (KeepsStep k p command)
-        (x.asks.any_moment holds.kept (stands_there holds) sound_there (holds_there holds).told.0
-        (holds_there holds).told.1)
-        (either_there holds) in
+        (KeepsStep k start p command)
+        (x.asks.any_moment holds.kept (stands_there start holds) sound_there
+        (holds_there start holds).told.0 (holds_there start holds).told.1)
+        (either_there start holds) in
         let all = quiet_then tells old.disk mid.disk x.stays.writes.disk new.disk
-        (KeepsStep k p command) (λ c left. inl (holds_each tells k p old.disk holds c left))
+        (KeepsStep k start p command)
+        (λ c left. inl (holds_each tells k start p old.disk holds c left))
         moments in record {
           moments = all;
-          now = now_so tells old.disk new.disk (KeepsStep k p command) all;
+          now = now_so tells old.disk new.disk (KeepsStep k start p command) all;
         }
 
     -- what is kept then is the history after the command
@@ -210,16 +219,17 @@ module _ {D : Type 0} (tells : DiskTells D) (old new : KeptOn D) (p : PlainHisto
           all_told new.kept (after p command)
           (stands_then tells old new p as_told masters command e ours is_honest result x made) tells_on
 
-      holds_so : Holds tells k p old.disk
-          → Holds tells k (after p command) new.disk
-      holds_so holds =
-          let there = holds_there holds in
+      holds_so : (start : PlainHistory) → Holds tells k start p old.disk
+          → Holds tells k start (after p command) new.disk
+      holds_so start holds =
+          let there = holds_there start holds in
           let image = made.answered.told there.told.0 there.told.1 in
-          let more = made.answered.lasts holds.kept (stands_there holds) in
+          let more = made.answered.lasts holds.kept (stands_there start holds) in
           let still : t.failed ≡ false = made.answered.failed ∙ sound_there in record {
             told = image;
             kept = followed holds.kept (x.update ∷ []);
-            right = right_then holds;
+            right = right_then start holds;
+            since = since_then start holds;
             each = λ c left.
                 subst (λ (us : List SealedUpdate). Keeps (keys_of k) (followed holds.kept us) c)
                 made.makes
@@ -283,19 +293,23 @@ module _ {D : Type 0} (tells : DiskTells D) (old new : KeptOn D) (p : PlainHisto
   -- where the command leaves the history the disk has it made
   same_made : (r : Result Reply StepFault) → StepsAt tells k p command old new r
       → after p command ≡ p → HasMade tells k p command old.disk new.disk
-  same_made r steps same = λ holds c left. by r steps holds c left where
-    either_way : (c : Image) → KeepsStep k p command c → KeepsPlain k (after p command) c
-    either_way c (inl keeps) = subst (λ q. KeepsPlain k q c) (sym same) keeps
-    either_way c (inr keeps) = keeps
+  same_made r steps same = λ start holds c left. by r steps start holds c left where
+    either_way : (start : PlainHistory) (c : Image) → KeepsStep k start p command c
+        → KeepsPlain k start (after p command) c
+    either_way start c (inl keeps) = subst (λ q. KeepsPlain k start q c) (sym same) keeps
+    either_way start c (inr keeps) = keeps
 
     by : (x : Result Reply StepFault) → StepsAt tells k p command old new x
-        → Holds tells k p old.disk → (c : Image) → tells.may_leave new.disk c → KeepsPlain k (after p command) c
-    by (Ok reply) goes holds c left =
-        holds_each tells k (after p command) new.disk (goes.1.holds holds) c left
-    by (Err Disk) leaves holds c left = either_way c ((leaves holds).now c left)
-    by (Err Trace) leaves holds c left = either_way c ((leaves holds).now c left)
-    by (Err Memory) leaves holds c left = either_way c ((leaves holds).now c left)
-    by (Err (Tag bad)) never holds c left = absurd never
+        → HasMade tells k p command old.disk new.disk
+    by (Ok reply) goes = λ start holds c left.
+        holds_each tells k start (after p command) new.disk (goes.1.holds start holds) c left
+    by (Err Disk) leaves = λ start holds c left.
+        either_way start c ((leaves start holds).now c left)
+    by (Err Trace) leaves = λ start holds c left.
+        either_way start c ((leaves start holds).now c left)
+    by (Err Memory) leaves = λ start holds c left.
+        either_way start c ((leaves start holds).now c left)
+    by (Err (Tag bad)) never = absurd never
 
   -- a store that shows what it showed doesn't serve the history with the update
   still_unmade : (last : Service) (u : PlainUpdate) → IsServedBy t last
@@ -334,7 +348,8 @@ module _ {D : Type 0} (tells : DiskTells D) (old new : KeptOn D) (p : PlainHisto
       by_reply : IsMade tells k.surface e is_honest x.mid t x.epoch x.update x.reply result
           ⊎ IsFailed tells k.surface e is_honest x.mid t x.epoch x.update x.reply result
           → HasMade tells k p command old.disk new.disk
-      by_reply (inl made) = λ holds c left.
-          holds_each tells k (after p command) new.disk (holds_so result x made holds) c left
+      by_reply (inl made) = λ start holds c left.
+          holds_each tells k start (after p command) new.disk
+          (holds_so result x made start holds) c left
       by_reply (inr failed) =
           absurd (unmade (failed.faulted.same ∙ shows_same tells s x.mid x.stays))

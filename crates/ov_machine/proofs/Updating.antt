@@ -10,7 +10,7 @@ use Rattle.ov_history.specs.Masters.{Masters}
 use Rattle.ov_history.specs.Plain.{PlainHistory}
 use Rattle.ov_model.specs.Step.{after, reply_to}
 use Rattle.ov_machine.specs.Disks.{HasMade, Holds, KeepsPlain, KeepsStep}
-use Rattle.ov_machine.specs.Machine.{KeptOn, StandsFor, LeavesStep, StepsAt}
+use Rattle.ov_machine.specs.Machine.{KeptOn, MayLeave, StandsFor, StepsAt}
 use Rattle.ov_machine.proofs.Stays.{holds_each, holds_still, quiet_leaves}
 
 module _ {D : Type 0} (tells : DiskTells D) where
@@ -22,18 +22,18 @@ module _ {D : Type 0} (tells : DiskTells D) where
   -- what leaves the history is made on a disk to which nothing was written
   pub still_made : (k : Masters) (p : PlainHistory) (command : Command) (old new : D)
       → after p command ≡ p → IsUntouched tells old new → HasMade tells k p command old new
-  still_made k p command old new same quiet = λ holds c left.
-      subst (λ q. KeepsPlain k q c) (sym same)
-      (holds_each tells k p old holds c (quiet.no_more c left))
+  still_made k p command old new same quiet = λ start holds c left.
+      subst (λ q. KeepsPlain k start q c) (sym same)
+      (holds_each tells k start p old holds c (quiet.no_more c left))
 
   module _ (old new : KeptOn D) (quiet : IsUntouched tells old.disk new.disk) (k : Masters)
       (p : PlainHistory) (command : Command) where
     -- a crash leaves what it would have left
-    pub stays_left : Holds tells k p old.disk → LeavesStep tells k p command old.disk new.disk
-    stays_left holds = record {
-      moments = quiet_leaves tells old.disk new.disk quiet (KeepsStep k p command)
-          (λ c left. inl (holds_each tells k p old.disk holds c left));
-      now = λ c left. inl (holds_each tells k p old.disk holds c (quiet.no_more c left));
+    pub stays_left : MayLeave tells k p command old.disk new.disk
+    stays_left = λ start holds. record {
+      moments = quiet_leaves tells old.disk new.disk quiet (KeepsStep k start p command)
+          (λ c left. inl (holds_each tells k start p old.disk holds c left));
+      now = λ c left. inl (holds_each tells k start p old.disk holds c (quiet.no_more c left));
     }
 
     -- the command is answered, and the history stays
@@ -44,7 +44,7 @@ module _ {D : Type 0} (tells : DiskTells D) where
       record {
         stands = subst (StandsFor new.kept) (sym same) stands;
         leaves = stays_left;
-        holds = λ holds. subst (λ q. Holds tells k q new.disk) (sym same)
-            (holds_still tells old.disk new.disk quiet k p holds);
+        holds = λ start holds. subst (λ q. Holds tells k start q new.disk) (sym same)
+            (holds_still tells old.disk new.disk quiet k start p holds);
       },
     )

@@ -132,17 +132,23 @@ AreOtherTags bad = bad.computed ≢ bad.stored
 module _ {D : Type 0} (tells : DiskTells D) where
   -- From a disk that holds the history, a crash at any moment leaves the history from before the
   -- command or that after it, and so does a crash at the end.
-  pub record LeavesStep (k : Masters) (p : PlainHistory) (command : Command) (old new : D)
+  pub record LeavesStep (k : Masters) (start p : PlainHistory) (command : Command) (old new : D)
       : Type 0 where
-    pub moments : LeavesOnly tells old new (KeepsStep k p command)
-    pub now : (c : Image) → tells.may_leave new c → KeepsStep k p command c
+    pub moments : LeavesOnly tells old new (KeepsStep k start p command)
+    pub now : (c : Image) → tells.may_leave new c → KeepsStep k start p command c
 
-  -- what is kept goes on as the history does, and so does the disk that holds it
+  -- so it does where the disk held the history, from whatever start
+  abbrev pub MayLeave : Masters → PlainHistory → Command → D → D → Type 0
+  MayLeave k p command old new =
+      (start : PlainHistory) → Holds tells k start p old → LeavesStep k start p command old new
+
+  -- what is kept goes on as the history does, and so does the disk that holds it from some start
   pub record MachineGoesOn (k : Masters) (p : PlainHistory) (command : Command) (old new : KeptOn D)
       : Type 0 where
     pub stands : StandsFor new.kept (after p command)
-    pub leaves : Holds tells k p old.disk → LeavesStep k p command old.disk new.disk
-    pub holds : Holds tells k p old.disk → Holds tells k (after p command) new.disk
+    pub leaves : MayLeave k p command old.disk new.disk
+    pub holds : (start : PlainHistory) → Holds tells k start p old.disk
+        → Holds tells k start (after p command) new.disk
 
   -- A command at a history for which what is kept stands. It is answered with the machine's reply,
   -- and all goes on as the history does. Or a call of the disk failed, a frame wasn't put, or
@@ -152,12 +158,9 @@ module _ {D : Type 0} (tells : DiskTells D) where
       → Result Reply StepFault → Type 0
   StepsAt k p command old new (Ok reply) =
       (reply ≡ reply_to p command) × MachineGoesOn k p command old new
-  StepsAt k p command old new (Err Disk) =
-      Holds tells k p old.disk → LeavesStep k p command old.disk new.disk
-  StepsAt k p command old new (Err Trace) =
-      Holds tells k p old.disk → LeavesStep k p command old.disk new.disk
-  StepsAt k p command old new (Err Memory) =
-      Holds tells k p old.disk → LeavesStep k p command old.disk new.disk
+  StepsAt k p command old new (Err Disk) = MayLeave k p command old.disk new.disk
+  StepsAt k p command old new (Err Trace) = MayLeave k p command old.disk new.disk
+  StepsAt k p command old new (Err Memory) = MayLeave k p command old.disk new.disk
   StepsAt k p command old new (Err (Tag bad)) = ⊥
 
   -- a step of the command, at whatever history is kept

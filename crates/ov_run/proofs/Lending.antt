@@ -52,7 +52,7 @@ module _ {D : Type 0} (tells : DiskTells D) where
   pub lent_lasts : (k : Masters) (p : PlainHistory) (text : List ℕ) (last : MutBor D) → Lasts (lent_disk tells) k p text last
       → Lasts tells k p text last.now
   lent_lasts k p text last l =
-      record { commands = l.commands; whole = l.whole; lasts = lent_lasts_as tells k _ last l.lasts }
+      record { commands = l.commands; whole = l.whole; lasts = lent_lasts_as tells k p _ last l.lasts }
 
   -- from what holds in the mode that was found
   from_each : (loan : MutBor D) (words : List (String Global)) (keys input : Option (List ℕ)) (mode : Mode) → IsRun mode words

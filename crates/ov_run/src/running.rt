@@ -56,7 +56,7 @@ fn answer_script<I: Source, O: Sink, T: Sink, D: Disk>(
         machine.old.disk machine.new.disk input.old input.new
         (O.tells.written out.old) (O.tells.written out.new)
         (T.tells.written trace.old) (T.tells.written trace.new)
-        (Holds D.tells k p machine.old.disk)) }
+        (Holds D.tells k p p machine.old.disk)) }
     ensures script { IfSome (I.tells.left input.old) (λ text.
         EndsByScript text result (O.tells.written out.old) (O.tells.written out.new)) }
     ensures causes { EndsFor D.tells machine.old.disk machine.new.disk result

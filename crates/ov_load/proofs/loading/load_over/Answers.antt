@@ -33,7 +33,7 @@ returns-in-Ok-clause-ends g c = λ h opens.
     (g.O.Sink.tells.written c.args.out.now) (g.O.Sink.tells.written c.load_machine-code.new.out)
     (g.T.Sink.tells.written c.args.trace.now) (g.T.Sink.tells.written c.load_machine-code.new.trace)
     c.load_machine-code.result (Holds g.D.Disk.tells
-    c.of-machine.result.kept.masters q c.of-machine.result.disk))
+    c.of-machine.result.kept.masters q q c.of-machine.result.disk))
     (sym c.into_disk.ensures) (c.load_machine-code.ensures.ends q stands))
 
 pub returns-in-Err-clause-ends : goal.returns-in-Err-clause-ends

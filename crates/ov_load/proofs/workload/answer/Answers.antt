@@ -23,6 +23,7 @@ returns-in_err-line-clause-answer g c = λ k h at stands.
 pub returns-in_err-line-clause-traced : goal.returns-in_err-line-clause-traced
 returns-in_err-line-clause-traced g c = λ h stands.
     sent_unlined c.args.machine.now.kept.masters h c.args.command _ _ _ _ (search rules)
-    (λ holds image left. holds_each g.D.Disk.tells _ _ _
-    ((c.in_ok-reply.ensures.steps c.args.machine.now.kept.masters h refl stands).1.holds holds) image left)
+    (λ start holds image left. holds_each g.D.Disk.tells _ _ _ _
+    ((c.in_ok-reply.ensures.steps c.args.machine.now.kept.masters h refl stands).1.holds start holds)
+    image left)
     (c.in_ok-reply.ensures.traced h stands)

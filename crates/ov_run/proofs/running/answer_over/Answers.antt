@@ -38,7 +38,7 @@ returns-in-Ok-clause-text g c = λ p opens.
     c.of-machine.result.kept.masters q text c.of-machine.result.disk last
     (g.O.Sink.tells.written c.args.out.now) (g.O.Sink.tells.written c.answer_script-code.new.out)
     c.answer_script-code.result (Holds g.D.Disk.tells
-    c.of-machine.result.kept.masters q c.of-machine.result.disk)))
+    c.of-machine.result.kept.masters q q c.of-machine.result.disk)))
     (sym c.into_disk.ensures) (ends_of_run g.D.Disk.tells g.I.Source.tells _ q _ _ _ _ _ _ _ _ _ _ _ (c.answer_script-code.ensures.text q stands))))
     (pace_of_run g.D.Disk.tells g.I.Source.tells _ p _ _ _ _ _ _ _ _ _ _ _
     (c.answer_script-code.ensures.text p stands))

@@ -1,0 +1,105 @@
+-- Sealed histories that agree but for files that were gone at a start go on alike.
+use Rattle.std.proofs.Common.{◌≡◌, ◌∙◌, ℕ, ◌+◌, ◌<◌, Bool, true, false, ◌&&◌, List, [], ◌∷◌, ◌++◌}
+use Rattle.std.proofs.Common.{length, refl, sym, ap, subst, arith, true≢false}
+use Rattle.std.specs.Prelude.{not}
+use Rattle.ov_base.proofs.Tests.{lt_is_true}
+use Rattle.ov_history.specs.Fading.{AgreeButGone, AgreeFrom, faded, faded_all, faded_from}
+use Rattle.ov_history.specs.Fading.{faded_if, faded_of, is_gone_from, made_by, was_gone}
+use Rattle.ov_history.specs.History.{History, matrix_of, no_one}
+use Rattle.ov_history.specs.Lists.{is_file}
+use Rattle.ov_history.specs.Masters.{Masters}
+use Rattle.ov_history.specs.Plain.{PlainHistory}
+use Rattle.ov_history.specs.Sealed.{SealedHistory, outer_of, with_sealed}
+use Rattle.ov_history.specs.Sealing.{IsSealedAs, IsSealedSince, sealed}
+use Rattle.ov_history.specs.Sent.{SealedUpdate, SealedEnrol, SealedCreate, SealedGrant}
+use Rattle.ov_history.specs.Sent.{SealedRevoke, SealedRemove, SealedReplace}
+use Rattle.ov_history.proofs.Agreeing.{faded-append, made_all, made_all-faded, made_many}
+use Rattle.ov_history.proofs.Fading.{outer_faded_of}
+use Rattle.ov_history.proofs.Sealing.{sealing_is_outer}
+
+-- ---- at the start
+
+-- an update that makes no file has nothing that fades
+faded_kept : (u : SealedUpdate) → (made_by u ≡ 1 → ⊥) → faded u ≡ u
+faded_kept (SealedEnrol user) none = refl
+faded_kept (SealedCreate file list tokens tag text) none = absurd (none refl)
+faded_kept (SealedGrant user file token) none = refl
+faded_kept (SealedRevoke user file) none = refl
+faded_kept (SealedRemove file) none = refl
+faded_kept (SealedReplace file tokens tag text) none = absurd (none refl)
+
+-- an update fades alike by two tests that say the same of the file that it makes
+faded_alike : (one two : Bool) (u : SealedUpdate) → (made_by u ≡ 1 → one ≡ two)
+    → faded_if one u ≡ faded_if two u
+faded_alike true true u same = refl
+faded_alike true false u same = faded_kept u (λ made. true≢false (same made))
+faded_alike false true u same = sym (faded_kept u (λ made. true≢false (sym (same made))))
+faded_alike false false u same = refl
+
+-- and so do updates by two tests that say the same of all files that they make
+all_alike : (one two : ℕ → Bool) (number : ℕ) (updates : List SealedUpdate)
+    → ((n : ℕ) → n < number + made_all updates → one n ≡ two n)
+    → faded_all one number updates ≡ faded_all two number updates
+all_alike one two number [] same = refl
+all_alike one two number (u ∷ updates) same =
+    ap (λ (v : SealedUpdate). v ∷ faded_all one (number + made_by u) updates)
+    (faded_alike (one number) (two number) u (λ made. same number (omega (arith, made))))
+    ∙ ap (λ (us : List SealedUpdate). faded_if (two number) u ∷ us)
+    (all_alike one two (number + made_by u) updates (λ n low. same n (omega (arith, low))))
+
+-- each file that a history makes was gone at its end where it is gone from it
+gone_alike : (g : SealedHistory) (n : ℕ) → n < 0 + made_all g.updates
+    → was_gone (outer_of g) n ≡ is_gone_from g n
+gone_alike g n low =
+    let many : length (matrix_of (outer_of g)).files ≡ 0 + made_all g.updates =
+    made_many no_one g.updates in
+    let below : n < length (matrix_of (outer_of g)).files = omega (arith, low, many) in
+    ap (λ (b : Bool). b && not (is_file (matrix_of (outer_of g)) n))
+    (lt_is_true n (length (matrix_of (outer_of g)).files) below)
+
+-- so a history fades at its end as it fades from its end
+end_fades : (g : SealedHistory) → faded_from (outer_of g) g ≡ faded_of g
+end_fades g =
+    ap (λ (us : List SealedUpdate). record g { updates = us })
+    (all_alike (was_gone (outer_of g)) (is_gone_from g) 0 g.updates (gone_alike g))
+
+-- histories that agree do so from their own end
+agree_from_end : (g h : SealedHistory) → AgreeButGone g h → AgreeFrom (outer_of h) g h
+agree_from_end g h agree =
+    let same : outer_of g ≡ outer_of h =
+    sym (outer_faded_of g) ∙ ap (λ (it : SealedHistory). outer_of it) agree ∙ outer_faded_of h in
+    ap (λ (start : History). faded_from start g) (sym same)
+    ∙ end_fades g ∙ agree ∙ sym (end_fades h)
+
+-- a history that is right by a plain one is its sealed form since that one
+pub sealed_since : (k : Masters) (p : PlainHistory) (g : SealedHistory) → IsSealedAs k p g
+    → IsSealedSince k p p g
+sealed_since k p g right =
+    subst (λ (start : History). AgreeFrom start g (sealed k p)) (sealing_is_outer k p)
+    (agree_from_end g (sealed k p) right)
+
+-- ---- one more update
+
+-- this history with one more update, which fades by a test
+abbrev faded_with : (ℕ → Bool) → SealedHistory → SealedUpdate → SealedHistory
+faded_with is_out g u = record g {
+  updates = g.updates ++ faded_if (is_out (0 + made_all g.updates)) u ∷ [];
+}
+
+-- a history with one more update fades as the faded one does with it
+faded_from-push : (start : History) (g : SealedHistory) (u : SealedUpdate)
+    → faded_from start (with_sealed g u) ≡ faded_with (was_gone start) (faded_from start g) u
+faded_from-push start g u =
+    let is_out : ℕ → Bool = was_gone start in
+    ap (λ (us : List SealedUpdate). record g { updates = us })
+    (faded-append is_out 0 g.updates u
+    ∙ ap (λ n. faded_all is_out 0 g.updates ++ faded_if (is_out (0 + n)) u ∷ [])
+    (sym (made_all-faded is_out 0 g.updates)))
+
+-- histories that agree from a start do so with one more update
+pub since_goes_on : (start : History) (g h : SealedHistory) (u : SealedUpdate)
+    → AgreeFrom start g h → AgreeFrom start (with_sealed g u) (with_sealed h u)
+since_goes_on start g h u agree =
+    faded_from-push start g u
+    ∙ ap (λ (it : SealedHistory). faded_with (was_gone start) it u) agree
+    ∙ sym (faded_from-push start h u)
