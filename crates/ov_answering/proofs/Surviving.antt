@@ -62,7 +62,7 @@ publishes_matrix k p legal =
 publishes_matrix_of : (k : Masters) (p : PlainHistory) → IsLegal (history_of p) → (h : SealedHistory)
     → IsSealedAs k p h → (i : Image) → KeepsHistory (keys_of k) h i → PublishesMatrixOf k p i
 publishes_matrix_of k p legal h right i keeps = λ g other.
-    let same : IsSealedAs k p g = sym (keeps_once (keys_of k) h g i keeps other) ∙ right in
+    let same : IsSealedAs k p g = sym (keeps_once (keys_of k) h g i keeps other).1 ∙ right in
     subst (λ (c : Catalogue). PublishesMatrix k (matrix_of (history_of p)) c)
     (sym (right_shows k p g legal same)) (publishes_matrix k p legal)
 

@@ -57,16 +57,19 @@ places_once k other p q i one two =
     (subst (λ (s : Option ℕ). AllHaveForm s q.updates) step two.form) bodies in
     λ j. record { mode = mode j; first = first j; updates = updates j }
 
--- an image keeps one history under one surface master, but for files that are gone
+-- an image keeps one history under one surface master, but for the bytes of files that are gone
 once : (k other : Keys) (g h : SealedHistory) (i : Image) → k.surface ≡ other.surface
-    → Keeps k g i → Keeps other h i → AgreeButGone g h
+    → Keeps k g i → Keeps other h i → (brief_of g ≡ brief_of h) × AgreeButGone g h
 once k other g h i surfaces (p, one) (q, two) =
     let same : p ≡ q = places_once k other p q i one.records two.records in
     let files : KeepsBytes k.surface (stored_in k.surface q i.blobs) h =
     subst (λ (s : List ℕ). KeepsBytes s (stored_in s q i.blobs) h) (sym surfaces) two.files in
-    stored_tells_texts k.surface g h
-    (one.briefs ∙ ap (λ (x : PlacedHistory). unplaced x) same ∙ sym two.briefs)
-    (sym one.files ∙ ap (λ (x : PlacedHistory). stored_in k.surface x i.blobs) same ∙ files)
+    let briefs : brief_of g ≡ brief_of h =
+    one.briefs ∙ ap (λ (x : PlacedHistory). unplaced x) same ∙ sym two.briefs in (
+      briefs,
+      stored_tells_texts k.surface g h briefs
+          (sym one.files ∙ ap (λ (x : PlacedHistory). stored_in k.surface x i.blobs) same ∙ files),
+    )
 
 pub keeps_once : KeepsOnce
 keeps_once k g h i one two = once k k g h i refl one two
@@ -89,7 +92,7 @@ keys_are_kept k other g h i long too (p, one) (q, two) =
       one.briefs ∙ ap (λ (x : PlacedHistory). unplaced x) places ∙ sym two.briefs,
       ap (λ (x : Header). x.base_check) apart,
       ap (λ (x : Header). x.surface_check) apart,
-      λ surfaces. once k other g h i surfaces (p, one) (q, two),
+      λ surfaces. (once k other g h i surfaces (p, one) (q, two)).1,
     )
 
 -- ---- what is kept

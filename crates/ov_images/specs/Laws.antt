@@ -28,10 +28,12 @@ use Rattle.ov_images.specs.Damage.{HasBadRecords, HasBadRecordsUnder, HasHeader,
 
 -- ---- one history
 
--- an image keeps at most one history under the same keys, but for the bytes of files that are gone
+-- An image keeps at most one history under the same keys, but for the bytes of files that are gone.
+-- Its records tell all of the updates but these bytes, so the tags too.
 abbrev pub KeepsOnce : Type 0
 KeepsOnce =
-    (k : Keys) (g h : SealedHistory) (i : Image) → Keeps k g i → Keeps k h i → AgreeButGone g h
+    (k : Keys) (g h : SealedHistory) (i : Image)
+    → Keeps k g i → Keeps k h i → (brief_of g ≡ brief_of h) × AgreeButGone g h
 
 -- What an image keeps says nothing of files that are gone: it keeps each other history with the same
 -- updates that differs in the bytes of these alone.
