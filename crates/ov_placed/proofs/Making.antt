@@ -131,7 +131,7 @@ module _ {W : ℕ} (limit : ℕ) (master : List ℕ) (store : PlacedStore) (u : 
     short = λ file f at.
         is.change.suits.well.each file f
         (ap (λ (fs : List (Option Filed)). living_at fs file) files_are ∙ at);
-    was_short = well.each;
+    was_short = λ file f removed at. well.each file f at;
     held = counts_are_enough store.catalogue.files store.placed store.held holds.places apart
         holds.extents;
   }

@@ -55,8 +55,8 @@ pub record IsSpelledAs (c : Catalogue) (b : Brief) (front : List ℕ) : Type 0 w
   pub told : numbered_brief (file_names_shown c) (spelled_brief (file_names_shown c) b) ≡ b
 
 -- A store with this catalogue takes the update, and this is what the update is made from. After it
--- there are no more files than a store may have, and each is no longer than a file may be; nor was one
--- before it.
+-- there are no more files than a store may have, and each is no longer than a file may be; nor was the
+-- one that it removes or replaces.
 pub record IsAskedFor (c : Catalogue) (u : SealedUpdate) (a : Asked) : Type 0 where
   pub taken : IsTaken c (brief u)
   pub rewrites : a.rewrites ≡ rewrites_of c (brief u)
@@ -66,8 +66,8 @@ pub record IsAskedFor (c : Catalogue) (u : SealedUpdate) (a : Asked) : Type 0 wh
   pub files : length (files_after c (brief u)) ≤ MAX_FILES
   pub short : (file : ℕ) (f : Filed) → living_at (files_after c (brief u)) file ≡ Some f
       → f.length ≤ MAX_FILE_BYTES
-  pub was_short : (file : ℕ) (f : Filed) → living_at c.files file ≡ Some f
-      → f.length ≤ MAX_FILE_BYTES
+  pub was_short : (file : ℕ) (f : Filed) → removed_by (brief u) ≡ Some file
+      → living_at c.files file ≡ Some f → f.length ≤ MAX_FILE_BYTES
   pub held : AreHeldFor c.files a.placed a.held
 
 -- a store of some catalogue takes some update that is made from this

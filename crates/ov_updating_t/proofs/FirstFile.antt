@@ -55,7 +55,7 @@ module _ (name tag : List ℕ) where
     removed = refl;
     files = lit≤ tt;
     short = short;
-    was_short = λ file f at. absurd (cc at);
+    was_short = λ file f removed at. absurd (cc at);
     held = none_held;
   }
 
