@@ -1,6 +1,7 @@
--- A read is refused only where a Chain was.
+-- A read is refused exactly where a Chain was.
 use Rattle.std.proofs.Common.{◌≡◌, ◌∙◌, ◌⊎◌, ◌+◌, ℕ, List, [], ◌∷◌, ◌++◌, length}
 use Rattle.std.proofs.Common.{Option, Some, None, Result, Ok, Err, refl, sym, ap, subst, inl, inr}
+use Rattle.std.proofs.Common.{arith, get_or}
 use Rattle.ov_base.specs.declared.limits.TheConstants.{MAX_CHUNK_BYTES}
 use Rattle.ov_base.specs.declared.refusal.Refusal.{Refusal}
 use Rattle.ov_wire.specs.AnswerReading.{answer_of}
@@ -13,9 +14,11 @@ use Rattle.ov_wire.specs.declared.request.Request.TheVariants as requests
 use Rattle.ov_peer.specs.Asks.{Ask}
 use Rattle.ov_client.specs.Readers.{Reader}
 use Rattle.ov_client.specs.Refusing.{EndsRefused, IsRefusedChain, RefusalsAreOfChains}
+use Rattle.ov_client.specs.Refusing.{RefusedChainsEndReads}
 use Rattle.ov_client.specs.Talks.{AsksChain, AsksChunk, Closes, Ends, Goes, IsAfter, Moves, Stage}
 use Rattle.ov_client.specs.Talks.{after, asked_at}
 use Rattle.ov_client.specs.Telling.{chunk_bytes, wrong_field}
+use Rattle.ov_client.specs.declared.fault.ClientFault.{ClientFault}
 use Rattle.ov_client.specs.declared.fault.ClientFault.TheVariants as client
 use Rattle.ov_client.proofs.Stages.{HoldsOnTheWay, again_holds, sized_holds, unless_holds}
 
@@ -148,8 +151,84 @@ module _ (r : Reader) (file : List ℕ) where
   closed_so last (Some frame) why (due, inl link) = absurd (cc link)
   closed_so last (Some frame) why (due, inr memory) = absurd (cc memory)
 
+  -- ---- the other way round
+
+  -- what follows a Chain that is refused is the end by this refusal, or memory ran out
+  refused_ends : (stage next : Stage) (a : Ask) (why : Refusal) → Moves r file stage a next
+      → IsRefusedChain r file why a
+      → (next ≡ Ends (Err (client.Refused why))) ⊎ (next ≡ Ends (Err client.Memory))
+  refused_ends stage next a why moves is = by_read moves.reads where
+    by_stage : (s : Stage) → s ≡ stage → IsAfter r stage moves.asks.request a.reply next
+        → next ≡ Ends (Err (client.Refused why))
+    by_stage (AsksChain tries least) same moved =
+        let request : chain ≡ moves.asks.request = cc
+        (ap (asked_at r file) same, moves.asks.is_asked) in
+        let goes : after r (AsksChain tries least) (answer_of chain a.reply) ≡ next =
+        (λ i. after r (same i) (answer_of (request i) a.reply)) ∙ sym moved.moves in
+        sym goes
+        ∙ ap (λ (read : Result Answer ℕ). after r (AsksChain tries least) read) is.refused
+    by_stage (AsksChunk tries c stored) same moved =
+        let chunk : Request = requests.Chunk c.file c.generation (length stored)
+        MAX_CHUNK_BYTES in
+        let request : chunk ≡ moves.asks.request = cc
+        (ap (asked_at r file) same, moves.asks.is_asked) in
+        let bytes : request_bytes chunk ≡ request_bytes chain =
+        ap request_bytes request ∙ sym moves.asks.spelled ∙ is.asked in
+        let kinds : 6 ≡ 5 = ap (λ (l : List ℕ). get_or l 0 0) bytes in
+        absurd (omega (arith, kinds))
+    by_stage (Ends result) same moved =
+        absurd (let none = ap (asked_at r file) same in cc (none, moves.asks.is_asked))
+
+    by_read : (IsAfter r stage moves.asks.request a.reply next)
+        ⊎ (next ≡ Ends (Err client.Memory))
+        → (next ≡ Ends (Err (client.Refused why))) ⊎ (next ≡ Ends (Err client.Memory))
+    by_read (inl moved) = inl (by_stage stage refl moved)
+    by_read (inr memory) = inr memory
+
+  -- nothing is asked at an end, and its result is the read's, or memory ran out
+  ends_there : (asks : List Ask) (stage last : Stage) (ended result : Result (List ℕ) ClientFault)
+      (unanswered : Option (List ℕ)) → stage ≡ Ends ended → Goes r file stage asks last
+      → Closes r file last unanswered result
+      → (asks ≡ []) × ((result ≡ ended) ⊎ (result ≡ Err client.Memory))
+  ends_there [] stage last ended result None is goes (inl closed) =
+      let both : Ends ended ≡ Ends result = sym is ∙ goes ∙ closed in
+      let same : ended ≡ result = cc both in
+      (refl, inl (sym same))
+  ends_there [] stage last ended result None is goes (inr memory) = (refl, inr memory)
+  ends_there [] stage last ended result (Some frame) is goes (due, cut) =
+      absurd (let none = ap (asked_at r file) (sym is ∙ goes) in cc (none, due.is_asked))
+  ends_there (b ∷ asks) stage last ended result unanswered is (next, moves, goes) closes =
+      absurd (let none = ap (asked_at r file) is in cc (none, moves.asks.is_asked))
+
+  goes_ends : (before rest : List Ask) (a : Ask) (stage last : Stage) (why : Refusal)
+      (unanswered : Option (List ℕ)) (result : Result (List ℕ) ClientFault)
+      → Goes r file stage (before ++ a ∷ rest) last → Closes r file last unanswered result
+      → IsRefusedChain r file why a
+      → (rest ≡ []) × ((result ≡ Err (client.Refused why)) ⊎ (result ≡ Err client.Memory))
+  goes_ends [] rest a stage last why unanswered result (next, moves, goes) closes is =
+      elim (refused_ends stage next a why moves is) [
+        | inl refused ↦
+            ends_there rest next last (Err (client.Refused why)) result unanswered refused goes
+            closes
+        | inr memory ↦
+            let (none, how) =
+            ends_there rest next last (Err client.Memory) result unanswered memory goes closes in (
+              none,
+              inr (elim how [
+                | inl at_once ↦ at_once
+                | inr later ↦ later
+              ]),
+            )
+      ]
+  goes_ends (b ∷ before) rest a stage last why unanswered result (next, moves, goes) closes is =
+      goes_ends before rest a next last why unanswered result goes closes is
+
 pub refusals_are_of_chains : RefusalsAreOfChains
 refusals_are_of_chains r file asks unanswered why (last, goes, closes) =
     goes_refused r file asks (AsksChain [] 0) why tt
     (subst (λ (s : Stage). Goes r file (AsksChain [] 0) asks s)
     (closed_so r file last unanswered why closes) goes)
+
+pub refused_chains_end_reads : RefusedChainsEndReads
+refused_chains_end_reads r file before rest a unanswered why result (last, goes, closes) is =
+    goes_ends r file before rest a (AsksChain [] 0) last why unanswered result goes closes is

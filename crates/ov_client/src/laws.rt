@@ -4,7 +4,7 @@ ghost use Rattle.std.specs.Prelude.{◌≡◌, ℕ, List};
 ghost use Rattle.ov_client.specs.KeyLines.{IsLineOf};
 ghost use Rattle.ov_client.specs.Laws.{ReadsAreAnswered, ReadsAreTheMachines};
 ghost use Rattle.ov_client.specs.Readers.{Reader};
-ghost use Rattle.ov_client.specs.Refusing.{RefusalsAreOfChains};
+ghost use Rattle.ov_client.specs.Refusing.{RefusalsAreOfChains, RefusedChainsEndReads};
 ghost use Rattle.ov_client.specs.Rising.{MovedGenerationsRise};
 
 /// Over a peer whose histories are right under the masters of the reader's root keys, a read that
@@ -21,10 +21,11 @@ pub fn reads_are_answered()
     ensures { ReadsAreAnswered }
 {}
 
-/// A read is refused only where its last ask was, which was for the chains. A chunk that is refused
-/// has the read begin again.
+/// A read is refused exactly where an ask for the chains was, but for memory that runs out then.
+/// That ask is its last one. A chunk that is refused has the read begin again.
 pub fn refusals_are_of_chains()
-    ensures { RefusalsAreOfChains }
+    ensures only { RefusalsAreOfChains }
+    ensures ends { RefusedChainsEndReads }
 {}
 
 /// The generations of nine tries, in each of which the file moved, or was removed or replaced,

@@ -31,8 +31,8 @@
 //! Where nobody changes a right history meanwhile, a read by the keys of the user's own roots ends
 //! so unless it is cut off: by the server's disk, by the link or by a lack of memory (`complete` of
 //! each call, and [`reads_are_answered`]).
-//! The nine generations rise ([`moved_generations_rise`]), and a read is refused only where its last
-//! ask for chains was ([`refusals_are_of_chains`]).
+//! The nine generations rise ([`moved_generations_rise`]), and a read is refused exactly where its
+//! last ask for chains was, but for a lack of memory ([`refusals_are_of_chains`]).
 //!
 //! | file in `specs/` | says |
 //! |---|---|
