@@ -11,13 +11,14 @@ use Rattle.ov_graph.specs.Contents.{joined, plan_of}
 use Rattle.ov_base_layer.specs.declared.grant.Grant.{Grant}
 use Rattle.ov_base_layer.specs.Holders.{accesses_of}
 use Rattle.ov_base_layer.specs.Seals.{cover_tokens}
+use Rattle.ov_record.specs.Briefs.{Brief as SpelledBrief}
 use Rattle.ov_history.specs.Places.{change_at, gone, living_at}
 use Rattle.ov_history.specs.History.{File, Matrix}
 use Rattle.ov_history.specs.Lists.{file_names}
 use Rattle.ov_history.specs.Layers.{Place, Layers, node_for, with_wants, wants_of, surface_at}
 use Rattle.ov_history.specs.Layers.{same_surface, lists_of, lists_after, list_at, list_in}
 use Rattle.ov_history.specs.Briefs.{Brief, BriefEnrol, BriefCreate, BriefGrant, BriefRevoke, outer}
-use Rattle.ov_history.specs.Briefs.{BriefRemove, BriefReplace}
+use Rattle.ov_history.specs.Briefs.{BriefRemove, BriefReplace, numbered_brief}
 
 -- the nodes of a layer: their sets, and the edges into each
 pub record Nodes : Type 0 where
@@ -108,6 +109,11 @@ matrix_shown c = record { users = c.users; files = files_shown (outline c) c.fil
 -- the names of the files that the catalogue shows, by number; a gone one has the empty name
 abbrev pub file_names_shown : Catalogue → List (List ℕ)
 file_names_shown c = file_names (matrix_shown c).files
+
+-- The update that is spelled so to a store with this catalogue, without its bytes. The file that it
+-- replaces is spelled by name, and here it has the number that the name has in the catalogue.
+abbrev pub numbered_at : Catalogue → SpelledBrief → Brief
+numbered_at c b = numbered_brief (file_names_shown c) b
 
 -- ---- what an update adds
 

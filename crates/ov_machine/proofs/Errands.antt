@@ -7,9 +7,10 @@ use Rattle.ov_ctr.proofs.Pad.{length-xor_pad}
 use Rattle.ov_tokens.specs.declared.token.Token.{Token}
 use Rattle.ov_tokens.specs.declared.label.Kind.TheVariants.{Derive}
 use Rattle.ov_graph.specs.Seals.{edge_token}
+use Rattle.ov_record.specs.Briefs.{brief}
 use Rattle.ov_record.specs.Updates.{SealedUpdate}
 use Rattle.ov_history.specs.Asking.{file_named, refusal_at}
-use Rattle.ov_history.specs.Catalogue.{Catalogue, outline}
+use Rattle.ov_history.specs.Catalogue.{Catalogue, outline, numbered_at}
 use Rattle.ov_history.specs.History.{Created, Replaced}
 use Rattle.ov_history.specs.Layers.{list_in}
 use Rattle.ov_history.specs.Lists.{set_named}
@@ -26,7 +27,7 @@ use Rattle.ov_wire.specs.declared.request.Question.{Question}
 use Rattle.ov_wire.specs.declared.request.Question.TheVariants as questions
 use Rattle.ov_wire.specs.AnswerForm.{HasAnswerForm}
 use Rattle.ov_wire.specs.AnswersTo.{IsAnswer}
-use Rattle.ov_protocol.specs.Serving.{Serving, brief_in}
+use Rattle.ov_protocol.specs.Serving.{Serving}
 use Rattle.ov_protocol.specs.Answers.{Answers}
 use Rattle.ov_protocol.specs.Asking.{AnswersAsk, AnswersCover, AnswersReplan, known_at, numbers_for, plan_for, refusal_to}
 use Rattle.ov_peer.specs.Disks.{MayNeedDisk}
@@ -39,8 +40,8 @@ use Rattle.ov_owner.proofs.Fitting.{ask_fits, cover_fits, needs_no_node, replan_
 -- the update is one that a store with this catalogue makes, and is made at its epoch
 pub record IsMakeable (c : Catalogue) (epoch : ℕ) (u : SealedUpdate) : Type 0 where
   pub at_epoch : epoch ≡ c.epoch
-  pub free : refusal_shown c (brief_in c u) ≡ None
-  pub parts : HasParts (outline c) (brief_in c u)
+  pub free : refusal_shown c (numbered_at c (brief u)) ≡ None
+  pub parts : HasParts (outline c) (numbered_at c (brief u))
 
 -- something is sealed of the answer that is made at the store, or the command is refused
 abbrev pub IsTold : Catalogue → Result (ℕ × SealedUpdate) OwnerFault → Type 0

@@ -9,13 +9,14 @@ use Rattle.ov_disk.specs.Tells.{DiskTells}
 use Rattle.ov_images.specs.Images.{keys_of}
 use Rattle.ov_keyfile.specs.KeyFile.{IsKeyFile}
 use Rattle.ov_keyfile.specs.declared.masters.Masters.{Masters as KeyMasters}
+use Rattle.ov_record.specs.Briefs.{brief}
 use Rattle.ov_record.specs.Updates.{SealedUpdate}
 use Rattle.ov_script.specs.declared.command.Command.{Command}
 use Rattle.ov_script.specs.declared.command.Command.TheVariants.{Enrol, Create, Grant, Revoke, Remove, Replace}
 use Rattle.ov_script.specs.declared.command.Command.TheVariants.{Read, List as ListNames}
 use Rattle.ov_script.specs.declared.command.Command.TheVariants.{Epoch as AskEpoch}
 use Rattle.ov_script.specs.declared.reply.Reply.{Reply}
-use Rattle.ov_history.specs.Catalogue.{Catalogue}
+use Rattle.ov_history.specs.Catalogue.{Catalogue, numbered_at}
 use Rattle.ov_history.specs.History.{matrix_of}
 use Rattle.ov_history.specs.Kept.{AreKept, IsKept}
 use Rattle.ov_history.specs.Layers.{layers_of}
@@ -28,7 +29,6 @@ use Rattle.ov_history.specs.Sealing.{sealed_update}
 use Rattle.ov_history.specs.Sent.{numbered}
 use Rattle.ov_model.specs.Step.{reply_to, after, step, update}
 use Rattle.ov_owner.specs.Errands.{IsCreation}
-use Rattle.ov_protocol.specs.Serving.{brief_in}
 use Rattle.ov_store.specs.Opened.{Opened}
 use Rattle.ov_machine.specs.Disks.{Holds, KeepsStep}
 use Rattle.ov_machine.specs.declared.fault.BadTag.{BadTag}
@@ -113,7 +113,7 @@ pub record IsSentAt (old : Kept) (p : PlainHistory) (command : Command) (sent : 
     : Type 0 where
   pub plain : PlainUpdate
   pub asked : step p command ≡ update p plain
-  pub refused : refusal_shown old.catalogue (brief_in old.catalogue sent)
+  pub refused : refusal_shown old.catalogue (numbered_at old.catalogue (brief sent))
       ≡ refusal_of (history_of p) (measured plain)
   pub sealed : refusal_of (history_of p) (measured plain) ≡ None
       → numbered (file_names (matrix_of (history_of p)).files) sent

@@ -2,6 +2,7 @@
 use Rattle.std.proofs.Common.{◌≡◌, ℕ, ◌+◌, ◌<◌, ◌^◌, ◌∙◌, List, [], ◌∷◌, length, Option, Some, None, Result, Ok, Err, refl, ap, subst, sym, inl, inr, arith}
 use Rattle.std.specs.Prelude.{nat_lt, Bool, true, false}
 use Rattle.ov_base.proofs.Tests.{lt_is_false}
+use Rattle.ov_record.specs.Briefs.{brief}
 use Rattle.ov_record.specs.Spelling.{HasForm, spelling}
 use Rattle.ov_record.specs.Updates.{SealedUpdate}
 use Rattle.ov_record.specs.Forms.{second_form}
@@ -9,7 +10,7 @@ use Rattle.ov_script.specs.declared.command.Command.{Command}
 use Rattle.ov_script.specs.declared.command.Command.TheVariants as commands
 use Rattle.ov_history.specs.Asking.{file_named}
 use Rattle.ov_history.specs.Briefs.{Brief}
-use Rattle.ov_history.specs.Catalogue.{Catalogue, outline}
+use Rattle.ov_history.specs.Catalogue.{Catalogue, outline, numbered_at}
 use Rattle.ov_history.specs.Masters.{Masters}
 use Rattle.ov_history.specs.Plain.{PlainHistory, history_of}
 use Rattle.ov_history.specs.Refusals.{IsLegal}
@@ -26,7 +27,7 @@ use Rattle.ov_wire.specs.AnswerForm.{HasAnswerForm}
 use Rattle.ov_wire.specs.AnswerReading.{answer_of}
 use Rattle.ov_wire.specs.AnswersTo.{IsAnswer}
 use Rattle.ov_wire.specs.Requests.{HasRequestForm, request_bytes}
-use Rattle.ov_protocol.specs.Serving.{Service, brief_in, followed, served}
+use Rattle.ov_protocol.specs.Serving.{Service, followed, served}
 use Rattle.ov_protocol.specs.Answers.{Answers}
 use Rattle.ov_protocol.specs.Replies.{AnswersRead}
 use Rattle.ov_protocol.specs.Updating.{AnswersSealed, AnswersSpelled, AnswersUpdate, owner_tag}
@@ -81,7 +82,7 @@ module _ (k : Masters) (command : Command) (e : Errand) (d : Does k command e) (
       (n, refl, next ∙ ap (λ x. x + 1) (sym now), form)
   taken epoch u (answers.Refused why) ready some form now =
       let refusals = kept_refusals k p c (d.plain p) (legal, refl) in
-      let none : refusal_shown c (brief_in c u) ≡ None =
+      let none : refusal_shown c (numbered_at c (brief u)) ≡ None =
       ap (λ (b : Brief). refusal_shown c b) (brief_as k p legal (d.plain p) u ready.is_sealed)
       ∙ refusals.0 ∙ ready.free in
       absurd (cc (none, some))

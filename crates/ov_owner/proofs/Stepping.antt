@@ -4,6 +4,7 @@ use Rattle.std.specs.Prelude.{length}
 use Rattle.ov_base.specs.declared.refusal.Refusal.{Refusal}
 use Rattle.ov_fields.proofs.WholeLaws.{all_again}
 use Rattle.ov_fields.specs.Reading.{placed}
+use Rattle.ov_record.specs.Briefs.{brief}
 use Rattle.ov_record.specs.Reading.{update_of}
 use Rattle.ov_record.specs.Spelling.{HasForm, spelling}
 use Rattle.ov_record.specs.Updates.{SealedUpdate}
@@ -13,7 +14,7 @@ use Rattle.ov_script.specs.declared.command.Command.{Command}
 use Rattle.ov_script.specs.declared.reply.Reply.{Reply}
 use Rattle.ov_script.specs.declared.reply.Reply.TheVariants as replies
 use Rattle.ov_history.specs.Briefs.{Brief}
-use Rattle.ov_history.specs.Catalogue.{Catalogue}
+use Rattle.ov_history.specs.Catalogue.{Catalogue, numbered_at}
 use Rattle.ov_history.specs.History.{epoch_of}
 use Rattle.ov_history.specs.Layers.{layers_of}
 use Rattle.ov_history.specs.Masters.{Masters}
@@ -26,7 +27,7 @@ use Rattle.ov_history.proofs.Keeping.{kept_refusals, kept_shows}
 use Rattle.ov_model.specs.Step.{step, update_step}
 use Rattle.ov_history.proofs.Agreeing.{right_goes_on, right_shows}
 use Rattle.ov_wire.specs.declared.answer.Answer.TheVariants as answers
-use Rattle.ov_protocol.specs.Serving.{Service, brief_in, followed, served}
+use Rattle.ov_protocol.specs.Serving.{Service, followed, served}
 use Rattle.ov_protocol.specs.Answers.{Answers, made_by}
 use Rattle.ov_protocol.specs.Updating.{AnswersSpelled, spelled_by}
 use Rattle.ov_owner.specs.Errands.{Errand}
@@ -139,7 +140,7 @@ module _ (k : Masters) (command : Command) (e : Errand) (d : Does k command e) (
   refused_there : (g : SealedHistory) (epoch : ℕ) (u : SealedUpdate) (t : IsSealedAt g epoch u)
       → let c = catalogue_of k.surface (sealed k t.p) in
       refusal_of (history_of t.p) (measured (d.plain t.p))
-      ≡ refusal_shown c (brief_in c u)
+      ≡ refusal_shown c (numbered_at c (brief u))
   refused_there g epoch u t =
       let c = catalogue_of k.surface (sealed k t.p) in
       let refusals = kept_refusals k t.p c (d.plain t.p) (t.legal, refl) in

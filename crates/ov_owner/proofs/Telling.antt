@@ -9,6 +9,7 @@ use Rattle.ov_record.specs.Updates.{SealedUpdate}
 use Rattle.ov_history.specs.Asking.{file_named, of_grant, refusal_at}
 use Rattle.ov_history.specs.Briefs.{brief, numbered_brief, outer}
 use Rattle.ov_history.specs.Catalogue.{Catalogue, file_names_shown, matrix_shown, outline}
+use Rattle.ov_history.specs.Catalogue.{numbered_at}
 use Rattle.ov_history.specs.History.{Matrix, Update, file_at, matrix_of}
 use Rattle.ov_history.specs.Laws.{ShowsHistory}
 use Rattle.ov_history.specs.Layers.{holders, layers_of, list_in, node_of, root_of}
@@ -28,7 +29,7 @@ use Rattle.ov_wire.specs.declared.answer.Known.{Known}
 use Rattle.ov_wire.specs.declared.answer.Plan.{Plan}
 use Rattle.ov_wire.specs.declared.answer.Answer.{Answer}
 use Rattle.ov_wire.specs.declared.answer.Answer.TheVariants as answers
-use Rattle.ov_protocol.specs.Serving.{Service, brief_in, served}
+use Rattle.ov_protocol.specs.Serving.{Service, served}
 use Rattle.ov_protocol.specs.Answers.{Answers}
 use Rattle.ov_protocol.specs.Replies.{updates_asked}
 use Rattle.ov_protocol.specs.Asking.{known_at, plan_for}
@@ -172,7 +173,8 @@ module _ (k : Masters) (p : PlainHistory) (legal : IsLegal (history_of p)) where
   module _ (plain : PlainUpdate) (u : SealedUpdate)
       (is : numbered (names_after p) u ≡ sealed_update k (layers_of (history_of p)) plain) where
     -- a catalogue sees the update without its bytes
-    pub brief_as : brief_in c u ≡ brief (sealed_update k (layers_of (history_of p)) plain)
+    pub brief_as : numbered_at c (brief_as_spelled u)
+        ≡ brief (sealed_update k (layers_of (history_of p)) plain)
     brief_as =
         ap (λ (names : List (List ℕ)). numbered_brief names (brief_as_spelled u)) names_shown
         ∙ sym (updates_are_numbered (names_after p) u).0 ∙ ap (λ (x : NumberedUpdate). brief x) is

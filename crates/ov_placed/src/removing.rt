@@ -1,10 +1,11 @@
 //! A file that is removed or replaced: it has no first block any more, and its extent is given up.
 ghost use Rattle.std.specs.Prelude.{◌≡◌};
+ghost use Rattle.ov_history.specs.Catalogue.{numbered_at};
 ghost use Rattle.ov_history.specs.Places.{change_at, gone, living_at};
 ghost use Rattle.ov_history.specs.Rewrites.{length_left};
 ghost use Rattle.ov_images.specs.Extents.{extent_at};
 ghost use Rattle.ov_record.specs.Briefs.{plain_brief};
-ghost use Rattle.ov_state.specs.Plans.{IsTaken, numbered_at};
+ghost use Rattle.ov_state.specs.Plans.{IsTaken};
 ghost use Rattle.ov_updating.specs.Files.{removed_by};
 ghost use Rattle.ov_placed.specs.Holding.{extent_removed, taken_away, AreHeld, IsWithAll};
 

@@ -7,29 +7,31 @@ use Rattle.ov_record.specs.Briefs.{brief as brief_as_spelled, text_of as text_as
 use Rattle.ov_record.specs.Updates.{SealedUpdate as SpelledUpdate}
 use Rattle.ov_history.specs.Sent.{SealedUpdate, numbered}
 use Rattle.ov_history.specs.Briefs.{Brief, brief, numbered_brief}
-use Rattle.ov_history.specs.Catalogue.{Catalogue, catalogue_after, outline}
+use Rattle.ov_history.specs.Catalogue.{Catalogue, catalogue_after, outline, numbered_at}
 use Rattle.ov_history.specs.Rewrites.{rewrites_of, stored_after, without_gone}
 use Rattle.ov_history.specs.Sealed.{HasParts, KeepsBytes, SealedHistory, StandsFor}
 use Rattle.ov_history.specs.Sealed.{file_names_of, refusal_shown, with_spelled}
 use Rattle.ov_history.proofs.GoingOn.{histories_go_on}
 use Rattle.ov_history.proofs.Keeping.{stored_goes_on}
 use Rattle.ov_history.proofs.Numbering.{names_are_shown, updates_are_numbered}
-use Rattle.ov_protocol.specs.Serving.{Service, brief_in, followed, later}
+use Rattle.ov_protocol.specs.Serving.{Service, followed, later}
 
 -- ---- one update
 
 module _ (master : List ℕ) (c : Catalogue) (g : SealedHistory) (u : SpelledUpdate)
     (stands : StandsFor master c g) where
   -- by the names of the history's files it is the update that it is by those of the catalogue's
-  pub same_brief : brief (numbered (file_names_of g) u) ≡ brief_in c u
+  pub same_brief : brief (numbered (file_names_of g) u) ≡ numbered_at c (brief_as_spelled u)
   same_brief =
       (updates_are_numbered (file_names_of g) u).0
       ∙ ap (λ (names : List (List ℕ)). numbered_brief names (brief_as_spelled u))
       (sym (names_are_shown master c g stands))
 
   -- the catalogue goes on as the history does
-  pub stands_on : refusal_shown c (brief_in c u) ≡ None → HasParts (outline c) (brief_in c u)
-      → StandsFor master (catalogue_after master c (brief_in c u)) (with_spelled g u)
+  pub stands_on : refusal_shown c (numbered_at c (brief_as_spelled u)) ≡ None
+      → HasParts (outline c) (numbered_at c (brief_as_spelled u))
+      → StandsFor master (catalogue_after master c (numbered_at c (brief_as_spelled u)))
+      (with_spelled g u)
   stands_on none parts =
       subst
       (λ (b : Brief). StandsFor master (catalogue_after master c b) (with_spelled g u))
@@ -41,8 +43,8 @@ module _ (master : List ℕ) (c : Catalogue) (g : SealedHistory) (u : SpelledUpd
   -- and so do the stored bytes
   pub keeps_on : (stored : List (List ℕ)) → KeepsBytes master stored g
       → KeepsBytes master
-      (stored_after master (rewrites_of c (brief_in c u)) (text_as_spelled u)
-      (without_gone stored (brief_in c u)))
+      (stored_after master (rewrites_of c (numbered_at c (brief_as_spelled u))) (text_as_spelled u)
+      (without_gone stored (numbered_at c (brief_as_spelled u))))
       (with_spelled g u)
   keeps_on stored kept =
       let now : SealedUpdate = numbered (file_names_of g) u in

@@ -2,6 +2,7 @@
 use Rattle.std.proofs.Common.{◌≡◌, ℕ, ◌+◌, List, [], ◌∷◌, ◌++◌, length, Result, Ok, Err}
 use Rattle.std.proofs.Common.{refl, sym, ◌∙◌, ap, subst, length-append, arith}
 use Rattle.std.specs.Prelude.{Option, Some, None, IfSome, option_map}
+use Rattle.ov_record.specs.Briefs.{brief as brief_as_spelled}
 use Rattle.ov_record.specs.Reading.{update_of}
 use Rattle.ov_record.specs.Updates.{SealedUpdate as SpelledUpdate}
 use Rattle.ov_record.specs.Forms.{second_form}
@@ -9,6 +10,7 @@ use Rattle.ov_history.specs.Sent.{SealedUpdate}
 use Rattle.ov_history.specs.Briefs.{Brief, BriefEnrol, BriefCreate, BriefGrant, BriefRevoke}
 use Rattle.ov_history.specs.Briefs.{BriefRemove, BriefReplace, brief}
 use Rattle.ov_history.specs.Catalogue.{Catalogue, catalogue_after, empty_catalogue, outline}
+use Rattle.ov_history.specs.Catalogue.{numbered_at}
 use Rattle.ov_history.specs.Sealed.{HasParts, KeepsBytes, SealedHistory, StandsFor}
 use Rattle.ov_history.specs.Sealed.{catalogue_all, catalogue_of, refusal_shown}
 use Rattle.ov_wire.specs.declared.request.Request.{Request}
@@ -16,7 +18,7 @@ use Rattle.ov_wire.specs.declared.request.Request.TheVariants as requests
 use Rattle.ov_wire.specs.declared.answer.Answer.{Answer}
 use Rattle.ov_wire.specs.declared.answer.Answer.TheVariants as answers
 use Rattle.ov_wire.specs.RequestReading.{request_of}
-use Rattle.ov_protocol.specs.Serving.{IsService, Service, Serving, brief_in, catalogue_followed}
+use Rattle.ov_protocol.specs.Serving.{IsService, Service, Serving, catalogue_followed}
 use Rattle.ov_protocol.specs.Serving.{followed, later, served, serving_after, stored_followed}
 use Rattle.ov_protocol.specs.Serving.{told_as}
 use Rattle.ov_protocol.specs.Updating.{AnswersSpelled, spelled_by}
@@ -80,8 +82,8 @@ told_on None surface c g u stands keeps = tt
 told_on (Some bytes) surface c g u stands keeps = keeps_on surface c g u stands bytes keeps
 
 one_made : (s : Serving) (v : Service) (u : SpelledUpdate) → IsService s v
-    → refusal_shown s.catalogue (brief_in s.catalogue u) ≡ None
-    → HasParts (outline s.catalogue) (brief_in s.catalogue u)
+    → refusal_shown s.catalogue (numbered_at s.catalogue (brief_as_spelled u)) ≡ None
+    → HasParts (outline s.catalogue) (numbered_at s.catalogue (brief_as_spelled u))
     → ServiceGoesOn s v (u ∷ [])
 one_made s v u is none parts =
     subst (λ (m : List ℕ). IsService (after_one m s u) (later v (u ∷ []))) (sym is.surface)
@@ -137,10 +139,11 @@ epochs_followed : (master : List ℕ) (c : Catalogue) (updates : List SpelledUpd
     → (catalogue_followed master c updates).epoch ≡ c.epoch + length updates
 epochs_followed master c [] = omega arith
 epochs_followed master c (u ∷ updates) =
-    let next : Catalogue = catalogue_after master c (brief_in c u) in
+    let next : Catalogue = catalogue_after master c (numbered_at c (brief_as_spelled u)) in
     let rest : (catalogue_followed master next updates).epoch ≡ next.epoch + length updates =
     epochs_followed master next updates in
-    let here : next.epoch ≡ c.epoch + 1 = epoch_after master c (brief_in c u) in
+    let here : next.epoch ≡ c.epoch + 1 =
+    epoch_after master c (numbered_at c (brief_as_spelled u)) in
     omega (arith, rest, here)
 
 pub epochs_go_on : EpochsGoOn

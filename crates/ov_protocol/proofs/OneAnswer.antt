@@ -14,7 +14,7 @@ use Rattle.ov_history.specs.Layers.{list_in}
 use Rattle.ov_history.specs.Lists.{file_at, names_in, set_named}
 use Rattle.ov_history.specs.Places.{living_at}
 use Rattle.ov_history.specs.Refusals.{list_refusal, read_refusal}
-use Rattle.ov_history.specs.Catalogue.{Catalogue, Filed, matrix_shown, outline}
+use Rattle.ov_history.specs.Catalogue.{Catalogue, Filed, matrix_shown, outline, numbered_at}
 use Rattle.ov_history.specs.Sealed.{HasParts, refusal_shown}
 use Rattle.ov_history.specs.Sound.{IsSound}
 use Rattle.ov_history.proofs.SoundHistories.{histories_are_sound}
@@ -24,7 +24,7 @@ use Rattle.ov_wire.specs.declared.request.Request.TheVariants as requests
 use Rattle.ov_wire.specs.declared.answer.Chained.{Chained}
 use Rattle.ov_wire.specs.declared.answer.Answer.{Answer}
 use Rattle.ov_wire.specs.declared.answer.Answer.TheVariants as answers
-use Rattle.ov_protocol.specs.Serving.{IsService, Service, Serving, brief_in}
+use Rattle.ov_protocol.specs.Serving.{IsService, Service, Serving}
 use Rattle.ov_protocol.specs.Asking.{AnswersAsk, AnswersCover, AnswersReplan, known_at}
 use Rattle.ov_protocol.specs.Asking.{numbers_for, plan_for}
 use Rattle.ov_history.specs.Asking.{file_named}
@@ -79,11 +79,13 @@ list_is c file a is = absurd is
 
 -- a sealed update is refused or made, or a part of it is wrong
 data Judged (c : Catalogue) (u : SealedUpdate) (a : Answer) : Type 0 where
-  refused : (why : Refusal) → refusal_shown c (brief_in c u) ≡ Some why → a ≡ answers.Refused why
-      → Judged c u a
-  accepted : refusal_shown c (brief_in c u) ≡ None → HasParts (outline c) (brief_in c u)
+  refused : (why : Refusal) → refusal_shown c (numbered_at c (brief u)) ≡ Some why
+      → a ≡ answers.Refused why → Judged c u a
+  accepted : refusal_shown c (numbered_at c (brief u)) ≡ None
+      → HasParts (outline c) (numbered_at c (brief u))
       → a ≡ answers.Accepted (c.epoch + 1) → Judged c u a
-  unfit : refusal_shown c (brief_in c u) ≡ None → (HasParts (outline c) (brief_in c u) → ⊥)
+  unfit : refusal_shown c (numbered_at c (brief u)) ≡ None
+      → (HasParts (outline c) (numbered_at c (brief u)) → ⊥)
       → a ≡ answers.BadRequest (spelling_place + part_place SET_WORDS (brief u)) → Judged c u a
 
 judged : (c : Catalogue) (u : SealedUpdate) (a : Answer) → AnswersSealed c u a → Judged c u a
@@ -103,17 +105,18 @@ some_or_none r why p q = let both : Some why ≡ None = sym p ∙ q in cc
 judged_once : (c : Catalogue) (u : SealedUpdate) (one other : Answer) → Judged c u one
     → Judged c u other → one ≡ other
 judged_once c u one other (refused why p is) (refused again q too) =
-    is ∙ ap answers.Refused (some_is (refusal_shown c (brief_in c u)) why again p q) ∙ sym too
+    is ∙ ap answers.Refused (some_is (refusal_shown c (numbered_at c (brief u))) why again p q)
+    ∙ sym too
 judged_once c u one other (refused why p is) (accepted q parts too) =
-    absurd (some_or_none (refusal_shown c (brief_in c u)) why p q)
+    absurd (some_or_none (refusal_shown c (numbered_at c (brief u))) why p q)
 judged_once c u one other (refused why p is) (unfit q unfits too) =
-    absurd (some_or_none (refusal_shown c (brief_in c u)) why p q)
+    absurd (some_or_none (refusal_shown c (numbered_at c (brief u))) why p q)
 judged_once c u one other (accepted p parts is) (refused again q too) =
-    absurd (some_or_none (refusal_shown c (brief_in c u)) again q p)
+    absurd (some_or_none (refusal_shown c (numbered_at c (brief u))) again q p)
 judged_once c u one other (accepted p parts is) (accepted q again too) = is ∙ sym too
 judged_once c u one other (accepted p parts is) (unfit q unfits too) = absurd (unfits parts)
 judged_once c u one other (unfit p unfits is) (refused again q too) =
-    absurd (some_or_none (refusal_shown c (brief_in c u)) again q p)
+    absurd (some_or_none (refusal_shown c (numbered_at c (brief u))) again q p)
 judged_once c u one other (unfit p unfits is) (accepted q parts too) = absurd (unfits parts)
 judged_once c u one other (unfit p unfits is) (unfit q again too) = is ∙ sym too
 

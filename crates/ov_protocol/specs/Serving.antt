@@ -2,8 +2,7 @@
 use Rattle.std.specs.Prelude.{◌≡◌, ℕ, List, [], ◌∷◌, Option, Some, None, IfSome, option_map}
 use Rattle.ov_record.specs.Briefs.{brief, text_of}
 use Rattle.ov_record.specs.Updates.{SealedUpdate}
-use Rattle.ov_history.specs.Briefs.{Brief, numbered_brief}
-use Rattle.ov_history.specs.Catalogue.{Catalogue, catalogue_after, file_names_shown}
+use Rattle.ov_history.specs.Catalogue.{Catalogue, catalogue_after, numbered_at}
 use Rattle.ov_history.specs.Rewrites.{rewrites_of, stored_after, without_gone}
 use Rattle.ov_history.specs.Sealed.{SealedHistory, StandsFor, KeepsBytes}
 use Rattle.ov_history.specs.Sealed.{catalogue_of, stored_of, with_spelled}
@@ -51,17 +50,12 @@ pub record IsService (s : Serving) (v : Service) : Type 0 where
 
 -- ---- updates as they are spelled
 
--- The update that is spelled so to a server with this catalogue, without its bytes. The file that
--- it replaces is spelled by name, and here it has the number that the name has in the catalogue.
-abbrev pub brief_in : Catalogue → SealedUpdate → Brief
-brief_in c u = numbered_brief (file_names_shown c) (brief u)
-
 -- the catalogue after these updates, each spelled by the names of the files after those before it,
 -- under the surface master
 abbrev pub catalogue_followed : List ℕ → Catalogue → List SealedUpdate → Catalogue
 catalogue_followed master c [] = c
 catalogue_followed master c (u ∷ updates) =
-    catalogue_followed master (catalogue_after master c (brief_in c u)) updates
+    catalogue_followed master (catalogue_after master c (numbered_at c (brief u))) updates
 
 -- the stored bytes after these updates as they are spelled, from a store with this catalogue, under
 -- the surface master
@@ -69,9 +63,9 @@ abbrev pub stored_followed : List ℕ → Catalogue → List (List ℕ) → List
     → List (List ℕ)
 stored_followed master c stored [] = stored
 stored_followed master c stored (u ∷ updates) =
-    stored_followed master (catalogue_after master c (brief_in c u))
-    (stored_after master (rewrites_of c (brief_in c u)) (text_of u)
-    (without_gone stored (brief_in c u)))
+    stored_followed master (catalogue_after master c (numbered_at c (brief u)))
+    (stored_after master (rewrites_of c (numbered_at c (brief u))) (text_of u)
+    (without_gone stored (numbered_at c (brief u))))
     updates
 
 -- what a server answers by after these updates; one that tells its stored bytes tells them again

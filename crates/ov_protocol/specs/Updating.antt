@@ -10,11 +10,10 @@ use Rattle.ov_record.specs.Reading.{update_of}
 use Rattle.ov_record.specs.Updates.{SealedUpdate}
 use Rattle.ov_record.specs.Forms.{second_form}
 use Rattle.ov_history.specs.Briefs.{part_place}
-use Rattle.ov_history.specs.Catalogue.{Catalogue, outline}
+use Rattle.ov_history.specs.Catalogue.{Catalogue, outline, numbered_at}
 use Rattle.ov_history.specs.Sealed.{HasParts, refusal_shown}
 use Rattle.ov_wire.specs.declared.answer.Answer.{Answer}
 use Rattle.ov_wire.specs.declared.answer.Answer.TheVariants as answers
-use Rattle.ov_protocol.specs.Serving.{brief_in}
 
 -- the owner's tag of an update that is made at an epoch, under the surface master
 abbrev pub owner_tag : List ℕ → ℕ → List ℕ → List ℕ
@@ -28,11 +27,12 @@ spelling_place = 5
 -- the place of the wrong part in the frame is named.
 abbrev pub AnswersSealed : Catalogue → SealedUpdate → Answer → Type 0
 AnswersSealed c u (answers.Accepted epoch) =
-    (refusal_shown c (brief_in c u) ≡ None) × HasParts (outline c) (brief_in c u)
-    × (epoch ≡ c.epoch + 1)
-AnswersSealed c u (answers.Refused why) = refusal_shown c (brief_in c u) ≡ Some why
+    (refusal_shown c (numbered_at c (brief u)) ≡ None)
+    × HasParts (outline c) (numbered_at c (brief u)) × (epoch ≡ c.epoch + 1)
+AnswersSealed c u (answers.Refused why) = refusal_shown c (numbered_at c (brief u)) ≡ Some why
 AnswersSealed c u (answers.BadRequest place) =
-    (refusal_shown c (brief_in c u) ≡ None) × (HasParts (outline c) (brief_in c u) → ⊥)
+    (refusal_shown c (numbered_at c (brief u)) ≡ None)
+    × (HasParts (outline c) (numbered_at c (brief u)) → ⊥)
     × (place ≡ spelling_place + part_place SET_WORDS (brief u))
 AnswersSealed c u answer = ⊥
 

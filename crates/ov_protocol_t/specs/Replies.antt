@@ -2,10 +2,11 @@
 use Rattle.std.specs.Prelude.{◌≡◌, ℕ, List, [], ◌∷◌, length, take, drop, Option, Some, None}
 use Rattle.ov_base.specs.declared.refusal.Refusal.{Refusal}
 use Rattle.ov_tokens.specs.declared.token.Token.{Token}
+use Rattle.ov_record.specs.Briefs.{brief}
 use Rattle.ov_record.specs.Updates.{SealedUpdate, SealedReplace}
 use Rattle.ov_history.specs.Asking.{file_named}
 use Rattle.ov_history.specs.Briefs.{BriefReplace}
-use Rattle.ov_history.specs.Catalogue.{Catalogue, Filed, no_filed, outline}
+use Rattle.ov_history.specs.Catalogue.{Catalogue, Filed, no_filed, outline, numbered_at}
 use Rattle.ov_history.specs.Layers.{list_in}
 use Rattle.ov_wire.specs.declared.request.Question.TheVariants as questions
 use Rattle.ov_wire.specs.declared.answer.Answer.{Answer}
@@ -19,7 +20,7 @@ use Rattle.ov_protocol.specs.Asking.{AnswersReplan, numbers_for}
 use Rattle.ov_protocol.specs.Pages.{file_entry_of, page_of}
 use Rattle.ov_protocol.specs.Reading.{AnswersChunk}
 use Rattle.ov_protocol.specs.Replies.{AnswersFrame, Replies}
-use Rattle.ov_protocol.specs.Serving.{Serving, brief_in, serving_after}
+use Rattle.ov_protocol.specs.Serving.{Serving, serving_after}
 use Rattle.ov_protocol.specs.Updating.{AnswersUpdate, owner_tag, updates_in}
 
 -- a file of generation 3, of ten bytes
@@ -78,7 +79,7 @@ pub record ReplansAreOfNow : Type 0 where
 abbrev pub ReplacementsAreOfNames : Type 0
 ReplacementsAreOfNames =
     (c : Catalogue) (name : List ℕ) (tokens : List Token) (tag bytes : List ℕ)
-    → brief_in c (SealedReplace name tokens tag bytes)
+    → numbered_at c (brief (SealedReplace name tokens tag bytes))
     ≡ BriefReplace (file_named c name) tokens tag (length bytes)
 
 -- A refused update is none that was made; an accepted one is. If each were made, so would be the

@@ -16,7 +16,7 @@ use Rattle.ov_record.specs.Updates.{SealedRemove, SealedReplace}
 use Rattle.ov_record.specs.Forms.{second_form}
 use Rattle.ov_history.specs.Briefs.{Brief, BriefCreate, BriefEnrol, BriefGrant, BriefRemove}
 use Rattle.ov_history.specs.Briefs.{BriefReplace, BriefRevoke, outer, part_place}
-use Rattle.ov_history.specs.Catalogue.{Catalogue, matrix_shown, outline}
+use Rattle.ov_history.specs.Catalogue.{Catalogue, matrix_shown, outline, numbered_at}
 use Rattle.ov_history.specs.Refusals.{tests_of}
 use Rattle.ov_history.proofs.SoundTests.{NoneApplies, none_applies}
 use Rattle.ov_history.specs.Sealed.{refusal_shown}
@@ -29,7 +29,7 @@ use Rattle.ov_wire.specs.declared.answer.Answer.{Answer}
 use Rattle.ov_wire.specs.declared.answer.Answer.TheVariants as answers
 use Rattle.ov_wire.specs.AnswerBytes.{answer_bytes}
 use Rattle.ov_wire.specs.RequestReading.{request_of}
-use Rattle.ov_protocol.specs.Serving.{Serving, brief_in}
+use Rattle.ov_protocol.specs.Serving.{Serving}
 use Rattle.ov_protocol.specs.Updating.{AnswersSealed, AnswersSpelled, spelled_by}
 use Rattle.ov_protocol.specs.Replies.{AnswersRead, made_of, updates_asked}
 use Rattle.ov_peer.specs.Spellings.{IsUpdate}
@@ -145,7 +145,7 @@ module _ {D : Type 0} (tells : DiskTells D)
     is_answered =
         let after : ℕ = old.catalogue.epoch + 1 in
         let room : old.catalogue.epoch < LAST_EPOCH =
-        not_spent old.catalogue (brief_in old.catalogue u) made_it.0.0 in
+        not_spent old.catalogue (numbered_at old.catalogue (brief u)) made_it.0.0 in
         let told : epoch ≡ after = omega (arith, epoch_is, room) in record {
           frame = record {
             made = u ∷ [];

@@ -6,12 +6,12 @@ use Rattle.ov_graph.specs.declared.cover.GraphRefusal.{GraphRefusal}
 use Rattle.ov_graph.specs.declared.cover.GraphRefusal.TheVariants.{NodesFull as GraphFull, Memory as GraphMemory}
 use Rattle.ov_record.specs.Briefs.{Brief as SpelledBrief}
 use Rattle.ov_history.specs.Refusals.{is_last}
-use Rattle.ov_history.specs.Catalogue.{Catalogue}
+use Rattle.ov_history.specs.Catalogue.{Catalogue, numbered_at}
 use Rattle.ov_history.specs.Sealed.{refusal_shown}
 use Rattle.ov_state.specs.Asking.{IsRefusedFor}
 use Rattle.ov_state.specs.Faults.{chain_fault_of, fault_of}
 use Rattle.ov_state.specs.NewFiles.{is_past_then, room_then, HasNoSite}
-use Rattle.ov_state.specs.Plans.{numbered_at, IsFaultOf}
+use Rattle.ov_state.specs.Plans.{IsFaultOf}
 use Rattle.ov_state.specs.declared.fault.PrepareFault.{PrepareFault}
 use Rattle.ov_state.specs.declared.fault.PrepareFault.TheVariants.{Refused, BadPlan, Memory}
 use Rattle.ov_state.proofs.NewTests.{first_here, first_later}

@@ -6,7 +6,7 @@ use Rattle.ov_record.specs.Briefs.{Brief as SpelledBrief}
 use Rattle.ov_history.specs.Briefs.{Brief}
 use Rattle.ov_base.specs.Sets.{has}
 use Rattle.ov_history.specs.Layers.{Layers, list_at}
-use Rattle.ov_history.specs.Catalogue.{Catalogue, outline, place_of_file}
+use Rattle.ov_history.specs.Catalogue.{Catalogue, outline, place_of_file, numbered_at}
 use Rattle.ov_history.specs.Sealed.{HasParts, StandsFor, with_sealed}
 use Rattle.ov_history.proofs.GoingOn.{histories_go_on}
 use Rattle.ov_history.proofs.HeldFiles.{held_where_listed}
@@ -15,7 +15,7 @@ use Rattle.ov_history.proofs.ShownLists.{listed-shown}
 use Rattle.ov_history.specs.Sound.{IsSound}
 use Rattle.ov_history.proofs.SoundHistories.{shown_is_sound}
 use Rattle.ov_state.specs.Changes.{applied}
-use Rattle.ov_state.specs.Plans.{numbered_at, Prepares}
+use Rattle.ov_state.specs.Plans.{Prepares}
 use Rattle.ov_state.specs.Standing.{CatalogueGoesOn, ClosuresAreMatrix, ClosuresFollow, IsAnsweredAsItsHistory}
 use Rattle.ov_state.specs.declared.change.Change.{Change}
 use Rattle.ov_state.specs.declared.fault.PrepareFault.{PrepareFault}

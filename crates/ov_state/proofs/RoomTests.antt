@@ -9,10 +9,10 @@ use Rattle.ov_history.specs.Refusals.{first_of_tests, is_last}
 use Rattle.ov_state.specs.declared.fault.ChainFault.{ChainFault}
 use Rattle.ov_state.specs.declared.fault.ChainFault.TheVariants.{Refused, Memory}
 use Rattle.ov_record.specs.Briefs.{Brief as SpelledBrief}
-use Rattle.ov_history.specs.Catalogue.{Catalogue}
+use Rattle.ov_history.specs.Catalogue.{Catalogue, numbered_at}
 use Rattle.ov_history.specs.Sealed.{refusal_shown}
 use Rattle.ov_state.specs.Asking.{IsRefusedFor}
-use Rattle.ov_state.specs.Plans.{numbered_at, IsFaultOf}
+use Rattle.ov_state.specs.Plans.{IsFaultOf}
 use Rattle.ov_state.specs.Faults.{chain_fault_of, prepare_fault_of}
 use Rattle.ov_state.specs.Relistings.{room_refusal, IsFull}
 use Rattle.ov_base.specs.declared.limits.TheConstants.{MAX_LAYER_NODES}

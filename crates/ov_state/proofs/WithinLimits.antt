@@ -15,13 +15,13 @@ use Rattle.ov_record.specs.Briefs.{Brief as SpelledBrief, BriefEnrol as SpelledE
 use Rattle.ov_record.specs.Briefs.{BriefRemove as SpelledRemove, BriefReplace as SpelledReplace, BriefRevoke as SpelledRevoke}
 use Rattle.ov_history.specs.Asking.{file_named}
 use Rattle.ov_history.specs.Briefs.{BriefCreate, BriefGrant, BriefRemove, BriefReplace, BriefRevoke, outer}
-use Rattle.ov_history.specs.Catalogue.{Catalogue, outline, matrix_shown}
+use Rattle.ov_history.specs.Catalogue.{Catalogue, outline, matrix_shown, numbered_at}
 use Rattle.ov_history.specs.Layers.{list_in}
 use Rattle.ov_history.specs.Places.{living_at}
 use Rattle.ov_history.specs.Refusals.{tests_of}
 use Rattle.ov_history.proofs.SoundTests.{NoneApplies, none_applies, accepted}
 use Rattle.ov_state.specs.Contents.{IsWell}
-use Rattle.ov_state.specs.Plans.{numbered_at, IsFitting, IsTaken, IsWithinLimits}
+use Rattle.ov_state.specs.Plans.{IsFitting, IsTaken, IsWithinLimits}
 use Rattle.ov_state.proofs.ListsLeft.{list_in-below}
 use Rattle.ov_base.specs.declared.limits.TheConstants.{MAX_USERS}
 

@@ -3,8 +3,8 @@ use Rattle.std.specs.Prelude.{◌≡◌, ℕ, ◌<◌, ◌≤◌, List, length, 
 use Rattle.ov_base.specs.declared.limits.TheConstants.{MAX_FILES, MAX_FILE_BYTES, MAX_USERS}
 use Rattle.ov_record.specs.Briefs.{Brief as SpelledBrief, BriefEnrol, BriefCreate, BriefGrant}
 use Rattle.ov_record.specs.Briefs.{BriefRemove, BriefReplace, BriefRevoke}
-use Rattle.ov_history.specs.Briefs.{Brief as PlainBrief, numbered_brief, part_place}
-use Rattle.ov_history.specs.Catalogue.{Catalogue, outline, catalogue_after, file_names_shown}
+use Rattle.ov_history.specs.Briefs.{Brief as PlainBrief, part_place}
+use Rattle.ov_history.specs.Catalogue.{Catalogue, outline, catalogue_after, numbered_at}
 use Rattle.ov_history.specs.Rewrites.{rewrites_of}
 use Rattle.ov_history.specs.Sealed.{HasParts, refusal_shown}
 pub use Rattle.ov_record.specs.Briefs.{plain_brief, IsFitting}
@@ -26,10 +26,6 @@ IsWithinLimits (BriefRevoke user file) = (user < MAX_USERS) × (file < MAX_FILES
 IsWithinLimits (BriefRemove file) = file < MAX_FILES
 IsWithinLimits (BriefReplace name tokens tag size) =
     (length tokens ≤ MAX_USERS) × (size ≤ MAX_FILE_BYTES)
-
--- the brief that is spelled so, by the names of the files that the catalogue shows
-abbrev pub numbered_at : Catalogue → SpelledBrief → PlainBrief
-numbered_at c b = numbered_brief (file_names_shown c) b
 
 -- ---- what is answered
 

@@ -42,7 +42,8 @@
 //! for how many more of each there is room.
 //!
 //! * `prepare` takes an update as it is spelled: a replacement names its file. A history has the
-//!   file's number there, by the names that the catalogue shows (`numbered_at`).
+//!   file's number there, by the names that the catalogue shows (`numbered_at` of
+//!   ov_history).
 //! * `prepare` gives a change only for an update that isn't refused and has its parts. What the
 //!   change makes is `catalogue_after`, the definition of one update, and its rewrites are
 //!   `rewrites_of`, each file once. Otherwise it names the refusal, or the place of the wrong

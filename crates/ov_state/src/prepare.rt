@@ -1,7 +1,8 @@
 //! Changes that are prepared.
 ghost use Rattle.std.specs.Prelude.{◌≡◌, ◌*◌, IfOk};
+ghost use Rattle.ov_history.specs.Catalogue.{numbered_at};
 ghost use Rattle.ov_state.specs.Changes.{HasRoomFor};
-ghost use Rattle.ov_state.specs.Plans.{numbered_at, plain_brief, IsFitting, IsWithinLimits};
+ghost use Rattle.ov_state.specs.Plans.{plain_brief, IsFitting, IsWithinLimits};
 ghost use Rattle.ov_state.specs.Plans.{Prepares};
 ghost use Rattle.ov_state.specs.Standing.{IsAnsweredAsItsHistory};
 

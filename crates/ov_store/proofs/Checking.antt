@@ -12,7 +12,8 @@ use Rattle.ov_history.specs.Layers.{Layers, layers_of}
 use Rattle.ov_history.specs.Lists.{file_names, is_file}
 use Rattle.ov_history.specs.Places.{living_at}
 use Rattle.ov_history.specs.Briefs.{brief, numbered_brief, outer, spelled_brief}
-use Rattle.ov_history.specs.Catalogue.{Catalogue, catalogue_after, empty_catalogue, file_names_shown}
+use Rattle.ov_history.specs.Catalogue.{Catalogue, catalogue_after, empty_catalogue}
+use Rattle.ov_history.specs.Catalogue.{file_names_shown, numbered_at}
 use Rattle.ov_history.specs.Catalogue.{file_shown, outline}
 use Rattle.ov_history.specs.Fading.{is_gone_from}
 use Rattle.ov_history.specs.Masters.{Masters}
@@ -33,7 +34,7 @@ use Rattle.ov_journal.specs.Book.{contents_of}
 use Rattle.ov_journal.specs.Log.{Log, IsLogOfFirst}
 use Rattle.ov_journal.specs.Steps.{gate_behind, gates_of}
 use Rattle.ov_journal.proofs.Steps.{gates_at, length-gates_of}
-use Rattle.ov_state.specs.Plans.{IsTaken, numbered_at}
+use Rattle.ov_state.specs.Plans.{IsTaken}
 use Rattle.ov_images.specs.Damage.{BeginsWith}
 use Rattle.ov_images.specs.Records.{AllHaveFormFrom, HasRecordForm, bodies_from, bodies_of}
 use Rattle.ov_images.specs.Records.{form_behind, matrix_after, matrix_with, names_after}

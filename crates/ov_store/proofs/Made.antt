@@ -6,7 +6,7 @@ use Rattle.ov_disk.specs.Moments.{LeavesOnly}
 use Rattle.ov_disk.specs.Tells.{DiskTells}
 use Rattle.ov_disk.proofs.Runs.{started}
 use Rattle.ov_history.specs.Briefs.{Brief, brief, text_of}
-use Rattle.ov_history.specs.Catalogue.{Catalogue, catalogue_after, file_names_shown}
+use Rattle.ov_history.specs.Catalogue.{Catalogue, catalogue_after, file_names_shown, numbered_at}
 use Rattle.ov_history.specs.Rewrites.{rewrites_of, stored_after, without_gone}
 use Rattle.ov_history.specs.Sealed.{file_names_of}
 use Rattle.ov_history.specs.Sent.{numbered}
@@ -16,7 +16,7 @@ use Rattle.ov_journal.specs.Book.{contents_of}
 use Rattle.ov_journal.specs.Log.{HasSameRecords, Log, Stands, appended}
 use Rattle.ov_moves.specs.Placing.{LiesIn}
 use Rattle.ov_moves.specs.Runs.{LeavesAtMost}
-use Rattle.ov_state.specs.Plans.{IsTaken, numbered_at}
+use Rattle.ov_state.specs.Plans.{IsTaken}
 use Rattle.ov_state.specs.declared.state.TheConstants.{WIDTH}
 use Rattle.ov_placed.specs.Contents.{HoldsFiles, HoldsTheSame, PlacedStore}
 use Rattle.ov_placed.specs.Updating.{IsPrepared, KeepsOrGoesOn, MakesUpdate}

@@ -31,7 +31,7 @@ use Rattle.ov_history.proofs.SoundTests.{accepted}
 use Rattle.ov_state.specs.Plans.{IsTaken}
 use Rattle.ov_state.proofs.FilesByNumber.{filed-at}
 use Rattle.ov_state.proofs.ListsLeft.{list_in-there}
-use Rattle.ov_store.specs.Owners.{HasRoomFor, IsOwners, TellsOwners}
+use Rattle.ov_store.specs.Owners.{HasNodeFor, IsOwners, TellsOwners}
 
 -- ---- enrolments, revocations and removals always are
 
@@ -209,7 +209,7 @@ module _ (k : Masters) (c : Catalogue) (name : List ℕ) (list : ℕ) (tokens : 
   tokens_others false apart owners = creation_others (λ et eg. apart et) owners
 
   -- there is room for the list's node
-  pub has_room : IsTaken c (BriefCreate name list tokens tag (length text)) → HasRoomFor c list
+  pub has_room : IsTaken c (BriefCreate name list tokens tag (length text)) → HasNodeFor c list
   has_room taken full fresh =
       let few : length (with_set c.base.sets list) ≤ MAX_LAYER_NODES =
       (accepted c (BriefCreate name list tokens tag (length text)) taken.0).1.base in
@@ -220,7 +220,7 @@ module _ (k : Masters) (c : Catalogue) (name : List ℕ) (list : ℕ) (tokens : 
 -- what is told of a new file is told of a creation
 pub tells_creation : {E : Type 0} (base : List ℕ) (c : Catalogue) (gone : Bool) (name : List ℕ)
     (list : ℕ) (tokens : List Token) (tag text : List ℕ) (found : Result Bool E)
-    → IfOk found (λ yes. (k : Masters) (n : List ℕ) → k.base ≡ base → HasRoomFor c list
+    → IfOk found (λ yes. (k : Masters) (n : List ℕ) → k.base ≡ base → HasNodeFor c list
     → TellsOwners k (outline c) gone (SealedCreate n list tokens tag text) yes)
     → IfOk found (λ yes. (k : Masters) → k.base ≡ base
     → IsTaken c (BriefCreate name list tokens tag (length text))
@@ -310,7 +310,7 @@ module _ (k : Masters) (y : Layers) (name : List ℕ) (list file : ℕ) (tokens 
 -- there is room for the node of the list that the file has
 room_replaced : (c : Catalogue) (file list : ℕ) (tokens : List Token) (tag : List ℕ) (size : ℕ)
     → list ≡ list_in (outline c) file → IsTaken c (BriefReplace file tokens tag size)
-    → HasRoomFor c list
+    → HasNodeFor c list
 room_replaced c file list tokens tag size is taken full fresh =
     let few : length (with_set c.base.sets (list_in (outline c) file)) ≤ MAX_LAYER_NODES =
     (accepted c (BriefReplace file tokens tag size) taken.0).1.base in
@@ -337,7 +337,7 @@ list_found c name (Some n) file list number there is list_is =
 pub tells_replacement : {E : Type 0} (base : List ℕ) (c : Catalogue) (gone : Bool)
     (file list : ℕ) (tokens : List Token) (tag text : List ℕ) (found : Result Bool E)
     → list ≡ list_in (outline c) file
-    → IfOk found (λ yes. (k : Masters) (n : List ℕ) → k.base ≡ base → HasRoomFor c list
+    → IfOk found (λ yes. (k : Masters) (n : List ℕ) → k.base ≡ base → HasNodeFor c list
     → TellsOwners k (outline c) gone (SealedCreate n list tokens tag text) yes)
     → IfOk found (λ yes. (k : Masters) → k.base ≡ base
     → IsTaken c (BriefReplace file tokens tag (length text))

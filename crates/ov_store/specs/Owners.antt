@@ -42,8 +42,8 @@ TellsOwners k y gone u true = IsOwners k y gone u
 TellsOwners k y gone u false = IsOwners k y gone u → ⊥
 
 -- there is room for a base node of this list, where it has none
-abbrev pub HasRoomFor : Catalogue → ℕ → Type 0
-HasRoomFor c list =
+abbrev pub HasNodeFor : Catalogue → ℕ → Type 0
+HasNodeFor c list =
     length c.base.sets ≡ MAX_LAYER_NODES → (plan_of c.base.sets list).fresh ≡ true → ⊥
 
 -- each of these updates is, at its place behind this history, what its owner sends, but for the tags

@@ -6,12 +6,12 @@ use Rattle.ov_base.specs.declared.limits.TheConstants.{SET_WORDS}
 use Rattle.ov_record.specs.Briefs.{Brief, brief, text_of}
 use Rattle.ov_record.specs.Updates.{SealedUpdate}
 use Rattle.ov_history.specs.Briefs.{part_place}
-use Rattle.ov_history.specs.Catalogue.{Catalogue, outline, catalogue_after}
+use Rattle.ov_history.specs.Catalogue.{Catalogue, outline, catalogue_after, numbered_at}
 use Rattle.ov_history.specs.Rewrites.{rewrites_of, stored_after, without_gone}
 use Rattle.ov_history.specs.Sealed.{SealedHistory, HasParts, file_names_of, refusal_shown}
 use Rattle.ov_history.specs.Sealed.{with_spelled}
 use Rattle.ov_history.specs.Sent.{numbered}
-use Rattle.ov_state.specs.Plans.{IsTaken, numbered_at}
+use Rattle.ov_state.specs.Plans.{IsTaken}
 use Rattle.ov_disk.specs.Disk.{Told}
 use Rattle.ov_disk.specs.Moments.{LeavesOnly}
 use Rattle.ov_disk.specs.Tells.{DiskTells}

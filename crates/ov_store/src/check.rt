@@ -4,7 +4,7 @@ ghost use Rattle.ov_disk.specs.Calls.{IsDiskCall};
 ghost use Rattle.ov_disk.specs.Disk.{Told};
 ghost use Rattle.ov_disk.specs.Moments.{IsUntouched};
 ghost use Rattle.ov_history.specs.Briefs.{brief};
-ghost use Rattle.ov_history.specs.Catalogue.{file_names_shown};
+ghost use Rattle.ov_history.specs.Catalogue.{file_names_shown, numbered_at};
 ghost use Rattle.ov_history.specs.Placed.{AllEndWithin};
 ghost use Rattle.ov_history.specs.Sealed.{SealedHistory};
 ghost use Rattle.ov_history.specs.Sent.{SealedUpdate, numbered};
@@ -15,7 +15,7 @@ ghost use Rattle.ov_journal.specs.declared.fault.CheckFault.TheVariants.{Disk as
 ghost use Rattle.ov_record.specs.Briefs.{Brief as SpelledBrief, brief as brief_as_spelled};
 ghost use Rattle.ov_record.specs.Forms.{form_in};
 ghost use Rattle.ov_record.specs.Updates.{sealed_update};
-ghost use Rattle.ov_state.specs.Plans.{IsFitting, IsTaken, numbered_at};
+ghost use Rattle.ov_state.specs.Plans.{IsFitting, IsTaken};
 ghost use Rattle.ov_store.specs.Opened.{Serves};
 ghost use Rattle.ov_store.specs.Owners.{Checks, FollowsUpdate, HasTextIn, IsHistoryOf, is_gone_in};
 ghost use Rattle.ov_store.specs.Owners.{masters};

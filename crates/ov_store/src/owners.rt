@@ -2,7 +2,7 @@
 ghost use Rattle.std.specs.Prelude.{◌≡◌, ◌≤◌, Bool, List, Some, true, false, ℕ, IfOk, length};
 ghost use Rattle.ov_base.specs.declared.limits.TheConstants.{MAX_FILE_BYTES};
 ghost use Rattle.ov_history.specs.Briefs.{BriefGrant, BriefReplace};
-ghost use Rattle.ov_history.specs.Catalogue.{file_names_shown, outline};
+ghost use Rattle.ov_history.specs.Catalogue.{file_names_shown, outline, numbered_at};
 ghost use Rattle.ov_history.specs.Masters.{Masters};
 ghost use Rattle.ov_history.specs.Places.{place_of};
 ghost use Rattle.ov_history.specs.Sent.{SealedCreate, SealedGrant, SealedReplace, numbered};
@@ -10,8 +10,8 @@ ghost use Rattle.ov_record.specs.Briefs.{brief};
 ghost use Rattle.ov_record.specs.Updates.{sealed_update};
 ghost use Rattle.ov_surface.specs.Coats.{base_text};
 ghost use Rattle.ov_surface.specs.Tags.{tag_of_file};
-ghost use Rattle.ov_state.specs.Plans.{IsFitting, IsTaken, numbered_at};
-ghost use Rattle.ov_store.specs.Owners.{HasRoomFor, TellsOwners};
+ghost use Rattle.ov_state.specs.Plans.{IsFitting, IsTaken};
+ghost use Rattle.ov_store.specs.Owners.{HasNodeFor, TellsOwners};
 
 use ov_base::{Key, Memory, Name, Octets, UserSet};
 use ov_base_layer::{seal_access, seal_cover};
@@ -95,7 +95,7 @@ fn is_new_file(
 ) -> Result<bool, Memory>
     requires { length bytes.now ≤ MAX_FILE_BYTES }
     ensures { IfOk result (λ yes. (k : Masters) (name : List ℕ) → k.base ≡ base.now.bytes
-        → HasRoomFor state.now.catalogue list.now
+        → HasNodeFor state.now.catalogue list.now
         → TellsOwners k (outline state.now.catalogue) gone
         (SealedCreate name list.now tokens.now tag.now bytes.now) yes) }
 {

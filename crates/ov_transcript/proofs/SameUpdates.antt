@@ -10,7 +10,7 @@ use Rattle.ov_record.specs.Updates.{SealedUpdate}
 use Rattle.ov_record.specs.Forms.{second_form}
 use Rattle.ov_history.specs.Asking.{file_named, user_named}
 use Rattle.ov_history.specs.Briefs.{Brief, brief, numbered_brief}
-use Rattle.ov_history.specs.Catalogue.{Catalogue, file_names_shown, outline}
+use Rattle.ov_history.specs.Catalogue.{Catalogue, file_names_shown, outline, numbered_at}
 use Rattle.ov_history.specs.History.{Matrix, Update, epoch_of, matrix_of}
 use Rattle.ov_history.specs.Layers.{Layers, layers_of}
 use Rattle.ov_history.specs.Lists.{file_number, user_number}
@@ -29,7 +29,7 @@ use Rattle.ov_wire.specs.AnswerBytes.{answer_bytes}
 use Rattle.ov_wire.specs.AnswerForm.{HasAnswerForm}
 use Rattle.ov_wire.specs.RequestReading.{request_of}
 use Rattle.ov_wire.specs.Requests.{HasRequestForm, request_bytes}
-use Rattle.ov_protocol.specs.Serving.{Service, brief_in, later, served}
+use Rattle.ov_protocol.specs.Serving.{Service, later, served}
 use Rattle.ov_protocol.specs.Answers.{Answers}
 use Rattle.ov_protocol.specs.Replies.{AnswersRead, Replies, updates_asked}
 use Rattle.ov_protocol.specs.Updating.{AnswersSealed, AnswersSpelled, AnswersUpdate, owner_tag}
@@ -146,17 +146,17 @@ module _ (k : Masters) (p q : PlainHistory) (legal : IsLegal (history_of p))
 
     module _ (free : refusal_of (history_of p) (u m) ≡ None)
         (back : numbered (names_after p) sent ≡ by_number) where
-      briefs_alike : brief_in c sent ≡ brief_in e sent
+      briefs_alike : numbered_at c (brief_as_spelled sent) ≡ numbered_at e (brief_as_spelled sent)
       briefs_alike =
           ap (λ (names : List (List ℕ)). numbered_brief names (brief_as_spelled sent)) shown_names
 
-      free_here : refusal_shown c (brief_in c sent) ≡ None
+      free_here : refusal_shown c (numbered_at c (brief_as_spelled sent)) ≡ None
       free_here =
           ap (λ (b : Brief). refusal_shown c b) (brief_as k p legal (named m) sent back)
           ∙ (kept_refusals k p c (named m) (legal, refl)).0
           ∙ ap (refusal_of (history_of p)) (is m) ∙ free
 
-      free_there : refusal_shown e (brief_in e sent) ≡ None
+      free_there : refusal_shown e (numbered_at e (brief_as_spelled sent)) ≡ None
       free_there =
           ap (λ (b : Brief). refusal_shown e b)
           (sym briefs_alike ∙ brief_as k p legal (named m) sent back
@@ -164,15 +164,18 @@ module _ (k : Masters) (p q : PlainHistory) (legal : IsLegal (history_of p))
           ∙ (kept_refusals k q e (named n) (also, refl)).0
           ∙ ap (refusal_of (history_of q)) (is n) ∙ sym refused_alike ∙ free
 
-      parts_there : HasParts (outline c) (brief_in c sent) → HasParts (outline e) (brief_in e sent)
+      parts_there : HasParts (outline c) (numbered_at c (brief_as_spelled sent))
+          → HasParts (outline e) (numbered_at e (brief_as_spelled sent))
       parts_there parts =
-          subst (λ (y : Layers). HasParts y (brief_in e sent)) same_outline
+          subst (λ (y : Layers). HasParts y (numbered_at e (brief_as_spelled sent))) same_outline
           (subst (λ (b : Brief). HasParts (outline c) b) briefs_alike parts)
 
-      parts_here : HasParts (outline e) (brief_in e sent) → HasParts (outline c) (brief_in c sent)
+      parts_here : HasParts (outline e) (numbered_at e (brief_as_spelled sent))
+          → HasParts (outline c) (numbered_at c (brief_as_spelled sent))
       parts_here parts =
           subst (λ (b : Brief). HasParts (outline c) b) (sym briefs_alike)
-          (subst (λ (y : Layers). HasParts y (brief_in e sent)) (sym same_outline) parts)
+          (subst (λ (y : Layers). HasParts y (numbered_at e (brief_as_spelled sent)))
+          (sym same_outline) parts)
 
       sealed_alike : (x : Answer) → AnswersSealed c sent x → AnswersSealed e sent x
       sealed_alike (answers.Accepted epoch) (none, parts, next) =

@@ -1,13 +1,13 @@
 use Rattle.std.proofs.Common.{◌≡◌, ◌*◌, ◌∙◌, List, ap, subst, sym}
 use Rattle.std.proofs.lemmas.Result.{err_from_is_err_and}
 use Rattle.ov_blocks.specs.declared.extents.Extent.{Extent}
-use Rattle.ov_history.specs.Catalogue.{file_names_shown}
+use Rattle.ov_history.specs.Catalogue.{file_names_shown, numbered_at}
 use Rattle.ov_history.specs.Placed.{with_unplaced}
 use Rattle.ov_images.specs.Extents.{AllTakeFree, new_extents}
 use Rattle.ov_record.specs.Briefs.{Brief as SpelledBrief, plain_brief}
 use Rattle.ov_state.specs.Changes.{applied}
 use Rattle.ov_state.specs.Entries.{plain_rewrites}
-use Rattle.ov_state.specs.Plans.{IsTaken, numbered_at}
+use Rattle.ov_state.specs.Plans.{IsTaken}
 use Rattle.ov_placed.specs.Contents.{HoldsFiles, PlacedStore}
 use Rattle.ov_placed.specs.Faults.{IsTakenAt, NamesSpot, UpdateIsTakenAt}
 use Rattle.ov_updating.specs.Files.{removed_by}

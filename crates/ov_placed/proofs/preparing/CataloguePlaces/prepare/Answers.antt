@@ -1,9 +1,9 @@
 use Rattle.std.proofs.Common.{◌*◌, List, ℕ, Option, ◌∙◌, ap, subst}
-use Rattle.ov_history.specs.Catalogue.{Catalogue, file_names_shown}
+use Rattle.ov_history.specs.Catalogue.{Catalogue, file_names_shown, numbered_at}
 use Rattle.ov_history.specs.Sent.{numbered}
 use Rattle.ov_record.specs.Briefs.{Brief as SpelledBrief, plain_brief}
 use Rattle.ov_record.specs.Updates.{SealedUpdate, sealed_update}
-use Rattle.ov_state.specs.Plans.{IsChange, numbered_at}
+use Rattle.ov_state.specs.Plans.{IsChange}
 use Rattle.ov_state.specs.declared.state.TheConstants.{WIDTH}
 use Rattle.ov_updating.specs.Files.{removed_by}
 use Rattle.ov_placed.specs.Contents.{PlacedStore}
