@@ -1,216 +1,146 @@
 -- A sealed history is right, for some plain one, exactly where all its updates are as their owner
 -- seals them, whatever the tags and the bytes are of files that are gone at its end.
-use Rattle.std.proofs.Common.{◌≡◌, ℕ, ◌+◌, Bool, true, false, List, [], ◌∷◌, length, refl, sym, ◌∙◌, ap, subst}
-use Rattle.std.proofs.Common.{arith, length-append}
-use Rattle.std.specs.Prelude.{Some, not, option_map}
-use Rattle.std.proofs.lemmas.List.{length-replicate}
+use Rattle.std.proofs.Common.{◌≡◌, ℕ, ◌+◌, Bool, List, [], ◌∷◌, length, refl, sym, ◌∙◌, ap}
+use Rattle.std.proofs.Common.{subst}
+use Rattle.std.specs.Prelude.{not}
 use Rattle.ov_history.specs.Briefs.{brief, outer}
-use Rattle.ov_history.specs.Fading.{AgreeButGone, faded_all, faded_if, faded_of, is_gone_from, made_by}
+use Rattle.ov_history.specs.Fading.{faded_all, faded_if, is_gone_from, made_by}
 use Rattle.ov_history.specs.FadingLaws.{IsRight}
-use Rattle.ov_history.specs.History.{Created, File, History, Matrix, Replaced, Update, changed}
-use Rattle.ov_history.specs.History.{delisted, file_at, listed, matrix_of, resized, start_of}
-use Rattle.ov_history.specs.History.{with_update}
+use Rattle.ov_history.specs.History.{History, Matrix, Update, empty, matrix_of, start_of, with_update}
 use Rattle.ov_history.specs.Layers.{Layers, layers_of}
 use Rattle.ov_history.specs.Lists.{is_file}
 use Rattle.ov_history.specs.Masters.{Masters}
-use Rattle.ov_history.specs.Places.{change_at, gone}
-use Rattle.ov_history.specs.Plain.{PlainHistory, PlainUpdate, history_of, measured, measured_all}
+use Rattle.ov_history.specs.Plain.{PlainHistory, PlainUpdate, measured, measured_all}
 use Rattle.ov_history.specs.Refusals.{AllAccepted, refusal_of}
 use Rattle.ov_history.specs.Sealed.{AllFit, IsSealed, SealedHistory, outer_all, outer_of}
 use Rattle.ov_history.specs.Sealing.{sealed, sealed_from, sealed_update}
-use Rattle.ov_history.specs.Sent.{SealedUpdate, SealedEnrol, SealedCreate, SealedGrant, SealedRevoke}
-use Rattle.ov_history.specs.Sent.{SealedRemove, SealedReplace}
-use Rattle.ov_history.proofs.ChangeLaws.{length-change_at}
+use Rattle.ov_history.specs.Sent.{SealedUpdate}
 use Rattle.ov_history.proofs.MatrixLaws.{files_of-layers_of}
 use Rattle.ov_history.proofs.Pushing.{matrix_of-push}
-use Rattle.ov_history.proofs.Sealing.{measured-sealed, sealing_is_outer}
-use Rattle.ov_store.specs.Owners.{AllAreOwned}
-
--- ---- what doesn't fade
-
-outer_faded : (b : Bool) (u : SealedUpdate) → outer (brief (faded_if b u)) ≡ outer (brief u)
-outer_faded false u = refl
-outer_faded true (SealedEnrol user) = refl
-outer_faded true (SealedCreate file list tokens tag text) =
-    ap (λ (size : ℕ). Created file list size) (length-replicate (length text) 0)
-outer_faded true (SealedGrant user file token) = refl
-outer_faded true (SealedRevoke user file) = refl
-outer_faded true (SealedRemove file) = refl
-outer_faded true (SealedReplace file tokens tag text) =
-    ap (λ (size : ℕ). Replaced file size) (length-replicate (length text) 0)
-
-made_faded : (b : Bool) (u : SealedUpdate) → made_by (faded_if b u) ≡ made_by u
-made_faded false u = refl
-made_faded true (SealedEnrol user) = refl
-made_faded true (SealedCreate file list tokens tag text) = refl
-made_faded true (SealedGrant user file token) = refl
-made_faded true (SealedRevoke user file) = refl
-made_faded true (SealedRemove file) = refl
-made_faded true (SealedReplace file tokens tag text) = refl
-
-outer_all-faded : (is_gone : ℕ → Bool) (number : ℕ) (updates : List SealedUpdate)
-    → outer_all (faded_all is_gone number updates) ≡ outer_all updates
-outer_all-faded is_gone number [] = refl
-outer_all-faded is_gone number (u ∷ updates) =
-    let head = outer_faded (is_gone number) u in
-    let rest = outer_all-faded is_gone (number + made_by u) updates in
-    λ j. head j ∷ rest j
-
-outer_of-faded : (g : SealedHistory) → outer_of (faded_of g) ≡ outer_of g
-outer_of-faded g =
-    ap (λ (us : List Update). record { mode = g.mode; first = g.first; updates = us })
-    (outer_all-faded (is_gone_from g) 0 g.updates)
-
--- histories with the same updates but for tokens, tags and bytes have the same files that are gone
-gone_alike : (g h : SealedHistory) → outer_of g ≡ outer_of h → is_gone_from g ≡ is_gone_from h
-gone_alike g h same =
-    ap (λ (x : History) (file : ℕ). not (is_file (matrix_of x) file)) same
-
--- ---- the number of the next file
-
-more_files : (m : Matrix) (u : SealedUpdate)
-    → length (changed m (outer (brief u))).files ≡ length m.files + made_by u
-more_files m (SealedEnrol user) = omega arith
-more_files m (SealedCreate file list tokens tag text) =
-    let f : File = record { name = file; length = length text; list = list } in
-    omega (arith, length-append m.files (Some f ∷ []))
-more_files m (SealedGrant user file token) =
-    omega (arith, length-change_at (option_map (listed user)) file m.files)
-more_files m (SealedRevoke user file) =
-    omega (arith, length-change_at (option_map (delisted user)) file m.files)
-more_files m (SealedRemove file) = omega (arith, length-change_at gone file m.files)
-more_files m (SealedReplace file tokens tag text) =
-    let f : File = resized (length text) (file_at m file) in
-    omega (
-      arith,
-      length-append (change_at gone file m.files) (Some f ∷ []),
-      length-change_at gone file m.files,
-    )
-
--- how many numbers were given out
-abbrev count : History → ℕ
-count h = length (layers_of h).files
-
-count_after : (h : History) (u : SealedUpdate)
-    → count (with_update h (outer (brief u))) ≡ count h + made_by u
-count_after h u =
-    files_of-layers_of (with_update h (outer (brief u)))
-    ∙ ap (λ (m : Matrix). length m.files) (matrix_of-push h (outer (brief u)))
-    ∙ more_files (matrix_of h) u
-    ∙ ap (λ (n : ℕ). n + made_by u) (sym (files_of-layers_of h))
+use Rattle.ov_history.proofs.Sealing.{measured-sealed}
+use Rattle.ov_history.proofs.Agreeing.{made-faded, made_after}
+use Rattle.ov_history.proofs.Fading.{outer_all_dim, outer_faded, outer_faded_of}
+use Rattle.ov_store.specs.Owners.{AllAreOwned, IsOwners}
 
 -- ---- one update
 
-module _ (k : Masters) (y : Layers) (gone_now : Bool) (u : SealedUpdate) (plain : PlainUpdate)
-    (is : faded_if gone_now u ≡ faded_if gone_now (sealed_update k y plain)) where
-  same_outer : outer (brief u) ≡ measured plain
-  same_outer =
-      sym (outer_faded gone_now u) ∙ ap (λ (v : SealedUpdate). outer (brief v)) is
-      ∙ outer_faded gone_now (sealed_update k y plain) ∙ measured-sealed k y plain
+-- what the owner sends for a plain update is this one without its parts
+outer_so : (b : Bool) (k : Masters) (y : Layers) (u : SealedUpdate) (plain : PlainUpdate)
+    → faded_if b u ≡ faded_if b (sealed_update k y plain) → outer (brief u) ≡ measured plain
+outer_so b k y u plain is =
+    sym (outer_faded (λ n. b) b u) ∙ ap (λ (v : SealedUpdate). outer (brief v)) is
+    ∙ outer_faded (λ n. b) b (sealed_update k y plain) ∙ measured-sealed k y plain
 
-  same_made : made_by (sealed_update k y plain) ≡ made_by u
-  same_made =
-      sym (made_faded gone_now (sealed_update k y plain)) ∙ ap made_by (sym is)
-      ∙ made_faded gone_now u
+-- updates that are one but for what fades make as many files
+made_so : (b : Bool) (u v : SealedUpdate) → faded_if b u ≡ faded_if b v → made_by u ≡ made_by v
+made_so b u v is = sym (made-faded b u) ∙ ap made_by is ∙ made-faded b v
 
--- ---- updates that are as their owner seals them
+-- the files behind an update are as many more as it makes
+next_number : (h : History) (u : SealedUpdate) (number : ℕ) → length (layers_of h).files ≡ number
+    → length (layers_of (with_update h (outer (brief u)))).files ≡ number + made_by u
+next_number h u number here =
+    files_of-layers_of (with_update h (outer (brief u)))
+    ∙ ap (λ (m : Matrix). length m.files) (matrix_of-push h (outer (brief u)))
+    ∙ made_after (matrix_of h) u
+    ∙ ap (λ n. n + made_by u) (sym (files_of-layers_of h) ∙ here)
 
--- plain updates that are accepted, and of which these are the sealed ones but for what fades
-pub record AreSealedBut (k : Masters) (is_gone : ℕ → Bool) (h : History)
-    (updates : List SealedUpdate) : Type 0 where
-  pub plain : List PlainUpdate
-  pub accepted : AllAccepted h (measured_all plain)
-  pub outers : measured_all plain ≡ outer_all updates
-  pub same : faded_all is_gone (count h) (sealed_from k h plain)
-      ≡ faded_all is_gone (count h) updates
+-- ---- all of them, by a test which files are gone
 
-sealed_but : (k : Masters) (is_gone : ℕ → Bool) (h : History) (updates : List SealedUpdate)
-    → AllFit h updates → AllAreOwned k is_gone h updates → AreSealedBut k is_gone h updates
-sealed_but k is_gone h [] fit owned =
-    record { plain = []; accepted = tt; outers = refl; same = refl }
-sealed_but k is_gone h (u ∷ updates) fit owned =
-    let y : Layers = layers_of h in
-    let (plain, is) = owned.0 in
-    let v : SealedUpdate = sealed_update k y plain in
-    let outers : outer (brief u) ≡ measured plain =
-    same_outer k y (is_gone (count h)) u plain is in
-    let made : made_by v ≡ made_by u = same_made k y (is_gone (count h)) u plain is in
-    let rest = subst (λ (w : Update). AreSealedBut k is_gone (with_update h w) updates) outers
-    (sealed_but k is_gone (with_update h (outer (brief u))) updates fit.2 owned.1) in
-    let next : History = with_update h (measured plain) in
-    let later : List SealedUpdate = sealed_from k next rest.plain in
-    let number : count next ≡ count h + made_by u =
-    ap (λ (w : Update). count (with_update h w)) (sym outers) ∙ count_after h u in
-    let behind : faded_all is_gone (count h + made_by v) later
-    ≡ faded_all is_gone (count h + made_by u) updates =
-    ap (λ (n : ℕ). faded_all is_gone n later)
-    (ap (λ (n : ℕ). count h + n) made ∙ sym number)
-    ∙ rest.same
-    ∙ ap (λ (n : ℕ). faded_all is_gone n updates) number in
-    record {
-      plain = plain ∷ rest.plain;
-      accepted = (ap (λ (w : Update). refusal_of h w) (sym outers) ∙ fit.0, rest.accepted);
-      outers = λ j. sym outers j ∷ rest.outers j;
-      same = λ j. sym is j ∷ behind j;
-    }
+module _ (k : Masters) (is_out : ℕ → Bool) where
+  -- plain updates that are accepted, and whose sealed ones are these but for what fades
+  abbrev AreSealedOf : History → ℕ → List SealedUpdate → Type 0
+  AreSealedOf h number updates =
+      (plain : List PlainUpdate) × AllAccepted h (measured_all plain)
+      × (faded_all is_out number (sealed_from k h plain) ≡ faded_all is_out number updates)
 
+  owned_from : (h : History) (number : ℕ) (updates : List SealedUpdate)
+      → length (layers_of h).files ≡ number → AllFit h updates → AllAreOwned k is_out h updates
+      → AreSealedOf h number updates
+  owned_from h number [] here fit owned = ([], tt, refl)
+  owned_from h number (u ∷ updates) here fit owned =
+      let b : Bool = is_out number in
+      let y : Layers = layers_of h in
+      let (plain, is) = subst (λ n. IsOwners k y (is_out n) u) here owned.0 in
+      let first : SealedUpdate = sealed_update k y plain in
+      let same : outer (brief u) ≡ measured plain = outer_so b k y u plain is in
+      let (rest, accepted, sent) =
+      subst (λ (v : Update). AreSealedOf (with_update h v) (number + made_by u) updates) same
+      (owned_from (with_update h (outer (brief u))) (number + made_by u) updates
+      (next_number h u number here) fit.2 owned.1) in
+      let more : List SealedUpdate = sealed_from k (with_update h (measured plain)) rest in (
+        plain ∷ rest,
+        (ap (λ (v : Update). refusal_of h v) (sym same) ∙ fit.0, accepted),
+        ap (λ (v : SealedUpdate). v ∷ faded_all is_out (number + made_by first) more) (sym is)
+            ∙ ap (λ n. faded_if b u ∷ faded_all is_out (number + n) more)
+            (sym (made_so b u first is))
+            ∙ ap (λ (us : List SealedUpdate). faded_if b u ∷ us) sent,
+      )
+
+  -- updates that are an owner's but for what fades
+  sealed_back : (h : History) (number : ℕ) (updates : List SealedUpdate) (plain : List PlainUpdate)
+      → length (layers_of h).files ≡ number
+      → faded_all is_out number updates ≡ faded_all is_out number (sealed_from k h plain)
+      → AllAreOwned k is_out h updates
+  sealed_back h number [] plain here agree = tt
+  sealed_back h number (u ∷ updates) [] here agree = absurd (cc agree)
+  sealed_back h number (u ∷ updates) (plain ∷ rest) here agree =
+      let b : Bool = is_out number in
+      let y : Layers = layers_of h in
+      let first : SealedUpdate = sealed_update k y plain in
+      let more : List SealedUpdate = sealed_from k (with_update h (measured plain)) rest in
+      let is : faded_if b u ≡ faded_if b first = cc agree in
+      let behind : faded_all is_out (number + made_by u) updates
+      ≡ faded_all is_out (number + made_by first) more = cc agree in
+      let same : outer (brief u) ≡ measured plain = outer_so b k y u plain is in (
+        subst (λ n. IsOwners k y (is_out n) u) (sym here) (plain, is),
+        subst (λ (v : Update). AllAreOwned k is_out (with_update h v) updates) (sym same)
+            (sealed_back (with_update h (measured plain)) (number + made_by u) updates rest
+            (subst
+            (λ (v : Update). length (layers_of (with_update h v)).files ≡ number + made_by u) same
+            (next_number h u number here))
+            (behind ∙ ap (λ n. faded_all is_out (number + n) more)
+            (sym (made_so b u first is)))),
+      )
+
+-- ---- histories
+
+-- a sealed history whose updates are all their owner's, but for files that are gone, is right
 pub owned_is_right : (k : Masters) (g : SealedHistory) → IsSealed g
     → AllAreOwned k (is_gone_from g) (start_of (outer_of g)) g.updates
     → (p : PlainHistory) × IsRight k p g
 owned_is_right k g fit owned =
-    let found = sealed_but k (is_gone_from g) (start_of (outer_of g)) g.updates fit owned in
-    let p : PlainHistory = record { mode = g.mode; first = g.first; updates = found.plain } in
-    let outers : outer_of g ≡ outer_of (sealed k p) =
-    ap (λ (us : List Update). record { mode = g.mode; first = g.first; updates = us })
-    (sym found.outers)
-    ∙ sym (sealing_is_outer k p) in
-    let agree : AgreeButGone g (sealed k p) =
-    ap (λ (us : List SealedUpdate). record { mode = g.mode; first = g.first; updates = us })
-    (sym found.same
-    ∙ ap (λ (is_gone : ℕ → Bool). faded_all is_gone 0 (sealed k p).updates)
-    (gone_alike g (sealed k p) outers)) in
-    (p, found.accepted, agree)
-
--- ---- histories that are right
-
-owned_from : (k : Masters) (is_gone : ℕ → Bool) (h : History) (number : ℕ)
-    (updates : List SealedUpdate) (plain : List PlainUpdate) → number ≡ count h
-    → faded_all is_gone number updates ≡ faded_all is_gone number (sealed_from k h plain)
-    → AllAreOwned k is_gone h updates
-owned_from k is_gone h number [] plain at same = tt
-owned_from k is_gone h number (u ∷ updates) [] at same = absurd (cc same)
-owned_from k is_gone h number (u ∷ updates) (x ∷ plain) at same =
-    let y : Layers = layers_of h in
-    let v : SealedUpdate = sealed_update k y x in
-    let is : faded_if (is_gone number) u ≡ faded_if (is_gone number) v = cc same in
-    let later : List SealedUpdate = sealed_from k (with_update h (measured x)) plain in
-    let behind : faded_all is_gone (number + made_by u) updates
-    ≡ faded_all is_gone (number + made_by v) later = cc same in
-    let outers : outer (brief u) ≡ measured x = same_outer k y (is_gone number) u x is in
-    let made : made_by v ≡ made_by u = same_made k y (is_gone number) u x is in
-    let next : number + made_by u ≡ count (with_update h (measured x)) =
-    ap (λ (n : ℕ). n + made_by u) at ∙ sym (count_after h u)
-    ∙ ap (λ (w : Update). count (with_update h w)) outers in
-    let rest = owned_from k is_gone (with_update h (measured x)) (number + made_by u) updates plain
-    next (behind ∙ ap (λ (n : ℕ). faded_all is_gone (number + n) later) made) in (
-      (
-        x,
-        subst (λ (n : ℕ). faded_if (is_gone n) u ≡ faded_if (is_gone n) v) at is,
-      ),
-      subst (λ (w : Update). AllAreOwned k is_gone (with_update h w) updates) (sym outers) rest,
+    let is_out : ℕ → Bool = is_gone_from g in
+    let start : History = start_of (outer_of g) in
+    let (plain, accepted, sent) = owned_from k is_out start 0 g.updates refl fit owned in
+    let updates : List SealedUpdate = sealed_from k start plain in
+    let history : List Update → History = λ us.
+    record { mode = g.mode; first = g.first; updates = us } in
+    let outers : outer_all g.updates ≡ outer_all updates =
+    sym (outer_all_dim is_out 0 g.updates)
+    ∙ ap (λ (us : List SealedUpdate). outer_all us) (sym sent)
+    ∙ outer_all_dim is_out 0 updates in (
+      record { mode = g.mode; first = g.first; updates = plain },
+      accepted,
+      ap (λ (us : List SealedUpdate). record { mode = g.mode; first = g.first; updates = us })
+          (sym sent)
+          ∙ ap (λ (us : List Update). record {
+            mode = g.mode;
+            first = g.first;
+            updates = faded_all (λ n. not (is_file (matrix_of (history us)) n)) 0 updates;
+          }) outers,
     )
 
+-- and all updates of a history that is right are their owner's
 pub right_is_owned : (k : Masters) (p : PlainHistory) (g : SealedHistory) → IsRight k p g
     → AllAreOwned k (is_gone_from g) (start_of (outer_of g)) g.updates
-right_is_owned k p g (legal, agree) =
+right_is_owned k p g (legal, right) =
     let outers : outer_of g ≡ outer_of (sealed k p) =
-    sym (outer_of-faded g) ∙ ap (λ (x : SealedHistory). outer_of x) agree
-    ∙ outer_of-faded (sealed k p) in
-    let whole : outer_of g ≡ history_of p = outers ∙ sealing_is_outer k p in
-    let same : faded_all (is_gone_from g) 0 g.updates
-    ≡ faded_all (is_gone_from g) 0 (sealed k p).updates =
-    ap (λ (x : SealedHistory). x.updates) agree
-    ∙ ap (λ (is_gone : ℕ → Bool). faded_all is_gone 0 (sealed k p).updates)
-    (sym (gone_alike g (sealed k p) outers)) in
-    subst (λ (h : History). AllAreOwned k (is_gone_from g) (start_of h) g.updates) (sym whole)
-    (owned_from k (is_gone_from g) (start_of (history_of p)) 0 g.updates p.updates refl same)
+    sym (outer_faded_of g) ∙ ap (λ (it : SealedHistory). outer_of it) right
+    ∙ outer_faded_of (sealed k p) in
+    let start : History = empty p.mode p.first in
+    let updates : List SealedUpdate = sealed_from k start p.updates in
+    let agree : faded_all (is_gone_from g) 0 g.updates ≡ faded_all (is_gone_from g) 0 updates =
+    ap (λ (it : SealedHistory). it.updates) right
+    ∙ ap (λ (h : History). faded_all (λ n. not (is_file (matrix_of h) n)) 0 updates) (sym outers) in
+    subst (λ (h : History). AllAreOwned k (is_gone_from g) (start_of h) g.updates) (sym outers)
+    (sealed_back k (is_gone_from g) start 0 g.updates p.updates refl agree)
