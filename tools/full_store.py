@@ -75,8 +75,8 @@ for name, cases in stores.items():
     print(f"full of {name}: all replies are right, and one more is refused")
 
 
-# A file of 200,000 bytes, which are 49 blocks, and how much more memory a thousand replacements may take than ten: the
-# catalogue and the script's lines, which are as nothing beside one file more.
+# A file of 200,000 bytes, which are 49 blocks, and how much more memory a thousand replacements may
+# take than ten: the catalogue and the script's lines, which are as nothing beside one file more.
 SIZE, BLOCKS, SPARE_KIB = 200_000, 49, 2_000
 
 

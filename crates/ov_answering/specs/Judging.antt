@@ -21,8 +21,8 @@ use Rattle.ov_store.specs.declared.fault.BeginFault.TheVariants.{BaseDiffers, Su
 use Rattle.ov_store.specs.declared.fault.BeginFault.TheVariants.{ModeDiffers, Memory}
 
 -- The image keeps a history of this mode in which some update isn't as the owner with these masters
--- seals it, whatever the tags and the bytes are of files that are gone. The place is that of the first
--- such record's gate.
+-- seals it, whatever the tags and the bytes are of files that are gone. The place is that of the
+-- first such record's gate.
 pub record HasFalseRecord (k : Masters) (mode : Mode) (i : Image) (place : ℕ) : Type 0 where
   pub history : SealedHistory
   pub mode_is : history.mode ≡ mode
@@ -30,8 +30,8 @@ pub record HasFalseRecord (k : Masters) (mode : Mode) (i : Image) (place : ℕ) 
   pub first_false : HasFalseUpdate k (contents_of i.book).records.step history place
 
 -- Why a run under these masters refuses the image: no store begins on it, for this reason; or it
--- keeps a history, and this names the first record with a token that isn't its owner's, or with such a
--- tag of a file that is there.
+-- keeps a history, and this names the first record with a token that isn't its owner's, or with
+-- such a tag of a file that is there.
 abbrev pub IsRefusal : Masters → Mode → Image → BeginFault → Type 0
 IsRefusal k mode i fault =
     IsBeginFault (keys_of k) mode i fault
@@ -73,8 +73,8 @@ IsCheckFault k i g (SurfaceDiffers stored given) = ⊥
 IsCheckFault k i g (ModeDiffers stored given) = ⊥
 IsCheckFault k i g Memory = ⊤
 
--- The store that stands for this history, on this image, is handed on: no update is found that isn't
--- as its owner seals it, and it stands for it still. Or it isn't, for this reason.
+-- The store that stands for this history, on this image, is handed on: no update is found that
+-- isn't as its owner seals it, and it stands for it still. Or it isn't, for this reason.
 abbrev pub IsChecked : {D : Type 0} → DiskTells D → Masters → Image → SealedHistory
     → Result (Opened D) (BeginRefused D) → Type 0
 IsChecked tells k i g (Ok s) =

@@ -86,9 +86,9 @@ module _ {D : Type 0} (tells : DiskTells D) where
     pub mode_is : p.mode ≡ mode
     pub stands : (g : SealedHistory) × IsSealedAs k p g × IsImageOf (keys_of k) g image
 
-  -- What lasts on a disk of a history that goes on from a start. As it reads, and as each image that
-  -- a stop may leave of it, it keeps the history, so a store was begun there; and what it publishes,
-  -- read again from that image, is the matrix of the history.
+  -- What lasts on a disk of a history that goes on from a start. As it reads, and as each image
+  -- that a stop may leave of it, it keeps the history, so a store was begun there; and what it
+  -- publishes, read again from that image, is the matrix of the history.
   pub record LastsAs (k : Masters) (start p : PlainHistory) (disk : D) : Type 0 where
     pub image : Image
     pub told : tells.reads disk ≡ Some image

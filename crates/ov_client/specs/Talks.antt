@@ -21,8 +21,8 @@ use Rattle.ov_client.specs.declared.reading.TheConstants.{TRIES}
 
 -- The stages of a reader. It asks Chain, after tries at these generations, in each of which the
 -- file moved or was gone, and of which the last told the least generation that may come; or it asks
--- the next Chunk of a file to which these chains lead, after these stored bytes came; or the read is
--- done.
+-- the next Chunk of a file to which these chains lead, after these stored bytes came; or the read
+-- is done.
 pub data Stage : Type 0 where
   AsksChain : (tries : List ℕ) → (least : ℕ) → Stage
   AsksChunk : (tries : List ℕ) → (chained : Chained) → (stored : List ℕ) → Stage

@@ -98,8 +98,8 @@ SpelledOnce =
     → let names = file_names (matrix_of h).files in
     refusal_of h (outer (brief (numbered names u))) ≡ None → spelled names (numbered names u) ≡ u
 
--- After a legal history the spelling of an update that isn't refused is that of no other, by number,
--- where a file that it replaces has a name.
+-- After a legal history the spelling of an update that isn't refused is that of no other, by
+-- number, where a file that it replaces has a name.
 abbrev pub NumberedOnce : Type 0
 NumberedOnce =
     (h : History) (u : SealedUpdate)

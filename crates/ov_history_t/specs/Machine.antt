@@ -49,9 +49,9 @@ LetsTheListedRead =
 abbrev pub AnswersNextEpoch : Type 0
 AnswersNextEpoch = reply_to (history []) (Enrol alice) ≡ Accepted 1
 
--- A file is read by a user who was granted it, and is then removed: its own reader is told that there
--- is no such file. Its name is free for another file. If removed files were read, the first user
--- would have the bytes.
+-- A file is read by a user who was granted it, and is then removed: its own reader is told that
+-- there is no such file. Its name is free for another file. If removed files were read, the first
+-- user would have the bytes.
 abbrev pub RemovesFiles : Type 0
 RemovesFiles =
     lines (empty_plain Delta 0)

@@ -187,8 +187,8 @@ pub record LastEpochIsSpent : Type 0 where
   pub lower : refusal_of (begun 4294967294 (Enrolled (97 ∷ []) ∷ [])) (Enrolled (97 ∷ []))
       ≡ Some Taken
 
--- A file that fills a store is removed. Its bytes are free, and so is its name, and it isn't removed
--- twice. If its bytes still counted, no other of as many would fit.
+-- A file that fills a store is removed. Its bytes are free, and so is its name, and it isn't
+-- removed twice. If its bytes still counted, no other of as many would fit.
 pub record RemovalsFreeBytes : Type 0 where
   pub fits : refusal_of (begun 0 (Created (102 ∷ []) 0 67108864 ∷ Removed 0 ∷ []))
       (Created (102 ∷ []) 0 67108864)

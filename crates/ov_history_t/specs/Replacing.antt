@@ -43,8 +43,8 @@ NumbersGoOn =
     (in_delta (shared (Replaced 0 3 ∷ Removed 1 ∷ Created (102 ∷ []) 2 0 ∷ []))).files
     ≡ None ∷ None ∷ bare 1 7 ∷ []
 
--- One file has all bytes of a store, and another of as many may replace it. If the old bytes counted
--- with the new ones, that would be too much. The bytes of other files count.
+-- One file has all bytes of a store, and another of as many may replace it. If the old bytes
+-- counted with the new ones, that would be too much. The bytes of other files count.
 pub record OldBytesDoNotCount : Type 0 where
   pub fits : refusal_of (begun 0 (Created (102 ∷ []) 0 67108864 ∷ [])) (Replaced 0 67108864) ≡ None
   pub passes : refusal_of (begun 0 (Created (102 ∷ []) 0 67108864 ∷ [])) (Replaced 0 67108865)
@@ -52,8 +52,8 @@ pub record OldBytesDoNotCount : Type 0 where
   pub others : refusal_of (begun 0 (Created (102 ∷ []) 0 1 ∷ Created (103 ∷ []) 0 67108863 ∷ []))
       (Replaced 0 2) ≡ Some BytesFull
 
--- A file that was replaced isn't there to be replaced once more. Of two refusals that with the lower
--- number is answered.
+-- A file that was replaced isn't there to be replaced once more. Of two refusals that with the
+-- lower number is answered.
 abbrev pub ReplacedAreGone : Type 0
 ReplacedAreGone =
     refusal_of (begun 0 (Created (102 ∷ []) 0 1 ∷ Replaced 0 1 ∷ [])) (Replaced 0 67108865)

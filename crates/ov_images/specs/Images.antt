@@ -79,8 +79,8 @@ abbrev pub StandsIn : Keys → Mode → Image → Type 0
 StandsIn k mode i = (g : SealedHistory) × (g.mode ≡ mode) × IsImageOf k g i
 
 -- the image opens for these masters and this mode: it stands for a history of that mode that is
--- right, which is a legal one as it is sealed under the masters, but for tags and bytes of files that
--- are gone
+-- right, which is a legal one as it is sealed under the masters, but for tags and bytes of files
+-- that are gone
 abbrev pub Opens : Masters → Mode → Image → Type 0
 Opens k mode i =
     (p : PlainHistory) × (g : SealedHistory) × IsRight k p g × (p.mode ≡ mode)

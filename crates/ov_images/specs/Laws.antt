@@ -35,8 +35,8 @@ KeepsOnce =
     (k : Keys) (g h : SealedHistory) (i : Image)
     → Keeps k g i → Keeps k h i → (brief_of g ≡ brief_of h) × AgreeButGone g h
 
--- What an image keeps says nothing of files that are gone: it keeps each other history with the same
--- updates that differs in the bytes of these alone.
+-- What an image keeps says nothing of files that are gone: it keeps each other history with the
+-- same updates that differs in the bytes of these alone.
 abbrev pub GoneFilesAreFree : Type 0
 GoneFilesAreFree =
     (k : Keys) (p : PlacedHistory) (g h : SealedHistory) (i : Image)

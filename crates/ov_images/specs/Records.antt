@@ -13,8 +13,8 @@ use Rattle.ov_history.specs.History.{Matrix, changed, no_one}
 use Rattle.ov_history.specs.Lists.{file_names}
 use Rattle.ov_history.specs.Placed.{PlacedUpdate}
 
--- the update with its first blocks, as a record has both, in a store whose files have these names by
--- number
+-- the update with its first blocks, as a record has both, in a store whose files have these names
+-- by number
 abbrev pub stored : List (List ℕ) → PlacedUpdate → Stored
 stored names u = record { update = spelled_brief names u.update; places = u.firsts }
 

@@ -63,8 +63,8 @@ longer_record = 1 ∷ 0 ∷ 0 ∷ 0 ∷ 2 ∷ 5 ∷ 0 ∷ []
 abbrev pub removal_record : List ℕ
 removal_record = 1 ∷ 0 ∷ 0 ∷ 0 ∷ 5 ∷ 6 ∷ 0 ∷ 0 ∷ 0 ∷ 0 ∷ []
 
--- A record of the replacement of a file 'n' by one of one byte: an open gate, the length 41, and the
--- body of kind, name, no token, tag and number of bytes. A first block would follow.
+-- A record of the replacement of a file 'n' by one of one byte: an open gate, the length 41, and
+-- the body of kind, name, no token, tag and number of bytes. A first block would follow.
 abbrev pub replacement_record : List ℕ
 replacement_record =
     1 ∷ 0 ∷ 0 ∷ 0 ∷ 41 ∷ 7 ∷ 1 ∷ 110 ∷ 0 ∷ 0 ∷ zeros 32 ++ (0 ∷ 0 ∷ 0 ∷ 1 ∷ [])
@@ -177,24 +177,24 @@ LongerBodyIsNoStep =
     (k : Keys) → length k.base_check ≡ 32
     → IsDamagedAt 1 k (first_book k (alice_record ++ bob_record ++ longer_record)) 105
 
--- A removal of the first file behind alice and bob, where there is none: in the first format its kind
--- byte is wrong, and in the second it is refused, and so wrong at its gate.
+-- A removal of the first file behind alice and bob, where there is none: in the first format its
+-- kind byte is wrong, and in the second it is refused, and so wrong at its gate.
 abbrev pub RemovalsAreOfTheSecond : Type 0
 RemovalsAreOfTheSecond =
     (k : Keys) → length k.base_check ≡ 32
     → IsDamagedAt 1 k (first_book k (alice_record ++ bob_record ++ removal_record)) 105
     × IsDamagedAt 2 k (second_book k (alice_record ++ bob_record ++ removal_record)) 100
 
--- A replacement of a file behind alice and bob, where there is none: in the first format its kind byte
--- is wrong, and in the second it is refused, and so wrong at its gate.
+-- A replacement of a file behind alice and bob, where there is none: in the first format its kind
+-- byte is wrong, and in the second it is refused, and so wrong at its gate.
 abbrev pub ReplacementsAreOfTheSecond : Type 0
 ReplacementsAreOfTheSecond =
     (k : Keys) → length k.base_check ≡ 32
     → IsDamagedAt 1 k (first_book k (alice_record ++ bob_record ++ replacement_record)) 105
     × IsDamagedAt 2 k (second_book k (alice_record ++ bob_record ++ replacement_record)) 100
 
--- Before a step record a body of 5 and one more byte, whose gate is at place 100, is damaged where it
--- is without one.
+-- Before a step record a body of 5 and one more byte, whose gate is at place 100, is damaged where
+-- it is without one.
 abbrev pub DamageStaysBeforeTheStep : Type 0
 DamageStaysBeforeTheStep =
     (k : Keys) → length k.base_check ≡ 32

@@ -131,9 +131,9 @@ ChangedByteIsNoDamage =
     KeepsAt k p g (store k bodies (own ++ zeros_behind))
     → KeepsAt k p g (store k bodies (own ++ others))
 
--- A file of one byte stands at block 0, beside 4,096 bytes of Blobs. Once it is removed a second file
--- of its name takes block 0. The first file has no bytes any more, and those of the second are the
--- first of Blobs.
+-- A file of one byte stands at block 0, beside 4,096 bytes of Blobs. Once it is removed a second
+-- file of its name takes block 0. The first file has no bytes any more, and those of the second are
+-- the first of Blobs.
 abbrev pub RemovedBlocksAreFree : Type 0
 RemovedBlocksAreFree =
     (k : Keys) (blobs : List ℕ) → length k.base_check ≡ 32 → length blobs ≡ 4096
@@ -152,9 +152,9 @@ RemovedFilesAreGone =
     (store k (enrol_body 97 ∷ small_body 110 (block 0) ∷ remove_body ∷ remove_body ∷ []) blobs)
     (in_book 274)
 
--- A file 'n' of one byte stands at block 0, beside 8,192 bytes of Blobs. It is replaced by one of one
--- byte at block 1, and this one by another at block 0 again. Both records have the name alone. The
--- first two files have no bytes any more, and those of the third are the first of Blobs.
+-- A file 'n' of one byte stands at block 0, beside 8,192 bytes of Blobs. It is replaced by one of
+-- one byte at block 1, and this one by another at block 0 again. Both records have the name alone.
+-- The first two files have no bytes any more, and those of the third are the first of Blobs.
 abbrev pub ReplacedBlocksAreFree : Type 0
 ReplacedBlocksAreFree =
     (k : Keys) (blobs : List ℕ) → length k.base_check ≡ 32 → length blobs ≡ 8192

@@ -102,8 +102,8 @@ access_body firsts = 3 ∷ 0 ∷ 0 ∷ 0 ∷ 1 ∷ 0 ∷ 0 ∷ 0 ∷ 0 ∷ 1 ∷
 abbrev pub remove_body : List ℕ
 remove_body = 6 ∷ 0 ∷ 0 ∷ 0 ∷ 0 ∷ []
 
--- the body of the replacement of a file with a name of one letter: kind, name, no token, tag, number
--- of bytes, and first blocks
+-- the body of the replacement of a file with a name of one letter: kind, name, no token, tag,
+-- number of bytes, and first blocks
 abbrev pub replace_body : ℕ → List ℕ → List ℕ
 replace_body letter firsts =
     7 ∷ 1 ∷ letter ∷ 0 ∷ 0 ∷ zeros 32 ++ (0 ∷ 0 ∷ 0 ∷ 1 ∷ []) ++ firsts

@@ -58,8 +58,8 @@ pub fn removed_files_are_gone()
     ensures { RemovedFilesAreGone }
 {}
 
-/// The blocks of a file that is replaced are free for the updates behind it, and not for the one that
-/// replaces it.
+/// The blocks of a file that is replaced are free for the updates behind it, and not for the one
+/// that replaces it.
 pub fn replaced_blocks_are_free()
     ensures free { ReplacedBlocksAreFree }
     ensures old { OldBlocksAreInUse }

@@ -40,8 +40,8 @@ pub fn a_removal_is_of_the_second_format()
     ensures { RemovalsAreOfTheSecond }
 {}
 
-/// In a record of the first format no update is a replacement: its kind byte is damage. In one of the
-/// second it is a replacement, which is refused where no file has the name.
+/// In a record of the first format no update is a replacement: its kind byte is damage. In one of
+/// the second it is a replacement, which is refused where no file has the name.
 pub fn a_replacement_is_of_the_second_format()
     ensures { ReplacementsAreOfTheSecond }
 {}

@@ -42,8 +42,8 @@ TellsNothing reads = Told reads (λ _. ⊥)
 
 module _ {D : Type 0} (tells : DiskTells D) where
   -- The disk tells its bytes, and each image that a crash may leave of it keeps one history. It is
-  -- right by this one, and is its sealed form but for the tags and the bytes of files that were gone
-  -- at the start.
+  -- right by this one, and is its sealed form but for the tags and the bytes of files that were
+  -- gone at the start.
   pub record Holds (k : Masters) (start p : PlainHistory) (disk : D) : Type 0 where
     pub told : (i : Image) × (tells.reads disk ≡ Some i)
     pub kept : SealedHistory

@@ -107,8 +107,8 @@ Replies old command reply =
     → (reply ≡ reply_to p command) × (after p command ≡ p)
 
 -- The command asks at this history for a plain update. What is kept refuses the sent one as the
--- history refuses the plain one, and where it doesn't, the sent one spells the plain one as its owner
--- seals it.
+-- history refuses the plain one, and where it doesn't, the sent one spells the plain one as its
+-- owner seals it.
 pub record IsSentAt (old : Kept) (p : PlainHistory) (command : Command) (sent : SealedUpdate)
     : Type 0 where
   pub plain : PlainUpdate

@@ -114,8 +114,8 @@ module _ (k : Masters) (command : Command) (e : Errand) (d : Does k command e) (
     all_right (g ∷ more) (same, are) =
         ((p, legal, subst (IsSealedAs k p) (sym same) right), all_right more are)
 
-    -- a step at the last of them is one of this history: it may be that of another one by which they
-    -- are right too, and that is answered alike
+    -- a step at the last of them is one of this history: it may be that of another one by which
+    -- they are right too, and that is answered alike
     last_is : (reply : Reply) (histories : List SealedHistory) (last : SealedHistory)
         → AllAre s histories → IsLastStep k command reply histories last
         → (reply_to p command ≡ reply) × IsSealedAs k (after p command) last

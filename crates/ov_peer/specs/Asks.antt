@@ -54,8 +54,8 @@ Along v (a ∷ asks) (at_one ∷ more) last =
     × IsReplyAt (later v others) a.request a.reply made
     × Along (later (later v others) made) asks more last
 
--- a history is right under these masters: it is the sealed form of a legal one, but for the tags and
--- the bytes of files that are gone
+-- a history is right under these masters: it is the sealed form of a legal one, but for the tags
+-- and the bytes of files that are gone
 abbrev pub IsRight : Masters → SealedHistory → Type 0
 IsRight k g = (p : PlainHistory) × IsLegal (history_of p) × IsSealedAs k p g
 

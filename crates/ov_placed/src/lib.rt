@@ -17,26 +17,26 @@
 //!                        │                                        │
 //!                        └─ first blocks ──► new extents: each held, while the old ones are still held
 //!                                                                 │
-//!   extent of a file that is gone given up, first blocks put, old extents given up, change committed
+//!     extent of a gone file given up, first blocks put, old extents given up, change committed
 //!
 //! prepare   update ── Brief::of ──► brief ── spell_update, State::prepare ──► change, front, text
 //!                                     └── number of a file that is removed or replaced
-//! update    change, front, text, number ── ov_updating::update ──► new bytes and record on the disk
+//! update    change, front, text, number ── ov_updating::update ──► new bytes, record on the disk
 //!                                                                 │
 //!                             file added, file taken away, first blocks put, change committed
 //! ```
 //!
-//! A record has the *name* of a file that is replaced. Its number is looked up in the catalogue before
-//! the change is committed: after it the name is that of the new file.
+//! A record has the *name* of a file that is replaced. Its number is looked up in the catalogue
+//! before the change is committed: after it the name is that of the new file.
 //!
 //! **What a contract sees** is one value, `PlacedStore` (`specs/Contents`): the catalogue and its
 //! room, the first blocks by file number, and what is held.
 //!
 //! * [`PlacedCatalogue::known`] does nothing; its contract is what holds of every placed catalogue.
-//!   Just the files with a byte have a first block, and those that are gone have none. What is held are
-//!   just the extents of files, each once, and no two share a block. So no update loses a block, and
-//!   none holds one twice.
-//!   [`PlacedCatalogue::first_block`] gives the first block of a file, whose extent is held.
+//!   Just the files with a byte have a first block, and those that are gone have none. What is held
+//!   are just the extents of files, each once, and no two share a block. So no update loses a
+//!   block, and none holds one twice. [`PlacedCatalogue::first_block`] gives the first block of a
+//!   file, whose extent is held.
 //! * `replay` answers `Ok` only for a record whose update the store takes, with as many first blocks as
 //!   its rewrites need and with new extents that take free blocks. Then the update is made, and each
 //!   history that was replayed to the store, and can stand in so many blocks, goes on with it

@@ -22,8 +22,8 @@ use ov_updating::spell_update;
 use std::alloc::Global;
 
 /// All of an update that its catalogue and its record need: the change of the catalogue, the spelling
-/// with which its record begins, the bytes of a new file, and the number of a file that is removed or
-/// replaced.
+/// with which its record begins, the bytes of a new file, and the number of a file that is removed
+/// or replaced.
 #[derive(Drop)]
 pub struct Prepared<const W: usize> {
     pub(crate) change: Change<W>,

@@ -40,8 +40,8 @@ fn bytes_of(text: &Option<Octets>) -> &[u8]
     }
 }
 
-// Adds the file of a text, where there is one, for which there is room; and takes the first block of
-// the file of this number away, where there is a number. A replacement has both.
+// Adds the file of a text, where there is one, for which there is room; and takes the first block
+// of the file of this number away, where there is a number. A replacement has both.
 fn unplace_by(placed: &mut Vec<Option<u32>>, text: &Option<Octets>, removed: Option<u32>)
     requires { 1 ≤ vec_capacity placed.old - vec_len placed.old }
     ensures { (u : SealedUpdate) → text.now ≡ text_of u → removed ≡ removed_by (brief u)

@@ -177,7 +177,8 @@ fn bad_replacements_are_named(rt: HostRuntime) {
     assert!(rt; replayed(alloc, &mut it, &replace(&rt, alloc, b"g", &[3])) == in_book(GATE));
     let body = replace(&rt, alloc, b"f", &[3]);
     assert!(rt; replayed_as(alloc, &mut it, Format::First, &body) == in_book(GATE + 5));
-    // It has one first block, behind the kind, the name, the number of tokens, the tag and the length.
+    // It has one first block, behind the kind, the name, the number of tokens, the tag and the
+    // length.
     let none = replace(&rt, alloc, b"f", &[]);
     assert!(rt; replayed(alloc, &mut it, &none) == in_book(GATE + 5 + 41));
     assert!(rt; holds(&it, 0));

@@ -65,9 +65,9 @@ pub record RemovalsNameNoUser : Type 0 where
   pub surface : (c : Catalogue) (file : List ℕ)
       → (numbers_for c (questions.Remove file)).surface_root ≡ 0
 
--- The plan of a replacement has the next number, and the list that the file has now. With the file's
--- own number two texts would have one pad; with the list of its creation, users who were taken off
--- it would hold the new file.
+-- The plan of a replacement has the next number, and the list that the file has now. With the
+-- file's own number two texts would have one pad; with the list of its creation, users who were
+-- taken off it would hold the new file.
 pub record ReplansAreOfNow : Type 0 where
   pub number : (c : Catalogue) (file len : ℕ) (plan : Plan)
       → AnswersReplan c file len (answers.Plan plan) → plan.file ≡ length c.files

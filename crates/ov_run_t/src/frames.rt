@@ -164,8 +164,8 @@ const REPLACEMENT: &[u8] = b"enrol a\nenrol b\ncreate f a 2\nx1\ngrant b f\nrepl
 
 const REPLACEMENT_LINES: &[u8] = b"ok 1\nok 2\nok 3\nok 4\nok 5\nend epoch 5\n";
 
-// Of its 1,070 bytes the replacement has 325. Its file is 1, and its base node 2, of both users, which
-// has edges from 0 and 1.
+// Of its 1,070 bytes the replacement has 325. Its file is 1, and its base node 2, of both users,
+// which has edges from 0 and 1.
 const REPLACEMENT_FRAMES: &[u8] =
     b"\x00\x00\x00\x04\x02\x01\x01a\x00\x00\x00\x1a\x82\x00\x00\x00\x00\x00\x00\x00\x00\x00\x00\
     \x00\x00\x00\x00\x00\x00\x00\x00\x00\x00\x00\x00\x00\x00\x00\x00\x00\x00(\x04\x00\x00\x00\x00\

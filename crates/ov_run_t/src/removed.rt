@@ -1,5 +1,5 @@
-//! Files that are removed: what is answered then, that their names are free again, that their blocks
-//! are, which bytes no longer count, and what a stop leaves of a removal.
+//! Files that are removed: what is answered then, that their names are free again, that their
+//! blocks are, which bytes no longer count, and what a stop leaves of a removal.
 //!
 //! The replies, and what is in Book and Blobs, are from a second implementation of the store.
 use crate::disks::{assert_shut, changed, left_by};
@@ -79,8 +79,8 @@ fn last_lines(alloc: Global) -> Result<Vec<u8>, Fail> {
     Ok(filled(alloc, "ok 4\ndata a g ", 8193, end)?)
 }
 
-/// Three blocks at 0, which are free once the file is gone: the next file of three has them, and Blobs
-/// grows no longer.
+/// Three blocks at 0, which are free once the file is gone: the next file of three has them, and
+/// Blobs grows no longer.
 #[test]
 fn blocks_of_a_removed_file_are_used_again(rt: HostRuntime) -> Result<(), Fail> {
     let alloc = rt.alloc();
@@ -148,8 +148,8 @@ fn answers(removed: bool) -> &'static Row<'static> {
     if removed { &WITH } else { &WITHOUT }
 }
 
-/// A byte of the file is damage as long as the file is there. Where it was, any byte may stand once it
-/// is gone.
+/// A byte of the file is damage as long as the file is there. Where it was, any byte may stand once
+/// it is gone.
 #[test]
 fn bytes_of_a_removed_file_do_not_count(rt: HostRuntime) -> Result<(), Fail> {
     let alloc = rt.alloc();

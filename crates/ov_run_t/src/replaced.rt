@@ -1,5 +1,5 @@
-//! Files that are replaced: what is answered then, which readers the new bytes have, where they stand,
-//! which bytes no longer count, and what a stop leaves of a replacement.
+//! Files that are replaced: what is answered then, which readers the new bytes have, where they
+//! stand, which bytes no longer count, and what a stop leaves of a replacement.
 //!
 //! The replies, and what is in Book and Blobs, are from a second implementation of the store.
 use crate::disks::{assert_shut, changed, left_by};
@@ -19,8 +19,8 @@ static ROWS: [Row<'static>; 9] = [
         status: 0,
         lines: b"ok 1\nok 2\nok 3\nok 4\nok 5\ndata b f 3\nabc\nok 6\nrefused 3 NoFile\nok 7\nend epoch 7\n",
     },
-    // The new bytes are for the list that the file has: not for a reader who was revoked before, until a
-    // grant, nor for the first reader once that one is revoked.
+    // The new bytes are for the list that the file has: not for a reader who was revoked before,
+    // until a grant, nor for the first reader once that one is revoked.
     Row {
         script: b"enrol a\nenrol b\ncreate f a,b 2\nx1\nrevoke b f\nread b f\nreplace f 3\nabc\nread b f\nread a f\nlist f\nrevoke a f\nreplace f 0\n\nread a f\nlist f\ngrant b f\nread b f\nread a f\n",
         status: 0,
@@ -32,8 +32,8 @@ static ROWS: [Row<'static>; 9] = [
         status: 0,
         lines: b"refused 3 NoFile\nok 1\nok 2\nok 3\nok 4\ndata a f 2\nqq\nok 5\ndata a f 0\n\nrefused 2 NoUser\nok 6\nrefused 3 NoFile\nrefused 3 NoFile\nok 7\nok 8\nrefused 4 NoPath\nlist f -\nok 9\ndata a f 1\nt\nend epoch 9\n",
     },
-    // Of three files for the same two users one is replaced, and then another: the rest stay as they
-    // were.
+    // Of three files for the same two users one is replaced, and then another: the rest stay as
+    // they were.
     Row {
         script: b"enrol a\nenrol b\ncreate f a,b 1\nx\ncreate g a,b 1\ny\ncreate h b,a 1\nz\nreplace g 2\nyy\nread a f\nread b g\nread a h\nenrol c\ngrant c f\nreplace f 2\nxx\nread c f\nread c g\nread c h\nrevoke b h\nreplace h 0\n\nread b h\nread a h\nlist f\nlist h\nread b g\n",
         status: 0,
@@ -85,8 +85,8 @@ fn scripts_that_replace_files(rt: HostRuntime) -> Result<(), Fail> {
     assert_rows(&rt, rt.alloc(), "delta")
 }
 
-// How the record of a file ends that stands at this block: the file's length, the block, and a closed
-// gate.
+// How the record of a file ends that stands at this block: the file's length, the block, and a
+// closed gate.
 const AT_BLOCK_0: &[u8] = b"\0\0\x20\x01\0\0\0\0\0";
 
 const AT_BLOCK_3: &[u8] = b"\0\0\x20\x01\0\0\0\x03\0";
@@ -112,8 +112,8 @@ fn assert_replaced(
     Ok(())
 }
 
-/// Three blocks at 0, which are in use until the replacement lasts: its three are behind them. The next
-/// replacement has those of the first file.
+/// Three blocks at 0, which are in use until the replacement lasts: its three are behind them. The
+/// next replacement has those of the first file.
 #[test]
 fn blocks_of_a_replaced_file_are_used_again(rt: HostRuntime) -> Result<(), Fail> {
     let alloc = rt.alloc();
@@ -144,8 +144,8 @@ fn replaced_often(alloc: Global, count: u32) -> Result<Vec<u8>, AllocError> {
     Ok(text)
 }
 
-/// Each replacement has a number of its own, and Blobs never has more than two blocks: one of the file
-/// that is there, and one of the file that takes its place.
+/// Each replacement has a number of its own, and Blobs never has more than two blocks: one of the
+/// file that is there, and one of the file that takes its place.
 #[test]
 fn a_thousand_replacements_take_two_blocks(rt: HostRuntime) -> Result<(), Fail> {
     let alloc = rt.alloc();
@@ -202,8 +202,8 @@ fn answers(replaced: bool) -> &'static Row<'static> {
     if replaced { &WITH } else { &WITHOUT }
 }
 
-/// Where the old byte was, any byte may stand once the file is replaced. The new byte in another block is
-/// damage where it is another, at the gate of the replacement, which has the tag.
+/// Where the old byte was, any byte may stand once the file is replaced. The new byte in another
+/// block is damage where it is another, at the gate of the replacement, which has the tag.
 #[test]
 fn bytes_of_a_replaced_file_do_not_count(rt: HostRuntime) -> Result<(), Fail> {
     let alloc = rt.alloc();
@@ -223,9 +223,9 @@ fn bytes_of_a_replaced_file_do_not_count(rt: HostRuntime) -> Result<(), Fail> {
     Ok(())
 }
 
-// Asserts that a stop leaves the replacement from the call on of which this many come behind it. The
-// replacement makes the last five calls: it writes its byte to a free block, and then four for its
-// record. Until that lasts, the old byte stands where it was.
+// Asserts that a stop leaves the replacement from the call on of which this many come behind it.
+// The replacement makes the last five calls: it writes its byte to a free block, and then four for
+// its record. Until that lasts, the old byte stands where it was.
 fn assert_stops(
     rt: &impl Abort,
     alloc: Global,

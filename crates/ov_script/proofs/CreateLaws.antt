@@ -1,4 +1,5 @@
--- Laws of the lists and bodies of `create` and `replace`: the names are names, none comes twice, and they are few.
+-- Laws of the lists and bodies of `create` and `replace`: the names are names, none comes twice,
+-- and they are few.
 use Rattle.std.proofs.Common.{◌≡◌, ℕ, suc, ◌+◌, ◌*◌, ◌<◌, ◌≤◌, Bool, true, false, List, [], ◌∷◌, ◌++◌, length, refl, sym, ap, subst, length-append, arith}
 use Rattle.std.specs.Prelude.{codes}
 use Rattle.std.specs.Fmt.{decimal}

@@ -26,8 +26,8 @@ abbrev pub replace_line : List ℕ → ℕ → List ℕ
 replace_line file size = line_of (codes "replace" ∷ file ∷ decimal size ∷ [])
 
 -- These bytes are one item, which says this command: a line, and behind that of a `create` or a
--- `replace` as many bytes as its last word says, and one LF. Only the line of a `create` could be longer than a line
--- may be.
+-- `replace` as many bytes as its last word says, and one LF. Only the line of a `create` could be
+-- longer than a line may be.
 abbrev pub IsItem : List ℕ → Command → Type 0
 IsItem bytes (Enrol user) = IsName user × (bytes ≡ line_of (codes "enrol" ∷ user ∷ []))
 IsItem bytes (Create file names body) =

@@ -3,9 +3,9 @@
 //! A [`Server`] is a store that outlasts stops (`ov_store`), and the surface master under which it
 //! is kept. [`Server::answer`] answers a frame in place of what was in the reply, and is the one
 //! call that changes what is shown: it makes the update that it accepts. Of a Cover or a Replan it
-//! keeps the plan that it told, which no contract shows. A [`LocalPeer`] is a server in this process
-//! as a peer, which tells which history it serves where its disk tells its bytes; a server is an
-//! [`ov_peer::Answerer`] too.
+//! keeps the plan that it told, which no contract shows. A [`LocalPeer`] is a server in this
+//! process as a peer, which tells which history it serves where its disk tells its bytes; a server
+//! is an [`ov_peer::Answerer`] too.
 //!
 //! ```text
 //! frame ── read_request ──► Hello, Ask, Cover, Replan,

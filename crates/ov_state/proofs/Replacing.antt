@@ -1,5 +1,5 @@
--- Replacements: what they make, and why they are refused. A replacement makes what a creation makes of
--- the catalogue in which the old file is gone.
+-- Replacements: what they make, and why they are refused. A replacement makes what a creation makes
+-- of the catalogue in which the old file is gone.
 use Rattle.std.proofs.Common.{◌≡◌, ℕ, zero, suc, ◌+◌, ◌≤◌, true, List, [], ◌∷◌, ◌++◌, length, refl, sym, ◌∙◌, ap, subst, arith}
 use Rattle.std.specs.Prelude.{is_some, Option, Some, None}
 use Rattle.ov_base.proofs.Tests.{true_of_not}

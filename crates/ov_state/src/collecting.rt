@@ -57,8 +57,8 @@ pub trait Collector<S: Graph<Surface, W>, const W: usize> {
             → IfErr result (IsFull (with_wants c.surface.sets (wants ++ want.now ∷ []))) };
 
     /// Does nothing. Its contract is what holds of every collector: its layer has room for the sets
-    /// that are collected, and a file that has its wanted surface already adds nothing. Neither does
-    /// one that is gone, of which no surface is wanted.
+    /// that are collected, and a file that has its wanted surface already adds nothing. Neither
+    /// does one that is gone, of which no surface is wanted.
     fn known(&self)
         ensures few { (start : Self) (c : Catalogue) (wants : List (Option ℕ))
             → has start c wants self.now

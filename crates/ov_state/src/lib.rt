@@ -95,8 +95,8 @@
 //! through the files of that node, since bare ones get a surface, and looks at none of another node
 //! after that. A creation looks at a few files to find its file's place among them, and moves the
 //! numbers behind it, four bytes each. A removal looks through these numbers for that of its file,
-//! and moves the names behind that of its file. A replacement does what a removal and a creation do.
-//! All this is read off the code, and no contract says it.
+//! and moves the names behind that of its file. A replacement does what a removal and a creation
+//! do. All this is read off the code, and no contract says it.
 //!
 //! Nothing is claimed of secrecy, nor that memory isn't refused.
 #![tactic(auto)]

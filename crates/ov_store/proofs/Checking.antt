@@ -133,8 +133,8 @@ take-firsts master c [] (suc i) all = tt
 take-firsts master c (p ∷ ps) (suc i) all =
     (all.0, take-firsts master (catalogue_after master c p.update) ps i all.1)
 
--- in these layers the update is as its owner seals it, but for a file of which the test says that it
--- is gone
+-- in these layers the update is as its owner seals it, but for a file of which the test says that
+-- it is gone
 abbrev IsOwned : Masters → (ℕ → Bool) → SealedUpdate → Layers → Type 0
 IsOwned k is_gone u y = IsOwners k y (is_gone (length y.files)) u
 

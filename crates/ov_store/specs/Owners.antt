@@ -1,5 +1,5 @@
--- Updates that are as their owner seals them, and the first record that isn't. Of a file that is gone
--- at the end nobody can tell the bytes, and so not the tag.
+-- Updates that are as their owner seals them, and the first record that isn't. Of a file that is
+-- gone at the end nobody can tell the bytes, and so not the tag.
 use Rattle.std.specs.Prelude.{◌≡◌, ℕ, Bool, true, false, not, List, [], ◌∷◌, ◌++◌, length}
 use Rattle.std.specs.Prelude.{Option, Some, None, IfSome, is_some, option_map}
 use Rattle.ov_base.specs.declared.limits.TheConstants.{MAX_LAYER_NODES}
@@ -30,8 +30,8 @@ use Rattle.ov_placed.specs.Contents.{PlacedStore}
 abbrev pub masters : List ℕ → List ℕ → Masters
 masters base surface = record { base = base; surface = surface }
 
--- The update is, in these layers, what its owner sends for some plain update. Where the file that it
--- makes is gone, its tag and its bytes may be any.
+-- The update is, in these layers, what its owner sends for some plain update. Where the file that
+-- it makes is gone, its tag and its bytes may be any.
 abbrev pub IsOwners : Masters → Layers → Bool → SealedUpdate → Type 0
 IsOwners k y gone u =
     (plain : PlainUpdate) × (faded_if gone u ≡ faded_if gone (sealed_update k y plain))
@@ -46,8 +46,8 @@ abbrev pub HasNodeFor : Catalogue → ℕ → Type 0
 HasNodeFor c list =
     length c.base.sets ≡ MAX_LAYER_NODES → (plan_of c.base.sets list).fresh ≡ true → ⊥
 
--- each of these updates is, at its place behind this history, what its owner sends, but for the tags
--- and the bytes of the files of which the test says that they are gone
+-- each of these updates is, at its place behind this history, what its owner sends, but for the
+-- tags and the bytes of the files of which the test says that they are gone
 abbrev pub AllAreOwned : Masters → (ℕ → Bool) → History → List SealedUpdate → Type 0
 AllAreOwned k is_gone h [] = Unit {0}
 AllAreOwned k is_gone h (u ∷ updates) =
@@ -64,8 +64,8 @@ pub record IsRecordedAs (master : List ℕ) (g : SealedHistory) (p : PlacedHisto
   pub firsts : AllHaveFirsts master (empty_catalogue p.mode p.first) p.updates
 
 -- The first updates of the history are as their owner seals them, and the next one isn't, whatever
--- the tags and the bytes are of files that are gone at the history's end. This is the place of the gate
--- of its record, which is behind theirs. So many records come before the step record.
+-- the tags and the bytes are of files that are gone at the history's end. This is the place of the
+-- gate of its record, which is behind theirs. So many records come before the step record.
 pub record HasFalseUpdate (k : Masters) (step : Option ℕ) (g : SealedHistory) (place : ℕ) : Type 0
   where
     pub front : List SealedUpdate
@@ -123,9 +123,9 @@ IsTextIn master store file blobs text =
 abbrev pub HasTextIn : List ℕ → PlacedStore → ℕ → List ℕ → SealedUpdate → Type 0
 HasTextIn master store file blobs u = IfSome (text_of u) (IsTextIn master store file blobs)
 
--- What is done with a record's update, whose file is gone at the end or not: where it is as its owner
--- seals it the catalogue goes on with it, under the surface master; else it isn't, and nothing is said
--- of the catalogue.
+-- What is done with a record's update, whose file is gone at the end or not: where it is as its
+-- owner seals it the catalogue goes on with it, under the surface master; else it isn't, and
+-- nothing is said of the catalogue.
 abbrev pub FollowsUpdate : Masters → Catalogue → Bool → SealedUpdate → Catalogue → Bool → Type 0
 FollowsUpdate k old gone u new true =
     IsOwners k (outline old) gone u × (new ≡ catalogue_after k.surface old (brief u))

@@ -8,14 +8,15 @@
 //! of files into extents that were free, and then its record, and only then makes it, which can't
 //! fail: so what was answered with `Ok` outlasts each later stop, and a stop at any moment leaves
 //! the history from before or it with this update. The blocks of a file that an update removes or
-//! replaces are free for later ones once its record is on the disk. [`Store::chunk`] reads stored bytes,
-//! [`Store::check`] looks whether all updates are as their owner seals them, for which it reads
-//! each file that is there once, and [`Store::close`] gives the disk back.
+//! replaces are free for later ones once its record is on the disk. [`Store::chunk`] reads stored
+//! bytes, [`Store::check`] looks whether all updates are as their owner seals them, for which it
+//! reads each file that is there once, and [`Store::close`] gives the disk back.
 //!
-//! A store of the first format is carried over to the second by its first update that isn't refused: this writes a
-//! step record before its own, and all records behind that are in the second format. Programs that
-//! know the first alone open the store no more. [`is_to_be_carried_over`] says before a store is
-//! opened that this is to come, and [`Store::is_to_be_carried_over`] says it of an open one.
+//! A store of the first format is carried over to the second by its first update that isn't
+//! refused: this writes a step record before its own, and all records behind that are in the second
+//! format. Programs that know the first alone open the store no more. [`is_to_be_carried_over`]
+//! says before a store is opened that this is to come, and [`Store::is_to_be_carried_over`] says it
+//! of an open one.
 //!
 //! **What a contract sees** is one value, `Opened` (`specs/Opened`): the disk, the keys, the
 //! catalogue, the stored bytes, which are cut out of what the disk reads and so are said only where it

@@ -135,8 +135,8 @@ fn text_for<D: Disk>(
     Ok(Some(bytes))
 }
 
-// The replacement with these parts, with the text of its file, whose number this is, or zeros where this
-// file is gone; or none, where it has another number of bytes.
+// The replacement with these parts, with the text of its file, whose number this is, or zeros where
+// this file is gone; or none, where it has another number of bytes.
 fn whole_replacement<D: Disk>(
     alloc: Global,
     disk: &mut D,

@@ -95,8 +95,8 @@ fn expect_done<N: Abort + AllocGlobal + Net + Copy + Drop>(
 }
 
 /// At the server whose lines these are an owner enrols alice, creates a file and prints her key line,
-/// by which she reads the file; then the owner replaces it, she reads it again, and the owner removes
-/// it. Each command names a server and files that only its hints would show.
+/// by which she reads the file; then the owner replaces it, she reads it again, and the owner
+/// removes it. Each command names a server and files that only its hints would show.
 fn ask_for_all<N: Abort + AllocGlobal + Net + Wait + Copy + Drop>(
     net: &N,
     alloc: Global,

@@ -1,5 +1,5 @@
--- An update that is sent at one of two histories that differ in their files' bytes alone is sent and
--- answered so at the other.
+-- An update that is sent at one of two histories that differ in their files' bytes alone is sent
+-- and answered so at the other.
 use Rattle.std.proofs.Common.{◌≡◌, ◌∙◌, ℕ, ◌+◌, Bool, false, List, [], ◌∷◌, None}
 use Rattle.std.proofs.Common.{Result, Ok, refl, sym, ap, subst, inl, inr}
 use Rattle.std.specs.Prelude.{◌⊎◌, ◌≢◌}

@@ -71,8 +71,8 @@ plan_of_two = record {
 }
 
 -- Its frames, which are 325 bytes together: the question has ten bytes beside the name, and the
--- update, at epoch 4, has 81 beside name, tokens and bytes. With the list, as a creation has it, the
--- update would have 128 more.
+-- update, at epoch 4, has 81 beside name, tokens and bytes. With the list, as a creation has it,
+-- the update would have 128 more.
 pub record ReplacementsAreShort : Type 0 where
   pub asks : length (framed (request_bytes (requests.Replan (102 ∷ []) 3))) ≡ 11
   pub told : length (framed (answer_bytes (answers.Plan plan_of_two))) ≡ 156

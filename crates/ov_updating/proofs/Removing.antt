@@ -1,5 +1,5 @@
--- A file that an update removes or replaces has no first block afterwards, and none has it again. Each
--- other file keeps its own until it is rewritten.
+-- A file that an update removes or replaces has no first block afterwards, and none has it again.
+-- Each other file keeps its own until it is rewritten.
 use Rattle.std.proofs.Common.{◌≡◌, inl, inr, ℕ, zero, suc, ◌<◌, ◌≤◌, List, [], ◌∷◌, ◌++◌, length, refl, sym, ◌∙◌, ap, subst, arith}
 use Rattle.std.specs.Prelude.{true, All, Contains, IfSome, Option, Some, None, is_some, slice_index_or}
 use Rattle.std.specs.List.Sorted.{IsStrictlyIncreasing}

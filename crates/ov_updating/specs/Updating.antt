@@ -26,8 +26,8 @@ use Rattle.ov_updating.specs.Files.{AreHeldFor, firsts_of, removed_by}
 -- ---- what an update is made from
 
 -- The rewrites of an update, the first blocks of all files by number, the extents that are held, the
--- spelling of the update before its own first blocks, the bytes of a new file, and the number of the
--- file that is removed or replaced, where one is.
+-- spelling of the update before its own first blocks, the bytes of a new file, and the number of
+-- the file that is removed or replaced, where one is.
 pub record Asked : Type 0 where
   pub rewrites : List Rewrite
   pub placed : List (Option ℕ)
@@ -47,16 +47,16 @@ asked rewrites placed held front text removed = record {
   removed = removed;
 }
 
--- The update is spelled so, with the names of files that this catalogue shows, and its spelling tells
--- it.
+-- The update is spelled so, with the names of files that this catalogue shows, and its spelling
+-- tells it.
 pub record IsSpelledAs (c : Catalogue) (b : Brief) (front : List ℕ) : Type 0 where
   pub form : HasBriefForm second_form (spelled_brief (file_names_shown c) b)
   pub front_is : front ≡ brief_spelling second_form (spelled_brief (file_names_shown c) b)
   pub told : numbered_brief (file_names_shown c) (spelled_brief (file_names_shown c) b) ≡ b
 
 -- A store with this catalogue takes the update, and this is what the update is made from. After it
--- there are no more files than a store may have, and each is no longer than a file may be; nor was the
--- one that it removes or replaces.
+-- there are no more files than a store may have, and each is no longer than a file may be; nor was
+-- the one that it removes or replaces.
 pub record IsAskedFor (c : Catalogue) (u : SealedUpdate) (a : Asked) : Type 0 where
   pub taken : IsTaken c (brief u)
   pub rewrites : a.rewrites ≡ rewrites_of c (brief u)

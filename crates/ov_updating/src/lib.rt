@@ -5,21 +5,22 @@
 //! disk keeps. This crate joins the two: what is turned is the coats of files ([`ov_recoat`]), the
 //! record is an update's spelling in the second form and the first blocks of the extents that it
 //! fills, and so an image that kept a history keeps it, or it with the update. In a store of the first
-//! format the journal puts a step record before the first such record, and what an image keeps is the
-//! same with it. `ov_placed` calls it, and makes the update in the catalogue.
+//! format the journal puts a step record before the first such record, and what an image keeps is
+//! the same with it. `ov_placed` calls it, and makes the update in the catalogue.
 //!
 //! * [`update`] is the whole of an update but for the catalogue: it finds new extents, writes the new
 //!   bytes of each file there, appends the record, and gives up the old extents, and that of a file
-//!   that is removed or replaced. Its caller has the rewrites of a change that its catalogue prepared, and commits
-//!   that change at `Ok`.
+//!   that is removed or replaced. Its caller has the rewrites of a change that its catalogue
+//!   prepared, and commits that change at `Ok`.
 //! * [`spell_update`] spells an update before it is prepared, as its record begins.
 //! * [`Recording`] spells the record, once the new extents are known.
 //!
 //! **What a contract sees** is what the update is made from (`Asked`): its rewrites, the first blocks
 //! of all files, the extents that are held, the update's spelling, the text of a new file, and the
-//! number of a file that is removed or replaced. A spelling has the name of a file that is replaced.
-//! `IsAskedFor` says of which catalogue and update this is. A history, of which there may be several
-//! under several keys, is never an argument: the clauses hold of each that the disk's image keeps.
+//! number of a file that is removed or replaced. A spelling has the name of a file that is
+//! replaced. `IsAskedFor` says of which catalogue and update this is. A history, of which there may
+//! be several under several keys, is never an argument: the clauses hold of each that the disk's
+//! image keeps.
 //!
 //! * Where the disk tells its bytes, a crash at any moment leaves an image that keeps the history, or
 //!   it with the update (`KeepsItOrMore`); the extents that files had hold what they held, and the
@@ -29,12 +30,12 @@
 //!   the update and with the first blocks that are answered (`UpdateLasts`). Each file has gone into
 //!   the lowest free run (`GoToFree`), and Blobs has grown into the new extents alone.
 //! * At `Ok` just the extents of the files after the update are held (`AreHeldAfter`), so that the
-//!   next one may be made in the same way. The extent of a file that is removed or replaced is given up
-//!   after the last sync: until then a crash may leave a store that still has the file.
+//!   next one may be made in the same way. The extent of a file that is removed or replaced is
+//!   given up after the last sync: until then a crash may leave a store that still has the file.
 //!
 //! | file in `specs/` | says |
 //! |---|---|
-//! | `Files` | the files whose bytes are written, the one removed or replaced, and the extents that files have |
+//! | `Files` | files whose bytes are written, the one removed or replaced, extents of files |
 //! | `Counting` | extents that are counted |
 //! | `Recording` | the body of the record |
 //! | `Updating` | what an update is made from, and which history is kept |

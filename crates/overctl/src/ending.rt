@@ -118,9 +118,9 @@ const FILE_IN_DOUBT: &str = concat!(
 // What to do where a file may have been sent and wasn't made.
 const FILE_FIRST: &str = "; then create this file, before any other for its list";
 
-// What to do where new bytes were sent and what came of it isn't known. Where the file wasn't replaced
-// the number and the pad of its replacement go to the next file for its list; where it was, the same
-// bytes again are one replacement more.
+// What to do where new bytes were sent and what came of it isn't known. Where the file wasn't
+// replaced the number and the pad of its replacement go to the next file for its list; where it
+// was, the same bytes again are one replacement more.
 const REPLACEMENT_IN_DOUBT: &str = concat!(
     "it may be done: repeat it, with the same bytes, ",
     "before you send any other file for its list"

@@ -1,5 +1,5 @@
-//! The frames between the parties. The first of them comes once the store was opened, and before any
-//! update.
+//! The frames between the parties. The first of them comes once the store was opened, and before
+//! any update.
 use crate::told::older_store;
 use ov_io::{Fault, Sink};
 

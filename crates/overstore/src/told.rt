@@ -93,8 +93,8 @@ pub fn new_store(rt: &HostRuntime) {
     }
 }
 
-/// Whether the store of this folder, which is on this disk, is of the first format and its next update
-/// carries it over. Nothing is written.
+/// Whether the store of this folder, which is on this disk, is of the first format and its next
+/// update carries it over. Nothing is written.
 pub fn is_older_store<D: Disk>(rt: &HostRuntime, disk: &mut D) -> bool {
     is_of_first_format(rt, BOOK_FILE) && matches!(is_to_be_carried_over(rt.alloc(), disk), Ok(true))
 }

@@ -65,8 +65,8 @@ pub fn all_numbers(alloc: Global) -> Result<Vec<u8>, AllocError> {
     Ok(text)
 }
 
-/// A file that is replaced until all 16,384 numbers of files were given out: the next replacement is
-/// refused, and so is a creation. The file stays, and can be read, revoked and removed.
+/// A file that is replaced until all 16,384 numbers of files were given out: the next replacement
+/// is refused, and so is a creation. The file stays, and can be read, revoked and removed.
 pub fn all_replacements(alloc: Global) -> Result<Vec<u8>, AllocError> {
     let mut text = Vec::new(alloc);
     text.extend_from_slice(b"enrol a\ncreate f a 1\nx\n")?;

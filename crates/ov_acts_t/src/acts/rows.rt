@@ -168,8 +168,8 @@ pub fn refusals() -> &'static [Row] {
     &REFUSALS
 }
 
-/// Files that are gone: one that is to be removed, one that is to be replaced, and one that goes while
-/// it is read, between the chains and the bytes.
+/// Files that are gone: one that is to be removed, one that is to be replaced, and one that goes
+/// while it is read, between the chains and the bytes.
 static GONE: [Row; 3] = [
     Row {
         words: &["remove", "here:1", "keys", "f1"],

@@ -1,6 +1,6 @@
 //! What a server replied to a read of a long file, from the same implementation in Python. The mode
-//! is Full; users a and b have the numbers 0 and 1; f was created for a, and granted to b, removed or
-//! replaced before the third chunk of the read.
+//! is Full; users a and b have the numbers 0 and 1; f was created for a, and granted to b, removed
+//! or replaced before the third chunk of the read.
 
 /// How many bytes the file has.
 pub const LENGTH: usize = 200_000;
@@ -80,8 +80,8 @@ pub const NEW_TRACE_SHA256: [u8; 32] = [
     0x94, 0x59, 0x31, 0xcb, 0x02, 0x4d, 0x0b, 0x4d, 0xc3, 0x2b, 0x04, 0x12, 0xc7, 0xed, 0x76, 0xe9,
 ];
 
-/// The chains of a to f where it was replaced by the same ten bytes. They are in the same chunk, since
-/// the file has the same number and the same node.
+/// The chains of a to f where it was replaced by the same ten bytes. They are in the same chunk,
+/// since the file has the same number and the same node.
 pub const CHAINED_REPLACED: [u8; 62] = [
     0x85, 0x00, 0x00, 0x00, 0x04, 0x00, 0x00, 0x00, 0x01, 0x00, 0x00, 0x00, 0x0a, 0x00, 0x00, 0x00,
     0x04, 0x14, 0x58, 0xb8, 0x85, 0xa6, 0x56, 0x97, 0xec, 0x24, 0x83, 0x77, 0xed, 0xef, 0x65, 0x29,

@@ -264,9 +264,9 @@ pub const REMOVAL: &[u8] = b"\
         \x00\x00\x00\x00\x00\x00\x00\x00\x00\x00\x00\x00\x00\x00\x00\x00\x00\x00\x00\x00\x00\x00\
         \x00\x00\x00\x00\x00\x00\x00\x00\x00\x00\x06\x01\x00\x00";
 
-/// The second file is replaced: what its owner is told by its name, what isn't made, and what is told
-/// of both numbers then. It is granted to the third user and replaced again, by no bytes: its list has
-/// a node of its own then.
+/// The second file is replaced: what its owner is told by its name, what isn't made, and what is
+/// told of both numbers then. It is granted to the third user and replaced again, by no bytes: its
+/// list has a node of its own then.
 pub const REPLACEMENT: &[u8] = b"\
     \x00\x08\x09\x02\x66\x32\x00\x00\x00\x03\
         \x00\x90\x83\x00\x00\x00\x0a\x00\x00\x00\x02\x03\x00\x00\x00\x00\x00\x00\x00\x00\x00\x00\

@@ -1,4 +1,5 @@
-//! Files that are replaced: in both modes after a history of three users, and in two short histories.
+//! Files that are replaced: in both modes after a history of three users, and in two short
+//! histories.
 
 use super::rows::{REPLACEMENTS, Rewritten, Step};
 use super::{LENGTH, after_rows, make, make_rows, name, set_of};
@@ -41,8 +42,8 @@ const AFTER: [(Step, &[Rewritten]); 2] = [
     (Step::Create(b"f", &[1], 0), &[(2, None, None)]),
 ];
 
-/// Asks before the replacement of the file: it gets the next number and a base node of a and b, with
-/// edges from their roots.
+/// Asks before the replacement of the file: it gets the next number and a base node of a and b,
+/// with edges from their roots.
 fn ask_before(rt: &impl Abort, alloc: Global, catalogue: &mut Catalogue) {
     let planned = catalogue
         .replan(alloc, &name(rt, b"f"), LENGTH)

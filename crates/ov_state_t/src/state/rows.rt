@@ -1,5 +1,6 @@
-//! A history of three users and five files, the updates that make no change after it, and chains; the
-//! removal of a file, with what is made and refused after that; and the replacement of two files.
+//! A history of three users and five files, the updates that make no change after it, and chains;
+//! the removal of a file, with what is made and refused after that; and the replacement of two
+//! files.
 
 use ov_base::Refusal;
 use ov_state::PrepareFault;

@@ -121,8 +121,8 @@ fn one_name_again_and_again(rt: HostRuntime) {
 }
 
 /// The tag of zeros is false while its file is there. The gate of the creation is behind the header
-/// and the record of a, of eight bytes; that of the next one is behind the creation of 178 bytes and
-/// the removal of ten.
+/// and the record of a, of eight bytes; that of the next one is behind the creation of 178 bytes
+/// and the removal of ten.
 #[test]
 fn the_tag_of_a_removed_file_is_not_looked_at(rt: HostRuntime) {
     let alloc = rt.alloc();
@@ -137,7 +137,8 @@ fn the_tag_of_a_removed_file_is_not_looked_at(rt: HostRuntime) {
     drop(store.close());
 }
 
-/// Whether the store on an image has the file, or none, or the next one in its blocks, by its epoch.
+/// Whether the store on an image has the file, or none, or the next one in its blocks, by its
+/// epoch.
 fn has_what_it_says(alloc: Global, image: MemDisk) -> bool {
     let Ok(mut store) = begun(alloc, image, Mode::Delta) else {
         return false;
@@ -152,8 +153,8 @@ fn has_what_it_says(alloc: Global, image: MemDisk) -> bool {
     right
 }
 
-/// A stop of a removal leaves the file whole, or none; and no later one writes over its blocks before
-/// it is gone.
+/// A stop of a removal leaves the file whole, or none; and no later one writes over its blocks
+/// before it is gone.
 #[test]
 fn a_stop_after_each_call_of_a_removal(rt: HostRuntime) {
     let alloc = rt.alloc();

@@ -50,8 +50,8 @@ fn a_replaced_file_is_gone(rt: HostRuntime) {
     drop(again.close());
 }
 
-/// The blocks of the old file are in use until its replacement is on the disk, and free for the next
-/// one, so that Blobs has two extents.
+/// The blocks of the old file are in use until its replacement is on the disk, and free for the
+/// next one, so that Blobs has two extents.
 #[test]
 fn one_file_again_and_again(rt: HostRuntime) {
     let alloc = rt.alloc();
@@ -66,8 +66,8 @@ fn one_file_again_and_again(rt: HostRuntime) {
     drop(again.close());
 }
 
-/// The tag of zeros is false while its file is there. The gate of a creation is at place 86, and that of
-/// its replacement is 178 bytes behind it.
+/// The tag of zeros is false while its file is there. The gate of a creation is at place 86, and
+/// that of its replacement is 178 bytes behind it.
 #[test]
 fn the_tag_of_a_replaced_file_is_not_looked_at(rt: HostRuntime) {
     let alloc = rt.alloc();
@@ -95,8 +95,8 @@ fn has_what_it_says(alloc: Global, image: MemDisk) -> bool {
     right
 }
 
-/// A stop of a replacement leaves the old file whole or the new one, and the next replacement, which
-/// takes the blocks of the first file, changes nothing of that.
+/// A stop of a replacement leaves the old file whole or the new one, and the next replacement,
+/// which takes the blocks of the first file, changes nothing of that.
 #[test]
 fn a_stop_after_each_call_of_a_replacement(rt: HostRuntime) {
     let alloc = rt.alloc();
