@@ -193,8 +193,10 @@ module _ {D : Type 0} (tells : DiskTells D) where
       AreSteps r = (j : Masters) (q : PlainHistory) → mid.kept.masters ≡ j → StandsFor mid.kept q → StepsAt tells j q AskEpoch mid last r
 
       epoch_some : (c : Image) → KeepsStep k h (after_load h load) AskEpoch c → KeepsSome k h load c
-      epoch_some c (inl keeps) = (WORKLOAD_USERS + load.count, omega arith, inr keeps)
-      epoch_some c (inr keeps) = (WORKLOAD_USERS + load.count, omega arith, inr keeps)
+      epoch_some c (inl keeps) =
+          (WORKLOAD_USERS + load.count, omega arith, keeps_stands k h (after_load h load) c keeps)
+      epoch_some c (inr keeps) =
+          (WORKLOAD_USERS + load.count, omega arith, keeps_stands k h (after_load h load) c keeps)
 
       moments_at_end : LeavesStep tells k h (after_load h load) AskEpoch mid.disk last.disk
           → Holds tells k h h first.disk
