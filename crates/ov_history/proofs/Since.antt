@@ -5,17 +5,19 @@ use Rattle.std.specs.Prelude.{not}
 use Rattle.ov_base.proofs.Tests.{lt_is_true}
 use Rattle.ov_history.specs.Fading.{AgreeButGone, AgreeFrom, faded, faded_all, faded_from}
 use Rattle.ov_history.specs.Fading.{faded_if, faded_of, is_gone_from, made_by, was_gone}
-use Rattle.ov_history.specs.History.{History, matrix_of, no_one}
+use Rattle.ov_history.specs.FadingLaws.{SealedSinceGoesOn, SealedSinceItself}
+use Rattle.ov_history.specs.History.{History, Update, matrix_of, no_one}
+use Rattle.ov_history.specs.Layers.{layers_of}
 use Rattle.ov_history.specs.Lists.{is_file}
 use Rattle.ov_history.specs.Masters.{Masters}
-use Rattle.ov_history.specs.Plain.{PlainHistory}
+use Rattle.ov_history.specs.Plain.{PlainHistory, history_of}
 use Rattle.ov_history.specs.Sealed.{SealedHistory, outer_of, with_sealed}
-use Rattle.ov_history.specs.Sealing.{IsSealedAs, IsSealedSince, sealed}
+use Rattle.ov_history.specs.Sealing.{IsSealedAs, IsSealedSince, sealed, sealed_update}
 use Rattle.ov_history.specs.Sent.{SealedUpdate, SealedEnrol, SealedCreate, SealedGrant}
 use Rattle.ov_history.specs.Sent.{SealedRevoke, SealedRemove, SealedReplace}
 use Rattle.ov_history.proofs.Agreeing.{faded-append, made_all, made_all-faded, made_many}
-use Rattle.ov_history.proofs.Fading.{outer_faded_of}
-use Rattle.ov_history.proofs.Sealing.{sealing_is_outer}
+use Rattle.ov_history.proofs.Fading.{outer_all_dim, outer_faded_of}
+use Rattle.ov_history.proofs.Sealing.{sealing_goes_on, sealing_is_outer}
 
 -- ---- at the start
 
@@ -63,6 +65,12 @@ end_fades g =
     ap (λ (us : List SealedUpdate). record g { updates = us })
     (all_alike (was_gone (outer_of g)) (is_gone_from g) 0 g.updates (gone_alike g))
 
+-- what fades from a start is the same update without its parts
+outer_from : (start : History) (g : SealedHistory) → outer_of (faded_from start g) ≡ outer_of g
+outer_from start g =
+    ap (λ (us : List Update). record { mode = g.mode; first = g.first; updates = us })
+    (outer_all_dim (was_gone start) 0 g.updates)
+
 -- histories that agree do so from their own end
 agree_from_end : (g h : SealedHistory) → AgreeButGone g h → AgreeFrom (outer_of h) g h
 agree_from_end g h agree =
@@ -71,12 +79,30 @@ agree_from_end g h agree =
     ap (λ (start : History). faded_from start g) (sym same)
     ∙ end_fades g ∙ agree ∙ sym (end_fades h)
 
+-- and the other way round
+agree_at_end : (g h : SealedHistory) → AgreeFrom (outer_of h) g h → AgreeButGone g h
+agree_at_end g h agree =
+    let same : outer_of g ≡ outer_of h =
+    sym (outer_from (outer_of h) g) ∙ ap (λ (it : SealedHistory). outer_of it) agree
+    ∙ outer_from (outer_of h) h in
+    sym (end_fades g) ∙ ap (λ (start : History). faded_from start g) same
+    ∙ agree ∙ end_fades h
+
 -- a history that is right by a plain one is its sealed form since that one
 pub sealed_since : (k : Masters) (p : PlainHistory) (g : SealedHistory) → IsSealedAs k p g
     → IsSealedSince k p p g
 sealed_since k p g right =
     subst (λ (start : History). AgreeFrom start g (sealed k p)) (sealing_is_outer k p)
     (agree_from_end g (sealed k p) right)
+
+pub sealed_since_itself : SealedSinceItself
+sealed_since_itself k p g = (
+  λ since.
+      agree_at_end g (sealed k p)
+      (subst (λ (start : History). AgreeFrom start g (sealed k p)) (sym (sealing_is_outer k p))
+      since),
+  sealed_since k p g,
+)
 
 -- ---- one more update
 
@@ -103,3 +129,9 @@ since_goes_on start g h u agree =
     faded_from-push start g u
     ∙ ap (λ (it : SealedHistory). faded_with (was_gone start) it u) agree
     ∙ sym (faded_from-push start h u)
+
+pub sealed_since_goes_on : SealedSinceGoesOn
+sealed_since_goes_on k start p u g since =
+    since_goes_on (history_of start) g (sealed k p)
+    (sealed_update k (layers_of (history_of p)) u) since
+    ∙ ap (λ (it : SealedHistory). faded_from (history_of start) it) (sym (sealing_goes_on k p u))

@@ -1,15 +1,17 @@
 -- The laws of files that are gone: nobody can tell their tags and bytes.
-use Rattle.std.specs.Prelude.{◌≡◌, ℕ, true, List, [], Some, slice_index_or}
+use Rattle.std.specs.Prelude.{◌≡◌, ◌↔◌, ℕ, true, List, [], Some, slice_index_or}
 use Rattle.ov_history.specs.Places.{living_at}
 use Rattle.ov_history.specs.Catalogue.{Filed}
 use Rattle.ov_history.specs.History.{matrix_of}
 use Rattle.ov_history.specs.Lists.{is_file}
-use Rattle.ov_history.specs.Plain.{PlainHistory, bytes_of, history_of}
+use Rattle.ov_history.specs.Layers.{layers_of}
+use Rattle.ov_history.specs.Plain.{PlainHistory, PlainUpdate, bytes_of, history_of, with_plain}
 use Rattle.ov_history.specs.Refusals.{IsLegal}
 use Rattle.ov_history.specs.Masters.{Masters}
 use Rattle.ov_history.specs.Sealed.{SealedHistory, IsSealed, catalogue_of, sent_of, stored_of}
+use Rattle.ov_history.specs.Sealed.{with_sealed}
 use Rattle.ov_history.specs.Fading.{AgreeButGone, faded_of}
-use Rattle.ov_history.specs.Sealing.{IsSealedAs}
+use Rattle.ov_history.specs.Sealing.{IsSealedAs, IsSealedSince, sealed_update}
 
 -- it is as its owner sealed this legal history, but for tags and bytes of files that are gone
 abbrev pub IsRight : Masters → PlainHistory → SealedHistory → Type 0
@@ -56,3 +58,18 @@ RightHistoriesReadAlike =
     → (history_of p ≡ history_of q)
     × ((file : ℕ) → is_file (matrix_of (history_of p)) file ≡ true
     → bytes_of p file ≡ bytes_of q file)
+
+-- ---- files that were gone at a start
+
+-- at the start itself, what is the sealed form since then is just what is right
+abbrev pub SealedSinceItself : Type 0
+SealedSinceItself =
+    (k : Masters) (p : PlainHistory) (g : SealedHistory) → IsSealedSince k p p g ↔ IsSealedAs k p g
+
+-- and it stays the sealed form since then with an update as its owner seals it
+abbrev pub SealedSinceGoesOn : Type 0
+SealedSinceGoesOn =
+    (k : Masters) (start p : PlainHistory) (u : PlainUpdate) (g : SealedHistory)
+    → IsSealedSince k start p g
+    → IsSealedSince k start (with_plain p u)
+    (with_sealed g (sealed_update k (layers_of (history_of p)) u))
