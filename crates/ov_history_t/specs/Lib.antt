@@ -1,3 +1,4 @@
+pub mod Fading
 pub mod Layers
 pub mod Machine
 pub mod Ordering

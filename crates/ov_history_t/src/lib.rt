@@ -6,12 +6,14 @@
 //! statements are in `specs/`, and each says what the turned definition would give.
 #![tactic(auto)]
 
+mod fading;
 mod layers;
 mod machine;
 mod ordering;
 mod refusing;
 mod replacing;
 
+pub use fading::files_fade_from_a_start;
 pub use layers::{
     a_base_coat_is_under_the_access_key, a_new_file_has_a_node_of_its_own_list,
     a_number_is_given_once, a_surface_for_the_holders_is_wanted, accesses_outlive_files,
