@@ -151,7 +151,7 @@ module _ (is_out : ℕ → Bool) where
       )
 
 -- what fades by a first test fades by a second one, by which no fewer files are gone
-faded_more : (small big : ℕ → Bool) (number : ℕ) (updates : List SealedUpdate)
+pub faded_more : (small big : ℕ → Bool) (number : ℕ) (updates : List SealedUpdate)
     → ((n : ℕ) → n < number + made_all updates → small n ≡ true → big n ≡ true)
     → faded_all big number (faded_all small number updates) ≡ faded_all big number updates
 faded_more small big number [] goes = refl

@@ -1,23 +1,29 @@
 -- Sealed histories that agree but for files that were gone at a start go on alike.
 use Rattle.std.proofs.Common.{◌≡◌, ◌∙◌, ℕ, ◌+◌, ◌<◌, Bool, true, false, ◌&&◌, List, [], ◌∷◌, ◌++◌}
 use Rattle.std.proofs.Common.{length, refl, sym, ap, subst, arith, true≢false}
-use Rattle.std.specs.Prelude.{not}
-use Rattle.ov_base.proofs.Tests.{lt_is_true}
+use Rattle.std.specs.Prelude.{not, nat_lt}
+use Rattle.std.proofs.lemmas.Bool.{and_parts}
+use Rattle.ov_base.proofs.Tests.{lt_is_true, lt_of_true}
 use Rattle.ov_history.specs.Fading.{AgreeButGone, AgreeFrom, faded, faded_all, faded_from}
 use Rattle.ov_history.specs.Fading.{faded_if, faded_of, is_gone_from, made_by, was_gone}
-use Rattle.ov_history.specs.FadingLaws.{SealedSinceGoesOn, SealedSinceItself}
+use Rattle.ov_history.specs.FadingLaws.{SealedSinceGoesOn, SealedSinceIsRight}
+use Rattle.ov_history.specs.FadingLaws.{SealedSinceItself}
 use Rattle.ov_history.specs.History.{History, Update, matrix_of, no_one}
 use Rattle.ov_history.specs.Layers.{layers_of}
 use Rattle.ov_history.specs.Lists.{is_file}
 use Rattle.ov_history.specs.Masters.{Masters}
-use Rattle.ov_history.specs.Plain.{PlainHistory, history_of}
+use Rattle.ov_history.specs.Plain.{PlainHistory, history_of, measured_all}
 use Rattle.ov_history.specs.Sealed.{SealedHistory, outer_of, with_sealed}
 use Rattle.ov_history.specs.Sealing.{IsSealedAs, IsSealedSince, sealed, sealed_update}
 use Rattle.ov_history.specs.Sent.{SealedUpdate, SealedEnrol, SealedCreate, SealedGrant}
 use Rattle.ov_history.specs.Sent.{SealedRevoke, SealedRemove, SealedReplace}
-use Rattle.ov_history.proofs.Agreeing.{faded-append, made_all, made_all-faded, made_many}
+use Rattle.ov_history.specs.Words.{HasFile, longer, longer_plain}
+use Rattle.ov_history.proofs.Agreeing.{faded-append, faded_more, made_all, made_all-faded}
+use Rattle.ov_history.proofs.Agreeing.{made_many}
 use Rattle.ov_history.proofs.Fading.{outer_all_dim, outer_faded_of}
+use Rattle.ov_history.proofs.PlainLaws.{history_of-longer}
 use Rattle.ov_history.proofs.Sealing.{sealing_goes_on, sealing_is_outer}
+use Rattle.ov_history.proofs.Staying.{gone_stays_gone}
 
 -- ---- at the start
 
@@ -135,3 +141,50 @@ sealed_since_goes_on k start p u g since =
     since_goes_on (history_of start) g (sealed k p)
     (sealed_update k (layers_of (history_of p)) u) since
     ∙ ap (λ (it : SealedHistory). faded_from (history_of start) it) (sym (sealing_goes_on k p u))
+
+-- ---- histories that go on from the start
+
+-- a file that was gone at a start is gone from a history that goes on from it
+stays_out : (start : History) (more : List Update) (g : SealedHistory)
+    → outer_of g ≡ longer start more → (n : ℕ) → was_gone start n ≡ true
+    → is_gone_from g n ≡ true
+stays_out start more g is n was = by_test (is_file (matrix_of (outer_of g)) n) refl where
+  both : (nat_lt n (length (matrix_of start).files) ≡ true)
+      × (not (is_file (matrix_of start) n) ≡ true)
+  both =
+      and_parts (nat_lt n (length (matrix_of start).files)) (not (is_file (matrix_of start) n)) was
+
+  by_test : (b : Bool) → is_file (matrix_of (outer_of g)) n ≡ b → is_gone_from g n ≡ true
+  by_test false out = ap not out
+  by_test true there =
+      let here : HasFile (longer start more) n = subst (λ (h : History). HasFile h n) is there in
+      let below : n < length (matrix_of start).files =
+      lt_of_true n (length (matrix_of start).files) both.0 in
+      let still : is_file (matrix_of start) n ≡ true = gone_stays_gone start more n below here in
+      absurd (true≢false (sym both.1 ∙ ap not still))
+
+-- the history, with zeros for the tags and the bytes of the files that are gone from another one
+abbrev faded_by : History → SealedHistory → SealedHistory
+faded_by h g = record g { updates = faded_all (λ n. not (is_file (matrix_of h) n)) 0 g.updates }
+
+-- what fades from a start and then from its own end fades from its end
+fades_on : (start : History) (more : List Update) (g : SealedHistory)
+    → outer_of g ≡ longer start more → faded_by (outer_of g) (faded_from start g) ≡ faded_of g
+fades_on start more g is =
+    ap (λ (us : List SealedUpdate). record g { updates = us })
+    (faded_more (was_gone start) (is_gone_from g) 0 g.updates
+    (λ n low was. stays_out start more g is n was))
+
+pub sealed_since_is_right : SealedSinceIsRight
+sealed_since_is_right k p more g since =
+    let q : PlainHistory = longer_plain p more in
+    let h : SealedHistory = sealed k q in
+    let start : History = history_of p in
+    let on : List Update = measured_all more in
+    let same : outer_of g ≡ outer_of h =
+    sym (outer_from start g) ∙ ap (λ (it : SealedHistory). outer_of it) since
+    ∙ outer_from start h in
+    let ends : outer_of h ≡ longer start on = sealing_is_outer k q ∙ history_of-longer p more in
+    sym (fades_on start on g (same ∙ ends))
+    ∙ (λ i. faded_by (same i) (since i))
+    ∙ fades_on start on h ends

@@ -12,6 +12,7 @@ use Rattle.ov_history.specs.Sealed.{SealedHistory, IsSealed, catalogue_of, sent_
 use Rattle.ov_history.specs.Sealed.{with_sealed}
 use Rattle.ov_history.specs.Fading.{AgreeButGone, faded_of}
 use Rattle.ov_history.specs.Sealing.{IsSealedAs, IsSealedSince, sealed_update}
+use Rattle.ov_history.specs.Words.{longer_plain}
 
 -- it is as its owner sealed this legal history, but for tags and bytes of files that are gone
 abbrev pub IsRight : Masters → PlainHistory → SealedHistory → Type 0
@@ -73,3 +74,9 @@ SealedSinceGoesOn =
     → IsSealedSince k start p g
     → IsSealedSince k start (with_plain p u)
     (with_sealed g (sealed_update k (layers_of (history_of p)) u))
+
+-- what is the sealed form since a start is right: a file that was gone there stays so
+abbrev pub SealedSinceIsRight : Type 0
+SealedSinceIsRight =
+    (k : Masters) (p : PlainHistory) (more : List PlainUpdate) (g : SealedHistory)
+    → IsSealedSince k p (longer_plain p more) g → IsSealedAs k (longer_plain p more) g

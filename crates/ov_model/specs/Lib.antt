@@ -1,6 +1,7 @@
 pub mod Agreement
 pub mod Alike
 pub mod Lines
+pub mod Since
 pub mod Step
 pub mod Streams
 pub use Rattle.ov_history.specs.History

@@ -9,6 +9,7 @@
 //! | `Step` | the reply to a command at a history, and the history after it |
 //! | `Lines` | the reply lines of a list of commands, one behind the other |
 //! | `Alike` | that histories by which one sealed history is right are answered alike |
+//! | `Since` | what commands leave but for files that were gone before them |
 //! | `Agreement` | that records and frames spell an update alike |
 //! | `Streams` | that a stream is cut into frames in one way |
 //!
@@ -22,5 +23,5 @@ mod machine;
 pub use frames::{frames_hold_spellings, frames_take_updates, streams_are_cut_one_way};
 pub use machine::{
     a_refusal_changes_nothing, an_update_raises_the_epoch, legal_histories_go_on,
-    right_histories_answer_alike,
+    right_histories_answer_alike, sealed_forms_are_right_after_commands,
 };

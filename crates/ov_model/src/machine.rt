@@ -7,6 +7,7 @@ ghost use Rattle.ov_history.specs.History.{epoch_of};
 ghost use Rattle.ov_history.specs.Plain.{PlainHistory, history_of};
 ghost use Rattle.ov_history.specs.Refusals.{IsLegal};
 ghost use Rattle.ov_model.specs.Alike.{RightHistoriesHaveSameLines, RightHistoriesStepAlike};
+ghost use Rattle.ov_model.specs.Since.{SealedFormsAreRight};
 ghost use Rattle.ov_model.specs.Step.{reply_to, after, after_all};
 
 /// A command that is refused changes nothing.
@@ -34,4 +35,10 @@ pub fn legal_histories_go_on()
 pub fn right_histories_answer_alike()
     ensures step { RightHistoriesStepAlike }
     ensures lines { RightHistoriesHaveSameLines }
+{}
+
+/// What a disk keeps after commands, but for files that were gone before them, is right by the
+/// history after them: so it opens for that one.
+pub fn sealed_forms_are_right_after_commands()
+    ensures { SealedFormsAreRight }
 {}
