@@ -133,7 +133,7 @@ module _ (master : List ℕ) (g : SealedHistory) (fit : IsSealed g) (file : ℕ)
       ∙ ap (λ (o : Option Place). unwrap_or o no_place) (places-at c.files file)
       ∙ ap (λ (o : Option Filed). unwrap_or (option_map place_of_file o) no_place) is
 
-  same_there : is_some (living_at (catalogue_of master g).files file)
+  pub same_there : is_some (living_at (catalogue_of master g).files file)
       ≡ is_file (matrix_of (outer_of g)) file
   same_there =
       let c : Catalogue = catalogue_of master g in

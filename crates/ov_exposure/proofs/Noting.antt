@@ -180,7 +180,7 @@ new_there m (Replaced place size) file past below =
     )))
 
 -- a number that is new with an update is that of a file in the longer history
-new_in : (g : SealedHistory) (u : SealedUpdate) (file : ℕ)
+pub new_in : (g : SealedHistory) (u : SealedUpdate) (file : ℕ)
     → length (matrix_of (outer_of g)).files ≤ file
     → file < length (matrix_of (outer_of (with_sealed g u))).files
     → HasFile (outer_of (with_sealed g u)) file

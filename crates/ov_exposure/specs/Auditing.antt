@@ -1,8 +1,7 @@
 -- What an audit notes while it sees one state of a store after the other, and what it finds.
 use Rattle.std.specs.Prelude.{◌≡◌, ◌↔◌, ◌||◌, ℕ, ◌+◌, ◌<◌, Bool, true, false, List, [], ◌∷◌, length}
-use Rattle.std.specs.Prelude.{Contains, Option, Some, None, is_none, slice_get, not, ◌==◌}
-use Rattle.std.specs.Prelude.{bit_and}
-use Rattle.ov_base.specs.Sets.{Has, has}
+use Rattle.std.specs.Prelude.{◌≤◌, Contains, Option, Some, None, is_none, is_some, slice_get}
+use Rattle.ov_base.specs.Sets.{Has, has, meets}
 use Rattle.ov_history.specs.Sent.{SealedUpdate}
 use Rattle.ov_history.specs.History.{matrix_of}
 use Rattle.ov_history.specs.Places.{living_at}
@@ -34,10 +33,6 @@ any_in (user ∷ users) set = has set user || any_in users set
 -- the users are the members of the set
 abbrev pub AreMembers : List ℕ → ℕ → Type 0
 AreMembers users set = (user : ℕ) → Contains users user ↔ Has set user
-
--- whether some user is in both sets
-abbrev pub meets : ℕ → ℕ → Bool
-meets a b = not (bit_and a b == 0)
 
 -- the epoch that was noted, and where there is none this one, if it is so now
 abbrev pub noted : Bool → ℕ → Option ℕ → Option ℕ
@@ -80,6 +75,14 @@ AreNext users c notes next =
     (length next ≡ length c.files)
     × ((file : ℕ) → file < length c.files
     → slice_get next file ≡ Some (next_note users c file (slice_get notes file)))
+
+-- The state may be the next that an audit with these notes looks at: each file that was noted has its
+-- number still, and at most one more has one, which is there.
+pub record MayFollow (notes : List Note) (c : Catalogue) : Type 0 where
+  pub noted : length notes ≤ length c.files
+  pub few : length c.files ≤ length notes + 1
+  pub there : length notes < length c.files
+      → is_some (living_at c.files (length notes)) ≡ true
 
 -- ---- what it is worth
 
@@ -157,6 +160,13 @@ MeetsIsAny =
 abbrev pub NothingIsSeen : Type 0
 NothingIsSeen =
     (g : SealedHistory) (users : List ℕ) → g.updates ≡ [] → HasSeen g users []
+
+-- the state after one more update of a history that was seen may follow
+abbrev pub NextMayFollow : Type 0
+NextMayFollow =
+    (master : List ℕ) (g : SealedHistory) (u : SealedUpdate) (users : List ℕ) (notes : List Note)
+    → IsSealed (with_sealed g u) → HasSeen g users notes
+    → MayFollow notes (catalogue_of master (with_sealed g u))
 
 -- anyone who has seen a history, and looks at the state after one more update, has seen the longer one
 abbrev pub AuditsGoOn : Type 0

@@ -1,6 +1,7 @@
 //! What has been given away, for the proofs of callers. The functions do nothing.
 ghost use Rattle.ov_exposure.specs.Auditing.{AuditsGoOn, FindingsAreExact, FindingsAreInOrder};
-ghost use Rattle.ov_exposure.specs.Auditing.{FindingsAreThose, MeetsIsAny, NothingIsSeen};
+ghost use Rattle.ov_exposure.specs.Auditing.{FindingsAreThose, MeetsIsAny, NextMayFollow};
+ghost use Rattle.ov_exposure.specs.Auditing.{NothingIsSeen};
 ghost use Rattle.ov_exposure.specs.Exposure.{BaseNodeIsOne, CoalitionReadsAsOne, FullReadsWhatWasListed};
 ghost use Rattle.ov_exposure.specs.Exposure.{ExposedIsReadable, ExposedOnce};
 ghost use Rattle.ov_exposure.specs.Exposure.{NameIsOne, NoneIsBareInFull, ReadsWhatWasListedOrBare};
@@ -36,6 +37,7 @@ pub fn what_is_exposed_can_be_read()
 /// file is exposed.
 pub fn audits_go_on()
     ensures nothing { NothingIsSeen }
+    ensures follows { NextMayFollow }
     ensures goes_on { AuditsGoOn }
     ensures findings { FindingsAreExact }
     ensures those { FindingsAreThose }
