@@ -37,11 +37,11 @@ meets-empty a =
 
 -- ---- a set with one user more
 
-or_true : (x : Bool) → (x || true) ≡ true
+pub or_true : (x : Bool) → (x || true) ≡ true
 or_true true = refl
 or_true false = refl
 
-or_false : (x : Bool) → (x || false) ≡ x
+pub or_false : (x : Bool) → (x || false) ≡ x
 or_false true = refl
 or_false false = refl
 
