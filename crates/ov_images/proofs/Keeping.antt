@@ -9,12 +9,14 @@ use Rattle.ov_record.specs.Updates.{SealedUpdate}
 use Rattle.ov_history.specs.Briefs.{brief}
 use Rattle.ov_history.specs.Catalogue.{Catalogue, catalogue_after}
 use Rattle.ov_history.specs.Sealed.{KeepsBytes, SealedHistory, IsSealed, with_sealed}
+use Rattle.ov_history.specs.Fading.{AgreeButGone}
 use Rattle.ov_history.specs.Texts.{BriefHistory, IsSealedBriefly, brief_of, with_brief}
 use Rattle.ov_history.specs.Placed.{IsReplayedTo, PlacedHistory, PlacedUpdate, cut, placed_after}
 use Rattle.ov_history.specs.Placed.{placed_of, unplaced, with_placed}
 use Rattle.ov_history.proofs.Briefly.{brief_of-push, briefs_are_enough}
 use Rattle.ov_history.proofs.Coating.{stored_tells_texts}
 use Rattle.ov_history.proofs.Extents.{extents_go_on}
+use Rattle.ov_history.proofs.FadedBytes.{agreeing_store_the_same}
 use Rattle.ov_history.proofs.Placed.{extents_tell_histories, replays_go_on}
 use Rattle.ov_history.proofs.Replaying.{briefs_stop}
 use Rattle.ov_disk.specs.Disk.{Image}
@@ -27,7 +29,7 @@ use Rattle.ov_images.specs.Records.{AllHaveForm, HasRecordForm, bodies_of, form_
 use Rattle.ov_images.specs.Records.{record_spelling}
 use Rattle.ov_images.specs.Extents.{IsLaidOut, blocks_in, catalogue_at, stored_in}
 use Rattle.ov_images.specs.Images.{HasRecords, Keeps, KeepsAt, header_of}
-use Rattle.ov_images.specs.Laws.{HasOneMore, KeepingGoesOn, KeepsOnce, KeptIsBorn}
+use Rattle.ov_images.specs.Laws.{GoneFilesAreFree, HasOneMore, KeepingGoesOn, KeepsOnce, KeptIsBorn}
 use Rattle.ov_images.specs.Laws.{KeptIsSealed, KeysAreKept, PlacesAreKeptOnce}
 use Rattle.ov_images.specs.Laws.{RecordsAreKept, SameExtentsKeepTheSame, placed_as}
 use Rattle.ov_images.proofs.Headers.{born_is_store, first_of-spelled, mode_of-spelled}
@@ -55,9 +57,9 @@ places_once k other p q i one two =
     (subst (λ (s : Option ℕ). AllHaveForm s q.updates) step two.form) bodies in
     λ j. record { mode = mode j; first = first j; updates = updates j }
 
--- an image keeps one history under one surface master
+-- an image keeps one history under one surface master, but for files that are gone
 once : (k other : Keys) (g h : SealedHistory) (i : Image) → k.surface ≡ other.surface
-    → Keeps k g i → Keeps other h i → g ≡ h
+    → Keeps k g i → Keeps other h i → AgreeButGone g h
 once k other g h i surfaces (p, one) (q, two) =
     let same : p ≡ q = places_once k other p q i one.records two.records in
     let files : KeepsBytes k.surface (stored_in k.surface q i.blobs) h =
@@ -103,6 +105,22 @@ is_sealed k g i (p, keeps) =
     (briefs_are_enough g).0.1
     (subst (λ (b : BriefHistory). IsSealedBriefly b) (sym keeps.briefs)
     keeps.records.laid_out.replayed.stands.0)
+
+-- whatever the bytes of gone files are
+pub gone_files_are_free : GoneFilesAreFree
+gone_files_are_free k p g h i keeps briefs agree =
+    let same : brief_of h ≡ unplaced p = briefs ∙ keeps.briefs in
+    let fits : IsSealed h =
+    (briefs_are_enough h).0.1
+    (subst (λ (b : BriefHistory). IsSealedBriefly b) (sym same)
+    keeps.records.laid_out.replayed.stands.0) in
+    record {
+      briefs = same;
+      records = keeps.records;
+      files =
+          keeps.files
+          ∙ agreeing_store_the_same k.surface g h (is_sealed k g i (p, keeps)) fits (sym agree);
+    }
 
 pub records_are_kept : RecordsAreKept
 records_are_kept k p i has =

@@ -11,7 +11,7 @@ use Rattle.ov_record.specs.Forms.{Form}
 use Rattle.ov_record.specs.Forms.{first_form, second_form}
 use Rattle.ov_record.specs.Reading.{brief_at}
 use Rattle.ov_record.specs.Updates.{SealedUpdate, SealedEnrol}
-use Rattle.ov_history.specs.Briefs.{BriefEnrol}
+use Rattle.ov_history.specs.Briefs.{BriefEnrol, BriefRemove}
 use Rattle.ov_history.specs.Placed.{PlacedHistory, PlacedUpdate}
 use Rattle.ov_history.specs.Sealed.{SealedHistory}
 use Rattle.ov_disk.specs.Disk.{image}
@@ -69,6 +69,13 @@ step_record = 1 ∷ 0 ∷ 0 ∷ 0 ∷ 1 ∷ 5 ∷ []
 -- a record whose body is that of a step record and one byte more
 abbrev pub longer_record : List ℕ
 longer_record = 1 ∷ 0 ∷ 0 ∷ 0 ∷ 2 ∷ 5 ∷ 0 ∷ []
+
+-- the body of the removal of the first file: the kind byte and the file
+abbrev pub removal_body : List ℕ
+removal_body = 6 ∷ 0 ∷ 0 ∷ 0 ∷ 0 ∷ []
+
+abbrev pub removal_record : List ℕ
+removal_record = 1 ∷ 0 ∷ 0 ∷ 0 ∷ 5 ∷ removal_body
 
 -- both records, of alice and of bob
 abbrev pub both_records : List ℕ
@@ -262,6 +269,12 @@ unfolding brief_at
 five_stops form rest =
     let at : length (5 ∷ rest) - length (5 ∷ rest) ≡ 0 = omega arith in ap (λ (n : ℕ). Err n) at
 
+-- no update of the first form begins with the byte 6
+six_stops : (rest : List ℕ) → StopsInUpdate first_form (6 ∷ rest) 0
+unfolding brief_at
+six_stops rest =
+    let at : length (6 ∷ rest) - length (6 ∷ rest) ≡ 0 = omega arith in ap (λ (n : ℕ). Err n) at
+
 -- ---- the rows
 
 module _ (k : Keys) (blobs : List ℕ) (long : length k.base_check ≡ 32) where
@@ -317,6 +330,36 @@ module _ (k : Keys) (blobs : List ℕ) (long : length k.base_check ≡ 32) where
   longer_step =
       misspelled_behind k blobs long 1 (Some 3) (both_records ++ longer_record ++ 0 ∷ [])
       (5 ∷ 0 ∷ []) 0 refl (five_stops first_form (0 ∷ []))
+
+  pub removal_under_first : IsBadAt 1 (both_records ++ removal_record ++ 0 ∷ []) 105
+  removal_under_first =
+      misspelled_behind k blobs long 1 (Some 3) (both_records ++ removal_record ++ 0 ∷ [])
+      removal_body 0 refl (six_stops (0 ∷ 0 ∷ 0 ∷ 0 ∷ []))
+
+  -- there is no file to remove
+  pub removal_refused : IsBadAt 2 (both_records ++ removal_record ++ 0 ∷ []) 100
+  removal_refused =
+      bad_book 2 k blobs (both_records ++ removal_record ++ 0 ∷ [])
+      (record { bodies = bodies_of None two_users ++ removal_body ∷ []; step = None; bad = None })
+      (in_book 100) long refl
+      (λ master. record {
+        history = placed two_users;
+        kept = record {
+          mode_is = refl;
+          first_is = refl;
+          form = two_form None;
+          laid_out = two_laid master (blocks_in blobs);
+        };
+        body = removal_body;
+        rest = [];
+        split = refl;
+        bad = inr (inl (record {
+          update = BriefRemove 0;
+          begins = record { has_form = (refl, lit< tt); rest = []; bytes = refl };
+          unfit = λ fit. absurd (cc fit.2.2.0);
+          spot_is = refl;
+        }));
+      })
 
 -- ---- how long the books are
 

@@ -3,10 +3,9 @@ use Rattle.std.specs.Prelude.{◌≡◌, ◌⊎◌, ◌<◌, ◌^◌, ℕ, List,
 use Rattle.ov_base.specs.declared.mode.Mode.{Mode}
 use Rattle.ov_tokens.specs.Keys.{check_value_of}
 use Rattle.ov_record.specs.Updates.{SealedUpdate}
-use Rattle.ov_history.specs.Plain.{PlainHistory, history_of}
-use Rattle.ov_history.specs.Refusals.{IsLegal}
+use Rattle.ov_history.specs.Plain.{PlainHistory}
 use Rattle.ov_history.specs.Masters.{Masters}
-use Rattle.ov_history.specs.Sealing.{sealed}
+use Rattle.ov_history.specs.FadingLaws.{IsRight}
 use Rattle.ov_history.specs.Sealed.{KeepsBytes, SealedHistory, blank, with_sealed}
 use Rattle.ov_history.specs.Texts.{brief_of}
 use Rattle.ov_history.specs.Placed.{PlacedHistory, unplaced}
@@ -59,7 +58,8 @@ pub record HasRecords (k : Keys) (p : PlacedHistory) (i : Image) : Type 0 where
   pub book : contents_of i.book ≡ born (header_of k format p) step (bodies_of step p.updates)
 
 -- The image keeps the history, with these first blocks: it has its records, and the latest extent
--- of each file holds its stored bytes at the history's end.
+-- of each file that is there holds its stored bytes at the history's end. Nothing is said of files
+-- that are gone.
 pub record KeepsAt (k : Keys) (p : PlacedHistory) (g : SealedHistory) (i : Image) : Type 0 where
   pub briefs : brief_of g ≡ unplaced p
   pub records : HasRecords k p i
@@ -78,12 +78,13 @@ IsImageOf k g i = (IsUnborn i.book × (g ≡ blank g.mode 0)) ⊎ Keeps k g i
 abbrev pub StandsIn : Keys → Mode → Image → Type 0
 StandsIn k mode i = (g : SealedHistory) × (g.mode ≡ mode) × IsImageOf k g i
 
--- the image opens for these masters and this mode: it stands for a legal history of that mode as it
--- is sealed under the masters
+-- the image opens for these masters and this mode: it stands for a history of that mode that is
+-- right, which is a legal one as it is sealed under the masters, but for tags and bytes of files that
+-- are gone
 abbrev pub Opens : Masters → Mode → Image → Type 0
 Opens k mode i =
-    (p : PlainHistory) × IsLegal (history_of p) × (p.mode ≡ mode)
-    × IsImageOf (keys_of k) (sealed k p) i
+    (p : PlainHistory) × (g : SealedHistory) × IsRight k p g × (p.mode ≡ mode)
+    × IsImageOf (keys_of k) g i
 
 -- the image keeps the history, or the history with one more update
 abbrev pub KeepsEither : Keys → SealedHistory → SealedUpdate → Image → Type 0

@@ -9,6 +9,7 @@ use Rattle.ov_history.specs.Briefs.{brief, text_of}
 use Rattle.ov_history.specs.Catalogue.{empty_catalogue}
 use Rattle.ov_history.specs.Rewrites.{rewrites_of, with_text}
 use Rattle.ov_history.specs.Sealed.{SealedHistory, IsSealed, with_sealed}
+use Rattle.ov_history.specs.Fading.{AgreeButGone}
 use Rattle.ov_history.specs.Texts.{brief_of}
 use Rattle.ov_history.specs.Placed.{AllHaveFirsts, HasFirsts, HoldRewrites, PlacedHistory}
 use Rattle.ov_history.specs.Placed.{PlacedUpdate, placed_of, unplaced, with_placed}
@@ -27,9 +28,17 @@ use Rattle.ov_images.specs.Damage.{HasBadRecords, HasBadRecordsUnder, HasHeader,
 
 -- ---- one history
 
--- an image keeps at most one history under the same keys
+-- an image keeps at most one history under the same keys, but for the bytes of files that are gone
 abbrev pub KeepsOnce : Type 0
-KeepsOnce = (k : Keys) (g h : SealedHistory) (i : Image) → Keeps k g i → Keeps k h i → g ≡ h
+KeepsOnce =
+    (k : Keys) (g h : SealedHistory) (i : Image) → Keeps k g i → Keeps k h i → AgreeButGone g h
+
+-- What an image keeps says nothing of files that are gone: it keeps each other history with the same
+-- updates that differs in the bytes of these alone.
+abbrev pub GoneFilesAreFree : Type 0
+GoneFilesAreFree =
+    (k : Keys) (p : PlacedHistory) (g h : SealedHistory) (i : Image)
+    → KeepsAt k p g i → brief_of h ≡ brief_of g → AgreeButGone h g → KeepsAt k p h i
 
 -- an image has the records of at most one history with first blocks, whatever the keys
 abbrev pub PlacesAreKeptOnce : Type 0
@@ -39,15 +48,15 @@ PlacesAreKeptOnce =
 
 -- Of an image that keeps a history under these keys and one under others, both have the same
 -- updates but for the bytes of files, and both check values are the same. Where the surface masters
--- are the same too, so are the histories. Otherwise the coats of two masters may come off the same
--- stored bytes and leave two texts.
+-- are the same too, so are the histories, but for the bytes of files that are gone. Otherwise the
+-- coats of two masters may come off the same stored bytes and leave two texts.
 abbrev pub KeysAreKept : Type 0
 KeysAreKept =
     (k other : Keys) (g h : SealedHistory) (i : Image)
     → length k.base_check ≡ 32 → length other.base_check ≡ 32 → Keeps k g i → Keeps other h i
     → (brief_of g ≡ brief_of h) × (k.base_check ≡ other.base_check)
     × (check_value_of k.surface ≡ check_value_of other.surface)
-    × (k.surface ≡ other.surface → g ≡ h)
+    × (k.surface ≡ other.surface → AgreeButGone g h)
 
 -- what keeps a history is a store, and not an image where none was begun
 abbrev pub KeptIsBorn : Type 0
@@ -93,7 +102,7 @@ placed_as u firsts = record { update = brief u; firsts = firsts }
 
 -- The second image has one record more than the first, that of an update with these first blocks.
 -- Its Blobs is no shorter, its new extents took blocks that were free and hold the new stored
--- bytes, and the extents of all files hold what they held.
+-- bytes, and the extents of all files that there were hold what they held.
 pub record HasOneMore (k : Keys) (p : PlacedHistory) (u : SealedUpdate) (firsts : List ℕ)
     (i c : Image) : Type 0 where
   pub form : HasRecordForm second_form (placed_as u firsts)

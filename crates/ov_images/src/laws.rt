@@ -1,16 +1,19 @@
 //! What an image can keep. The functions do nothing.
 ghost use Rattle.ov_images.specs.Laws.{DamageHasOnePlace, DamageNeedsNoMaster};
 ghost use Rattle.ov_images.specs.Laws.{DamagedKeepsNone, ExtentsTellBytes, KeepingGoesOn};
-ghost use Rattle.ov_images.specs.Laws.{FreeNeedsNoOrder, GatesNeedNoBlocks, KeepsOnce};
+ghost use Rattle.ov_images.specs.Laws.{FreeNeedsNoOrder, GatesNeedNoBlocks, GoneFilesAreFree};
+ghost use Rattle.ov_images.specs.Laws.{KeepsOnce};
 ghost use Rattle.ov_images.specs.Laws.{KeptIsBorn, KeptIsSealed, KeysAreKept};
 ghost use Rattle.ov_images.specs.Laws.{PlacesAreKeptOnce, RecordsAreKept};
 ghost use Rattle.ov_images.specs.Laws.{SameExtentsKeepTheSame};
 
-/// The law of images: an image keeps at most one history, with one list of first blocks. Where it
-/// keeps histories under two pairs of keys, these have the same check values, and the histories the
-/// same updates; under one surface master they are the same.
+/// The law of images: an image keeps at most one history, but for the bytes of files that are gone,
+/// which may be any, and with one list of first blocks. Where it keeps histories under two pairs of
+/// keys, these have the same check values, and the histories the same updates; under one surface
+/// master they are the same, but for the bytes of files that are gone.
 pub fn an_image_keeps_one_history()
     ensures history { KeepsOnce }
+    ensures gone { GoneFilesAreFree }
     ensures places { PlacesAreKeptOnce }
     ensures keys { KeysAreKept }
 {}

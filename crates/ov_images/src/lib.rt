@@ -6,10 +6,11 @@
 //! history where its Book has the history's header (mode, first epoch, and the check values of both
 //! masters) and, before the first gate that isn't open, the records of the history's updates, in
 //! order; where each new extent lies in Blobs and took blocks that were free in the state before
-//! its record; and where the latest extent of each file holds its stored bytes at the end. An image
-//! where no store was begun stands for the history without updates. The definitions read a whole
-//! image and know nothing of how it was written, so they say what a store on disk is with no store
-//! in sight.
+//! its record; and where the latest extent of each file that is there holds its stored bytes at the
+//! end. Nothing is said of files that are gone, whose blocks are free for the records after their
+//! removal: of an image that keeps a history their bytes may be any. An image where no store was
+//! begun stands for the history without updates. The definitions read a whole image and know nothing
+//! of how it was written, so they say what a store on disk is with no store in sight.
 //!
 //! Stores of two *formats* keep histories. In one of the second all records are in the second form,
 //! with lists of 128 bytes. In one of the first, records are in the first form, with lists of 32
@@ -32,7 +33,7 @@
 //!
 //! | law | function |
 //! |---|---|
-//! | an image keeps one history, with one list of first blocks, under one pair of check values | [`an_image_keeps_one_history`] |
+//! | an image keeps one history but for the bytes of files that are gone, with one list of first blocks, under one pair of check values | [`an_image_keeps_one_history`] |
 //! | it keeps some history, whichever bytes its extents hold; what is kept is born and sealed | [`records_keep_a_history`] |
 //! | the same records and the same bytes of files keep the same | [`same_extents_keep_the_same`] |
 //! | which blocks are free depends on no order of extents | [`free_blocks_need_no_order`] |

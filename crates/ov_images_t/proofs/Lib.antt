@@ -3,6 +3,7 @@ mod Books
 mod BothFormats
 mod Damaged
 mod OneFile
+mod Removed
 mod StepPlaces
 mod ThreeFiles
 mod UsedAgain

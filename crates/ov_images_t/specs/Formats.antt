@@ -58,6 +58,11 @@ step_record = 1 ∷ 0 ∷ 0 ∷ 0 ∷ 1 ∷ 5 ∷ []
 abbrev pub longer_record : List ℕ
 longer_record = 1 ∷ 0 ∷ 0 ∷ 0 ∷ 2 ∷ 5 ∷ 0 ∷ []
 
+-- a record of the removal of the first file: an open gate, the length 5, and the body of kind and
+-- file
+abbrev pub removal_record : List ℕ
+removal_record = 1 ∷ 0 ∷ 0 ∷ 0 ∷ 5 ∷ 6 ∷ 0 ∷ 0 ∷ 0 ∷ 0 ∷ []
+
 -- an open gate and a length that can't be: no byte
 abbrev pub bad_length : List ℕ
 bad_length = 1 ∷ 0 ∷ 0 ∷ 0 ∷ 0 ∷ []
@@ -165,6 +170,14 @@ abbrev pub LongerBodyIsNoStep : Type 0
 LongerBodyIsNoStep =
     (k : Keys) → length k.base_check ≡ 32
     → IsDamagedAt 1 k (first_book k (alice_record ++ bob_record ++ longer_record)) 105
+
+-- A removal of the first file behind alice and bob, where there is none: in the first format its kind
+-- byte is wrong, and in the second it is refused, and so wrong at its gate.
+abbrev pub RemovalsAreOfTheSecond : Type 0
+RemovalsAreOfTheSecond =
+    (k : Keys) → length k.base_check ≡ 32
+    → IsDamagedAt 1 k (first_book k (alice_record ++ bob_record ++ removal_record)) 105
+    × IsDamagedAt 2 k (second_book k (alice_record ++ bob_record ++ removal_record)) 100
 
 -- Before a step record such a body, whose gate is at place 100, is damaged where it is without one.
 abbrev pub DamageStaysBeforeTheStep : Type 0

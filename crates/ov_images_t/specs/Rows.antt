@@ -8,8 +8,8 @@ use Rattle.ov_images.specs.Images.{HasRecords, KeepsAt, header_of}
 use Rattle.ov_images.specs.Damage.{HasBadRecords, at_block, in_book}
 use Rattle.ov_images_t.specs.Stores.{access_body, block, create, create_body, create_small}
 use Rattle.ov_images_t.specs.Stores.{empty_body, enrol, enrol_body, grant, grant_access, grant_body}
-use Rattle.ov_images_t.specs.Stores.{history, history_in, revoke, revoke_body, small_body, store}
-use Rattle.ov_images_t.specs.Stores.{store_in, zero_token, zeros}
+use Rattle.ov_images_t.specs.Stores.{history, history_in, remove, remove_body, revoke, revoke_body}
+use Rattle.ov_images_t.specs.Stores.{small_body, store, store_in, zero_token, zeros}
 
 -- Alice has a file of 8,193 bytes at block 0. Beside 12,288 bytes of Blobs, which are three blocks,
 -- the store has its records, and the file's bytes are the first 8,193. With an extent of two blocks
@@ -129,3 +129,24 @@ ChangedByteIsNoDamage =
     let bodies = enrol_body 97 ∷ create_body 1 (0 ∷ 0 ∷ []) (block 0) ∷ [] in
     KeepsAt k p g (store k bodies (own ++ zeros_behind))
     → KeepsAt k p g (store k bodies (own ++ others))
+
+-- A file of one byte stands at block 0, beside 4,096 bytes of Blobs. Once it is removed a second file
+-- of its name takes block 0. The first file has no bytes any more, and those of the second are the
+-- first of Blobs.
+abbrev pub RemovedBlocksAreFree : Type 0
+RemovedBlocksAreFree =
+    (k : Keys) (blobs : List ℕ) → length k.base_check ≡ 32 → length blobs ≡ 4096
+    → let p = history
+    (enrol 97 ∷ create_small 110 (0 ∷ []) ∷ remove ∷ create_small 110 (0 ∷ []) ∷ []) in
+    HasRecords k p
+    (store k
+    (enrol_body 97 ∷ small_body 110 (block 0) ∷ remove_body ∷ small_body 110 (block 0) ∷ []) blobs)
+    × (stored_in k.surface p blobs ≡ [] ∷ take 1 blobs ∷ [])
+
+-- A second removal of the file is refused: its record is damage at its gate, which is at place 274.
+abbrev pub RemovedFilesAreGone : Type 0
+RemovedFilesAreGone =
+    (k : Keys) (blobs : List ℕ) → length k.base_check ≡ 32 → length blobs ≡ 4096
+    → HasBadRecords (header_of k 2 (history []))
+    (store k (enrol_body 97 ∷ small_body 110 (block 0) ∷ remove_body ∷ remove_body ∷ []) blobs)
+    (in_book 274)

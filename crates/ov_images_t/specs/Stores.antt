@@ -4,7 +4,7 @@ use Rattle.ov_base.specs.declared.mode.Mode.{Mode}
 use Rattle.ov_base.specs.declared.mode.Mode.TheVariants.{Full}
 use Rattle.ov_tokens.specs.declared.token.Token.{Token}
 use Rattle.ov_fields.specs.Spelling.{u32}
-use Rattle.ov_history.specs.Briefs.{BriefEnrol, BriefCreate, BriefGrant, BriefRevoke}
+use Rattle.ov_history.specs.Briefs.{BriefEnrol, BriefCreate, BriefGrant, BriefRevoke, BriefRemove}
 use Rattle.ov_history.specs.Placed.{PlacedHistory, PlacedUpdate}
 use Rattle.ov_disk.specs.Disk.{Image, image}
 use Rattle.ov_journal.specs.Book.{spelled}
@@ -55,6 +55,10 @@ revoke firsts = record { update = BriefRevoke 1 0; firsts = firsts }
 abbrev pub grant : List ℕ → PlacedUpdate
 grant firsts = record { update = BriefGrant 1 0 None; firsts = firsts }
 
+-- the first file is removed
+abbrev pub remove : PlacedUpdate
+remove = record { update = BriefRemove 0; firsts = [] }
+
 -- ---- bytes
 
 -- the body of an enrolment: kind, length of the name, and the name
@@ -88,6 +92,10 @@ grant_body firsts = 3 ∷ 0 ∷ 0 ∷ 0 ∷ 1 ∷ 0 ∷ 0 ∷ 0 ∷ 0 ∷ 0 ∷ 
 -- blocks
 abbrev pub access_body : List ℕ → List ℕ
 access_body firsts = 3 ∷ 0 ∷ 0 ∷ 0 ∷ 1 ∷ 0 ∷ 0 ∷ 0 ∷ 0 ∷ 1 ∷ zeros 32 ++ firsts
+
+-- the body of the removal: kind and file
+abbrev pub remove_body : List ℕ
+remove_body = 6 ∷ 0 ∷ 0 ∷ 0 ∷ 0 ∷ []
 
 -- a first block in four bytes
 abbrev pub block : ℕ → List ℕ

@@ -4,6 +4,7 @@ ghost use Rattle.ov_images_t.specs.Rows.{ChangedByteIsNoDamage, EmptyFileHasNoBl
 ghost use Rattle.ov_images_t.specs.Rows.{EndOfBlobsIsDamage, FileHasWholeBlocks, FirstIsLeftOver};
 ghost use Rattle.ov_images_t.specs.Rows.{FirstIsMissing, GateComesFirst, LastBlockCounts};
 ghost use Rattle.ov_images_t.specs.Rows.{NewBlocksAreApart, OwnBlocksAreInUse};
+ghost use Rattle.ov_images_t.specs.Rows.{RemovedBlocksAreFree, RemovedFilesAreGone};
 
 /// A file of 8,193 bytes has three blocks: beside 12,288 bytes of Blobs its record is whole.
 pub fn a_file_has_whole_blocks()
@@ -42,6 +43,17 @@ pub fn an_empty_file_has_no_block()
 /// A revocation rewrites the file at block 3, and the next grant at block 0 again.
 pub fn blocks_are_used_again()
     ensures { BlocksAreUsedAgain }
+{}
+
+/// The blocks of a file that is removed are free for the next one, and of the file itself there are
+/// no bytes any more.
+pub fn removed_blocks_are_free()
+    ensures { RemovedBlocksAreFree }
+{}
+
+/// A second removal of a file is damage at its gate.
+pub fn removed_files_are_gone()
+    ensures { RemovedFilesAreGone }
 {}
 
 /// Two files that one update rewrites take blocks apart from one another.

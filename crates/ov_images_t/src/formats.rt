@@ -2,7 +2,8 @@
 ghost use Rattle.ov_images_t.specs.Formats.{DamageMovesBehindTheStep, DamageStaysBeforeTheStep};
 ghost use Rattle.ov_images_t.specs.Formats.{FirstFormatIsKept, LongerBodyIsNoStep};
 ghost use Rattle.ov_images_t.specs.Formats.{NewStoresAreOfTheSecond, OneStepIsLeftOut};
-ghost use Rattle.ov_images_t.specs.Formats.{RecordsFollowTheStep, ShortListsAreOfTheFirst};
+ghost use Rattle.ov_images_t.specs.Formats.{RecordsFollowTheStep, RemovalsAreOfTheSecond};
+ghost use Rattle.ov_images_t.specs.Formats.{ShortListsAreOfTheFirst};
 ghost use Rattle.ov_images_t.specs.Formats.{StepChangesNothing, StepChangesTheForm};
 
 /// A new store has the magic `OVERENC2`: the worked books of 79, 91 and 101 bytes keep nobody,
@@ -31,6 +32,12 @@ pub fn one_step_record_is_left_out()
 /// A body that begins as that of a step record and goes on is damage at its first byte.
 pub fn a_longer_body_is_no_step_record()
     ensures { LongerBodyIsNoStep }
+{}
+
+/// In a record of the first format no update is a removal: its kind byte is damage. In one of the
+/// second it is a removal, which is refused where there is no such file.
+pub fn a_removal_is_of_the_second_format()
+    ensures { RemovalsAreOfTheSecond }
 {}
 
 /// A step record moves the places of damage behind it by its bytes, and none before it.

@@ -8,3 +8,4 @@ pub mod Replays
 pub mod Taking
 pub mod Knowing
 pub mod Making
+pub mod Removals

@@ -17,20 +17,22 @@
 //!                        │                                        │
 //!                        └─ first blocks ──► new extents: each held, while the old ones are still held
 //!                                                                 │
-//!                                first blocks put, old extents given up, change committed
+//!   extent of a removed file given up, first blocks put, old extents given up, change committed
 //!
 //! prepare   update ── Brief::of ──► brief ── spell_update, State::prepare ──► change, front, text
-//! update    change, front, text ── ov_updating::update ──► new bytes and the record on the disk
+//!                                     └── number of a file that is removed
+//! update    change, front, text, number ── ov_updating::update ──► new bytes and record on the disk
 //!                                                                 │
-//!                                         file added, first blocks put, change committed
+//!                             file added or taken away, first blocks put, change committed
 //! ```
 //!
 //! **What a contract sees** is one value, `PlacedStore` (`specs/Contents`): the catalogue and its
 //! room, the first blocks by file number, and what is held.
 //!
 //! * [`PlacedCatalogue::known`] does nothing; its contract is what holds of every placed catalogue.
-//!   Just the files with a byte have a first block. What is held are just the extents of files, each
-//!   once, and no two share a block. So no update loses a block, and none holds one twice.
+//!   Just the files with a byte have a first block, and those that are gone have none. What is held are
+//!   just the extents of files, each once, and no two share a block. So no update loses a block, and
+//!   none holds one twice.
 //!   [`PlacedCatalogue::first_block`] gives the first block of a file, whose extent is held.
 //! * `replay` answers `Ok` only for a record whose update the store takes, with as many first blocks as
 //!   its rewrites need and with new extents that take free blocks. Then the update is made, and each
@@ -86,6 +88,7 @@ mod laws;
 mod prepared;
 mod preparing;
 mod reading;
+mod removing;
 mod replaying;
 mod updating;
 

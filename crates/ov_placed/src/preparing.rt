@@ -11,6 +11,7 @@ ghost use Rattle.ov_placed.specs.Contents.{HoldsTheSame};
 ghost use Rattle.ov_placed.specs.Updating.{IsPrepared, IsSpelled};
 
 use crate::catalogue::CataloguePlaces;
+use crate::removing::removed_by;
 use ov_base::limits::MAX_USERS;
 use ov_base::{Memory, Octets};
 use ov_record::{Brief, Update};
@@ -20,12 +21,13 @@ use ov_updating::spell_update;
 use std::alloc::Global;
 
 /// All of an update that its catalogue and its record need: the change of the catalogue, the spelling
-/// with which its record begins, and the bytes of a new file.
+/// with which its record begins, the bytes of a new file, and the number of a file that is removed.
 #[derive(Drop)]
 pub struct Prepared<const W: usize> {
     pub(crate) change: Change<W>,
     pub(crate) front: Octets,
     pub(crate) text: Option<Octets>,
+    pub(crate) removed: Option<u32>,
 }
 
 // Whether the update has as few tokens as a spelling may have. An update with more isn't one that
@@ -74,12 +76,14 @@ impl CataloguePlaces {
     {
         let (brief, text) = Brief::of(update);
         let (brief, front) = spell(alloc, brief)?;
+        let removed = removed_by(&brief);
         let change = self.catalogue.prepare(alloc, surface, brief)?;
         match front {
             Some(front) => Ok(Prepared {
                 change,
                 front,
                 text,
+                removed,
             }),
             None => unreachable!(),
         }

@@ -13,13 +13,14 @@ ghost use Rattle.ov_moves.specs.Runs.{LeavesAtMost};
 ghost use Rattle.ov_record.specs.Updates.{SealedUpdate};
 ghost use Rattle.ov_state.specs.Changes.{AreOfFiles, HasRoomFor};
 ghost use Rattle.ov_state.specs.Entries.{plain_rewrites};
-ghost use Rattle.ov_updating.specs.Files.{firsts_of};
+ghost use Rattle.ov_updating.specs.Files.{firsts_of, removed_by};
 ghost use Rattle.ov_placed.specs.Contents.{HoldsTheSame};
 ghost use Rattle.ov_placed.specs.Updating.{HasLogAfter, IsPrepared, KeepsOrGoesOn, MakesUpdate, bytes_of};
 
 use crate::catalogue::CataloguePlaces;
 use crate::exchanging::make_room;
 use crate::preparing::Prepared;
+use crate::removing::take_away;
 use ov_base::Octets;
 use ov_disk::Disk;
 use ov_journal::{CheckFault, Journal};
@@ -40,17 +41,18 @@ fn bytes_of(text: &Option<Octets>) -> &[u8]
     }
 }
 
-// Adds the file of a text, where there is one. There is room for it, and it has no first block yet.
-fn add_file(placed: &mut Vec<Option<u32>>, text: &Option<Octets>)
+// Adds the file of a text, where there is one: it has no first block yet, and there is room for it.
+// Else it takes the first block of the file of this number away, where there is a number.
+fn unplace_by(placed: &mut Vec<Option<u32>>, text: &Option<Octets>, removed: Option<u32>)
     requires { 1 ≤ vec_capacity placed.old - vec_len placed.old }
-    ensures { (u : SealedUpdate) → text.now ≡ text_of u
+    ensures { (u : SealedUpdate) → text.now ≡ text_of u → removed ≡ removed_by (brief u)
         → placed.new.items ≡ with_unplaced placed.old.items (brief u) }
 {
     match text {
         Some(_) => {
             let _ = placed.push(None);
         }
-        None => {}
+        None => take_away(placed, removed),
     }
 }
 
@@ -140,9 +142,10 @@ impl CataloguePlaces {
             &self.placed,
             front,
             text,
+            prepared.removed,
         )?;
         self.extents.known();
-        add_file(&mut self.placed, &prepared.text);
+        unplace_by(&mut self.placed, &prepared.text, prepared.removed);
         put_firsts(&mut self.placed, prepared.change.rewrites(), &moves);
         self.catalogue.commit(prepared.change);
         Ok(())

@@ -1,4 +1,6 @@
 //! Bodies of records.
+ghost use Rattle.std.specs.Prelude.{◌≤◌, length};
+ghost use Rattle.ov_base.specs.declared.limits.TheConstants.{MAX_USERS};
 ghost use Rattle.ov_record.specs.Briefs.{plain_brief};
 ghost use Rattle.ov_record.specs.Forms.{second_form};
 ghost use Rattle.ov_record.specs.Stored.{IsBriefWithinLimits};
@@ -45,10 +47,9 @@ pub(crate) fn enrol(rt: &impl Abort, alloc: Global, text: &[u8]) -> Vec<u8> {
 }
 
 /// The creation of a file for the first two users.
-pub(crate) fn create(rt: &impl Abort, alloc: Global, firsts: &[u32]) -> Vec<u8> {
-    let mut tokens = Tokens::new(alloc);
-    tokens.push(TOKEN).expect(rt, "memory");
-    tokens.push(TOKEN).expect(rt, "memory");
+fn create_with(rt: &impl Abort, alloc: Global, tokens: Tokens, firsts: &[u32]) -> Vec<u8>
+    requires { length tokens ≤ MAX_USERS }
+{
     let update = Brief::Create {
         name: name(rt, b"f"),
         list: UserSet::empty().with(0).with(1),
@@ -57,6 +58,19 @@ pub(crate) fn create(rt: &impl Abort, alloc: Global, firsts: &[u32]) -> Vec<u8> 
         length: LENGTH,
     };
     record(rt, alloc, update, firsts)
+}
+
+/// The creation of the first file for the first two users, whose base node comes with it.
+pub(crate) fn create(rt: &impl Abort, alloc: Global, firsts: &[u32]) -> Vec<u8> {
+    let mut tokens = Tokens::new(alloc);
+    tokens.push(TOKEN).expect(rt, "memory");
+    tokens.push(TOKEN).expect(rt, "memory");
+    create_with(rt, alloc, tokens, firsts)
+}
+
+/// The creation of a later file for them, whose base node is there.
+pub(crate) fn create_again(rt: &impl Abort, alloc: Global, firsts: &[u32]) -> Vec<u8> {
+    create_with(rt, alloc, Tokens::new(alloc), firsts)
 }
 
 /// The same creation with one first block in a record of the first format, in which a set has 32
@@ -86,4 +100,8 @@ pub(crate) fn grant(rt: &impl Abort, alloc: Global, user: u32, firsts: &[u32]) -
         token: None,
     };
     record(rt, alloc, update, firsts)
+}
+
+pub(crate) fn remove(rt: &impl Abort, alloc: Global, file: u32, firsts: &[u32]) -> Vec<u8> {
+    record(rt, alloc, Brief::Remove { file }, firsts)
 }

@@ -2,7 +2,7 @@
 ghost use Rattle.std.specs.Prelude.{◌≤◌};
 ghost use Rattle.ov_blocks.specs.declared.extents.TheConstants.{MAX_BLOCKS};
 
-use crate::bodies::{create, create_of_first_format, enrol, grant, revoke};
+use crate::bodies::{create, create_again, create_of_first_format, enrol, grant, remove, revoke};
 use crate::replaying::replay_all;
 use ov_base::{Key, Mode, Octets};
 use ov_blocks::Extent;
@@ -108,6 +108,41 @@ fn bad_records_are_named(rt: HostRuntime) {
     assert!(rt; holds(&it, 0));
     assert!(rt; replayed(alloc, &mut it, &revoke(&rt, alloc, 1, &[3])).is_ok());
     assert!(rt; holds(&it, 3));
+}
+
+#[test]
+fn a_removed_file_gives_its_blocks_back(rt: HostRuntime) {
+    let alloc = rt.alloc();
+    let mut it = with_file(&rt, alloc);
+    assert!(rt; replayed(alloc, &mut it, &remove(&rt, alloc, 0, &[])).is_ok());
+    let (front, back) = it.extents().held();
+    assert!(rt; front.is_empty() && back.is_empty());
+    assert!(rt; it.first_block(0).is_none());
+    // The next file of this name has another number, and may have the same blocks.
+    assert!(rt; replayed(alloc, &mut it, &create_again(&rt, alloc, &[0])).is_ok());
+    assert!(rt; it.first_block(0).is_none());
+    assert!(rt; it.first_block(1) == Some(0));
+    assert!(rt; replayed(alloc, &mut it, &remove(&rt, alloc, 1, &[])).is_ok());
+    assert!(rt; replayed(alloc, &mut it, &create_again(&rt, alloc, &[3])).is_ok());
+    assert!(rt; it.first_block(2) == Some(3));
+}
+
+#[test]
+fn bad_removals_are_named(rt: HostRuntime) {
+    let alloc = rt.alloc();
+    let mut it = with_file(&rt, alloc);
+    // There is no such file, and no removal in a record of the first format.
+    assert!(rt; replayed(alloc, &mut it, &remove(&rt, alloc, 1, &[])) == in_book(GATE));
+    let body = remove(&rt, alloc, 0, &[]);
+    assert!(rt; replayed_as(alloc, &mut it, Format::First, &body) == in_book(GATE + 5));
+    // It has no first block, behind the kind and the file.
+    let one = remove(&rt, alloc, 0, &[3]);
+    assert!(rt; replayed(alloc, &mut it, &one) == in_book(GATE + 5 + 5));
+    assert!(rt; holds(&it, 0));
+    // A file that is removed is removed once, and rewritten no more.
+    assert!(rt; replayed(alloc, &mut it, &body).is_ok());
+    assert!(rt; replayed(alloc, &mut it, &body) == in_book(GATE));
+    assert!(rt; replayed(alloc, &mut it, &revoke(&rt, alloc, 1, &[3])) == in_book(GATE));
 }
 
 #[test]

@@ -1,28 +1,31 @@
 -- Records that are followed, one after the other.
-use Rattle.std.proofs.Common.{◌≡◌, ℕ, zero, suc, ◌+◌, ◌-◌, ◌<◌, ◌≤◌, List, [], ◌∷◌, ◌++◌, length, take}
-use Rattle.std.proofs.Common.{get_or, Bool, true, false, Option, Some, None, refl, sym, ◌∙◌, ap, subst}
-use Rattle.std.proofs.Common.{arith, length-append, append_assoc}
+use Rattle.std.proofs.Common.{◌≡◌, ℕ, zero, suc, ◌+◌, ◌-◌, ◌<◌, List, [], ◌∷◌, ◌++◌, length, take}
+use Rattle.std.proofs.Common.{get_or, Bool, true, false, Option, refl, sym, ◌∙◌, ap, subst, arith}
 use Rattle.std.proofs.lemmas.List.{get_or_append_left, take_all, take_at}
-use Rattle.std.specs.Prelude.{IfSome}
+use Rattle.std.specs.Prelude.{is_some, not}
 use Rattle.ov_base.specs.declared.mode.Mode.{Mode}
 use Rattle.ov_disk.specs.Disk.{Image}
 use Rattle.ov_record.specs.Forms.{Form}
 use Rattle.ov_record.specs.Updates.{SealedUpdate}
-use Rattle.ov_history.specs.History.{History, start_of, with_update}
+use Rattle.ov_history.specs.History.{File, History, Matrix, start_of, with_update}
 use Rattle.ov_history.specs.Layers.{Layers, layers_of}
-use Rattle.ov_history.specs.Briefs.{Brief, brief, outer, text_of}
-use Rattle.ov_history.specs.Catalogue.{Catalogue, catalogue_after, empty_catalogue, outline}
-use Rattle.ov_history.specs.KeptLaws.{AllAreOwners}
+use Rattle.ov_history.specs.Lists.{is_file}
+use Rattle.ov_history.specs.Places.{living_at}
+use Rattle.ov_history.specs.Briefs.{Brief, brief, outer}
+use Rattle.ov_history.specs.Catalogue.{Catalogue, catalogue_after, empty_catalogue, file_shown, outline}
+use Rattle.ov_history.specs.Fading.{is_gone_from}
 use Rattle.ov_history.specs.Masters.{Masters}
-use Rattle.ov_history.specs.Placed.{AllHaveFirsts, PlacedHistory, PlacedUpdate, unplaced}
+use Rattle.ov_history.specs.Placed.{AllHaveFirsts, PlacedHistory, PlacedUpdate}
 use Rattle.ov_history.specs.Placed.{unplaced_all}
 use Rattle.ov_history.specs.Sealed.{AllFit, IsSealed, SealedHistory, StandsFor, outer_all, outer_of}
 use Rattle.ov_history.specs.Sealed.{with_sealed}
-use Rattle.ov_history.specs.Texts.{BriefHistory, brief_all, brief_of}
+use Rattle.ov_history.specs.Texts.{BriefHistory, brief_all}
 use Rattle.ov_history.proofs.GoingOn.{histories_go_on}
+use Rattle.ov_history.proofs.Outlining.{length-places}
 use Rattle.ov_history.proofs.Pushing.{with_updates, with_updates-all}
 use Rattle.ov_history.proofs.Replaying.{goes_taken}
 use Rattle.ov_history.proofs.Showing.{history_is_shown}
+use Rattle.ov_history.proofs.SoundTests.{is_some-map, shown_there}
 use Rattle.ov_journal.specs.Book.{contents_of}
 use Rattle.ov_journal.specs.Log.{Log, IsLogOfFirst}
 use Rattle.ov_journal.specs.Steps.{gate_behind, gates_of}
@@ -33,8 +36,8 @@ use Rattle.ov_images.specs.Records.{AllHaveFormFrom, HasRecordForm, bodies_from,
 use Rattle.ov_images.specs.Records.{form_behind, record_spelling}
 use Rattle.ov_images.proofs.Records.{firsts_spelling, length-bodies_from}
 use Rattle.ov_placed.specs.Contents.{PlacedStore}
-use Rattle.ov_store.specs.Owners.{FollowsUpdate, HasFalseUpdate, HasTextIn, IsHistoryOf, IsOwners}
-use Rattle.ov_store.specs.Owners.{with_first}
+use Rattle.ov_store.specs.Owners.{AllAreOwned, FollowsUpdate, HasFalseUpdate, HasTextIn, IsHistoryOf}
+use Rattle.ov_store.specs.Owners.{IsOwners, is_gone_in, with_first}
 use Rattle.ov_store.proofs.Histories.{epoch_shown, same_length, stands_by}
 use Rattle.ov_store.proofs.Replays.{IsNext}
 use Rattle.ov_store.proofs.NewTexts.{has_text}
@@ -117,13 +120,19 @@ take-firsts master c [] (suc i) all = tt
 take-firsts master c (p ∷ ps) (suc i) all =
     (all.0, take-firsts master (catalogue_after master c p.update) ps i all.1)
 
+-- in these layers the update is as its owner seals it, but for a file of which the test says that it
+-- is gone
+abbrev IsOwned : Masters → (ℕ → Bool) → SealedUpdate → Layers → Type 0
+IsOwned k is_gone u y = IsOwners k y (is_gone (length y.files)) u
+
 -- one more that is as its owner seals it
-owners_push : (k : Masters) (h : History) (us : List SealedUpdate) (u : SealedUpdate)
-    → AllAreOwners k h us → IsOwners k (layers_of (with_updates h (outer_all us))) u
-    → AllAreOwners k h (us ++ u ∷ [])
-owners_push k h [] u all one = (one, tt)
-owners_push k h (v ∷ us) u all one =
-    (all.0, owners_push k (with_update h (outer (brief v))) us u all.1 one)
+owners_push : (k : Masters) (is_gone : ℕ → Bool) (h : History) (us : List SealedUpdate)
+    (u : SealedUpdate) → AllAreOwned k is_gone h us
+    → IsOwned k is_gone u (layers_of (with_updates h (outer_all us)))
+    → AllAreOwned k is_gone h (us ++ u ∷ [])
+owners_push k is_gone h [] u all one = (one, tt)
+owners_push k is_gone h (v ∷ us) u all one =
+    (all.0, owners_push k is_gone (with_update h (outer (brief v))) us u all.1 one)
 
 -- the first of these updates fit, and the next with them
 front_fits : (h : History) (us : List SealedUpdate) (u : SealedUpdate) (rest : List SealedUpdate)
@@ -137,7 +146,7 @@ front_fits h (v ∷ us) u rest fit =
 -- The catalogue is that of the history's first `i` updates, which are as their owner seals them.
 pub record FollowedTo (k : Masters) (g : SealedHistory) (i : ℕ) (c : Catalogue) : Type 0 where
   pub stands : StandsFor k.surface c (with_first g (take i g.updates))
-  pub owners : AllAreOwners k (start_of (outer_of g)) (take i g.updates)
+  pub owners : AllAreOwned k (is_gone_from g) (start_of (outer_of g)) (take i g.updates)
 
 -- the catalogue is that of each history whose records are the journal's, which are the first of the
 -- image's
@@ -160,6 +169,15 @@ module _ (k : Masters) (log : Log) (store : PlacedStore) (g : SealedHistory) (d 
 
   pub as_many : length g.updates ≡ length log.offsets
   as_many = same_length g history.placed history.briefs ∙ history.many
+
+  -- the files that are gone at the history's end are those that the store hasn't
+  gone_same : (n : ℕ) → is_gone_in store.catalogue n ≡ is_gone_from g n
+  gone_same n =
+      let c = store.catalogue in
+      ap not
+      (sym (is_some-map (file_shown (outline c)) (living_at c.files n))
+      ∙ ap (λ (o : Option File). is_some o) (sym (shown_there (outline c) c.files n))
+      ∙ ap (λ (m : Matrix). is_file m n) (history_is_shown k.surface c g stands_whole).matrix)
 
   pub followed_none : (c : Catalogue) (mode : Mode) (first : ℕ) → mode ≡ store.catalogue.mode
       → first ≡ store.catalogue.epoch - length log.offsets → c ≡ empty_catalogue mode first
@@ -236,12 +254,20 @@ module _ (k : Masters) (log : Log) (store : PlacedStore) (g : SealedHistory) (d 
         has_text k.surface store d.blobs g stands_whole history.bytes c front n.update n.rest n.split
         so_far.stands
 
+    -- whether its file is gone
+    abbrev gone : Bool
+    gone = is_gone_in store.catalogue (length c.files)
+
+    gone_here : gone ≡ is_gone_from g (length (outline c).files)
+    gone_here =
+        gone_same (length c.files) ∙ ap (is_gone_from g) (sym (length-places c.files))
+
     -- what was found of whatever update the body may be is so of this one
     abbrev Follows : Catalogue → Bool → Type 0
     Follows later found =
         (u : SealedUpdate) → BeginsWith form (brief u) body
         → HasTextIn k.surface store (length c.files) d.blobs u → IsTaken c (brief u)
-        → FollowsUpdate k c u later found
+        → FollowsUpdate k c gone u later found
 
     pub followed_more : (later : Catalogue) → Follows later true → FollowedTo k g (i + 1) later
     followed_more later follows =
@@ -251,12 +277,13 @@ module _ (k : Masters) (log : Log) (store : PlacedStore) (g : SealedHistory) (d 
         (histories_go_on k.surface c (with_first g front) n.update so_far.stands taken.0 taken.1) in
         let start = layers
         ∙ ap layers_of (sym (with_updates-all (outer_of (with_first g front)))) in
-        let owners = owners_push k (start_of (outer_of g)) front n.update so_far.owners
-        (subst (λ (y : Layers). IsOwners k y n.update) start one.0) in
+        let owners = owners_push k (is_gone_from g) (start_of (outer_of g)) front n.update so_far.owners
+        (subst (IsOwned k (is_gone_from g) n.update) start
+        (subst (λ (b : Bool). IsOwners k (outline c) b n.update) gone_here one.0)) in
         record {
           stands = subst (λ (us : List SealedUpdate). StandsFor k.surface later (with_first g us))
               (sym n.more) stands;
-          owners = subst (AllAreOwners k (start_of (outer_of g))) (sym n.more) owners;
+          owners = subst (AllAreOwned k (is_gone_from g) (start_of (outer_of g))) (sym n.more) owners;
         }
 
     -- the history of the first records, with their first blocks
@@ -275,7 +302,8 @@ module _ (k : Masters) (log : Log) (store : PlacedStore) (g : SealedHistory) (d 
           rest = n.rest;
           split = n.split;
           owners = so_far.owners;
-          wrong = subst (λ (y : Layers). IsOwners k y n.update → ⊥) layers wrong;
+          wrong = subst (λ (y : Layers). IsOwned k (is_gone_from g) n.update y → ⊥) layers
+              (subst (λ (b : Bool). IsOwners k (outline c) b n.update → ⊥) gone_here wrong);
           placed = recorded;
           recorded = record {
             briefs = λ j. record {
@@ -295,7 +323,7 @@ module _ (k : Masters) (log : Log) (store : PlacedStore) (g : SealedHistory) (d 
 
   -- after the last record
   pub followed_all : (i : ℕ) (c : Catalogue) → FollowedTo k g i c → i ≡ length log.offsets
-      → AllAreOwners k (start_of (outer_of g)) g.updates
+      → AllAreOwned k (is_gone_from g) (start_of (outer_of g)) g.updates
   followed_all i c so_far last =
-      subst (AllAreOwners k (start_of (outer_of g)))
+      subst (AllAreOwned k (is_gone_from g) (start_of (outer_of g)))
       (take_all i g.updates (omega (arith, last, as_many))) so_far.owners

@@ -13,7 +13,9 @@ pub mod Made
 pub mod NewTexts
 pub mod Opening
 pub mod Parts
+pub mod Owned
 pub mod OwnersLaws
 pub mod Replays
 pub mod Said
 pub mod Stopping
+pub mod Wholes

@@ -1,6 +1,6 @@
 -- When an update is as its owner seals it.
-use Rattle.std.proofs.Common.{◌≡◌, ℕ, ◌<◌, ◌≤◌, Bool, true, List, [], ◌∷◌, length, length-append, refl, sym, ◌∙◌, ap, subst, arith}
-use Rattle.std.specs.Prelude.{Option, Some, None, is_some}
+use Rattle.std.proofs.Common.{◌≡◌, ℕ, ◌<◌, ◌≤◌, Bool, true, false, List, [], ◌∷◌, length, length-append, refl, sym, ◌∙◌, ap, subst, arith}
+use Rattle.std.specs.Prelude.{Option, Some, None, is_some, replicate}
 use Rattle.std.proofs.lemmas.Bool.{false≢true}
 use Rattle.ov_history.specs.Places.{living_at}
 use Rattle.ov_base.specs.Sets.{has}
@@ -13,12 +13,15 @@ use Rattle.ov_graph.specs.Contents.{plan_of}
 use Rattle.ov_base_layer.specs.Seals.{access_token, cover_tokens}
 use Rattle.ov_surface.specs.Coats.{base_text}
 use Rattle.ov_surface.specs.Tags.{tag_of_file}
-use Rattle.ov_record.specs.Updates.{SealedEnrol, SealedCreate, SealedGrant, SealedRevoke}
+use Rattle.ov_record.specs.Updates.{SealedUpdate, SealedEnrol, SealedCreate, SealedGrant, SealedRevoke}
+use Rattle.ov_record.specs.Updates.{SealedRemove}
 use Rattle.ov_history.specs.Briefs.{BriefCreate, BriefGrant}
 use Rattle.ov_history.specs.Catalogue.{Catalogue, Filed, outline}
-use Rattle.ov_history.specs.Layers.{appended, holders, node_for, node_of, root_of, with_set}
+use Rattle.ov_history.specs.Fading.{faded_if, no_tag}
+use Rattle.ov_history.specs.Layers.{Layers, appended, holders, node_for, node_of, root_of, with_set}
 use Rattle.ov_history.specs.Masters.{Masters, access_key}
 use Rattle.ov_history.specs.Plain.{PlainEnrol, PlainCreate, PlainGrant, PlainRevoke}
+use Rattle.ov_history.specs.Plain.{PlainRemove}
 use Rattle.ov_history.specs.Sealing.{sealed_update, token_unless}
 use Rattle.ov_history.proofs.Outlining.{node-shown}
 use Rattle.ov_history.proofs.SoundTests.{accepted}
@@ -26,15 +29,37 @@ use Rattle.ov_state.specs.Plans.{IsTaken}
 use Rattle.ov_state.proofs.FilesByNumber.{filed-at}
 use Rattle.ov_store.specs.Owners.{IsOwners}
 
--- ---- enrolments and revocations always are
+-- ---- enrolments, revocations and removals always are
 
-pub enrol_owners : (k : Masters) (c : Catalogue) (name : List ℕ)
-    → IsOwners k (outline c) (SealedEnrol name)
-enrol_owners k c name = (PlainEnrol name, refl)
+pub enrol_owners : (k : Masters) (c : Catalogue) (gone : Bool) (name : List ℕ)
+    → IsOwners k (outline c) gone (SealedEnrol name)
+enrol_owners k c gone name = (PlainEnrol name, refl)
 
-pub revoke_owners : (k : Masters) (c : Catalogue) (user file : ℕ)
-    → IsOwners k (outline c) (SealedRevoke user file)
-revoke_owners k c user file = (PlainRevoke user file, refl)
+pub revoke_owners : (k : Masters) (c : Catalogue) (gone : Bool) (user file : ℕ)
+    → IsOwners k (outline c) gone (SealedRevoke user file)
+revoke_owners k c gone user file = (PlainRevoke user file, refl)
+
+pub remove_owners : (k : Masters) (c : Catalogue) (gone : Bool) (file : ℕ)
+    → IsOwners k (outline c) gone (SealedRemove file)
+remove_owners k c gone file = (PlainRemove file, refl)
+
+-- ---- what fades
+
+-- an update that is just what its owner sends is so whatever fades
+pub owners_whole : (k : Masters) (y : Layers) (gone : Bool) (u : SealedUpdate) → IsOwners k y false u
+    → IsOwners k y gone u
+owners_whole k y gone u (plain, is) = (plain, ap (λ (v : SealedUpdate). faded_if gone v) is)
+
+-- of a grant nothing fades
+grant_whole : (k : Masters) (y : Layers) (gone : Bool) (user file : ℕ) (token : Option Token)
+    → IsOwners k y gone (SealedGrant user file token)
+    → IsOwners k y false (SealedGrant user file token)
+grant_whole k y false user file token owners = owners
+grant_whole k y true user file token (PlainEnrol name, is) = absurd (cc is)
+grant_whole k y true user file token (PlainCreate name list bytes, is) = absurd (cc is)
+grant_whole k y true user file token (PlainGrant u f, is) = (PlainGrant u f, is)
+grant_whole k y true user file token (PlainRevoke u f, is) = absurd (cc is)
+grant_whole k y true user file token (PlainRemove f, is) = absurd (cc is)
 
 -- ---- grants
 
@@ -46,7 +71,7 @@ token_for k c user file =
 module _ (k : Masters) (c : Catalogue) (user file : ℕ) where
   -- a grant without a token
   pub bare_owners : IsTaken c (BriefGrant user file None)
-      → IsOwners k (outline c) (SealedGrant user file None)
+      → IsOwners k (outline c) false (SealedGrant user file None)
   bare_owners taken =
       let held = true_of_not (has (holders (outline c) (node_of (outline c) file)) user) (sym taken.1) in (
         PlainGrant user file,
@@ -62,18 +87,19 @@ module _ (k : Masters) (c : Catalogue) (user file : ℕ) where
         ap (λ (b : Bool). SealedGrant user file (token_unless b (token_for k c user file))) free
 
     pub grant_owners : token ≡ token_for k c user file
-        → IsOwners k (outline c) (SealedGrant user file (Some token))
+        → IsOwners k (outline c) false (SealedGrant user file (Some token))
     grant_owners e = (
       PlainGrant user file,
       ap (λ (t : Token). SealedGrant user file (Some t)) e ∙ sym sealed_is,
     )
 
-    pub grant_others : (token ≡ token_for k c user file → ⊥)
-        → IsOwners k (outline c) (SealedGrant user file (Some token)) → ⊥
-    grant_others apart (PlainEnrol name, is) = absurd (cc is)
-    grant_others apart (PlainCreate name list bytes, is) = absurd (cc is)
-    grant_others apart (PlainRevoke u f, is) = absurd (cc is)
-    grant_others apart (PlainGrant u f, is) =
+    whole_others : (token ≡ token_for k c user file → ⊥)
+        → IsOwners k (outline c) false (SealedGrant user file (Some token)) → ⊥
+    whole_others apart (PlainEnrol name, is) = absurd (cc is)
+    whole_others apart (PlainCreate name list bytes, is) = absurd (cc is)
+    whole_others apart (PlainRevoke u f, is) = absurd (cc is)
+    whole_others apart (PlainRemove f, is) = absurd (cc is)
+    whole_others apart (PlainGrant u f, is) =
         let one : user ≡ u = cc is in
         let other : file ≡ f = cc is in
         let back : sealed_update k (outline c) (PlainGrant u f)
@@ -82,6 +108,11 @@ module _ (k : Masters) (c : Catalogue) (user file : ℕ) where
         let same : SealedGrant user file (Some token)
         ≡ SealedGrant user file (Some (token_for k c user file)) = is ∙ back ∙ sealed_is in
         apart (cc same)
+
+    pub grant_others : (gone : Bool) → (token ≡ token_for k c user file → ⊥)
+        → IsOwners k (outline c) gone (SealedGrant user file (Some token)) → ⊥
+    grant_others gone apart owners =
+        whole_others apart (grant_whole k (outline c) gone user file (Some token) owners)
 
     -- the user and the file are there
     pub both_there : (user < length c.users) × (is_some (living_at c.files file) ≡ true)
@@ -115,17 +146,38 @@ module _ (k : Masters) (c : Catalogue) (name : List ℕ) (list : ℕ) (tokens : 
 
   pub creation_owners : tokens ≡ cover_tokens Derive k.base (plan_of c.base.sets list)
       → tag ≡ tag_of_file key number under
-      → IsOwners k (outline c) (SealedCreate name list tokens tag text)
+      → IsOwners k (outline c) false (SealedCreate name list tokens tag text)
   creation_owners et eg = (
     PlainCreate name list under,
     λ j. SealedCreate name list (et j) (eg j) (sym (xor_pad-xor_pad key 0x42 number 0 text) j),
   )
 
+  -- of a file that is gone the tokens alone are looked at
+  pub gone_owners : tokens ≡ cover_tokens Derive k.base (plan_of c.base.sets list)
+      → IsOwners k (outline c) true (SealedCreate name list tokens tag text)
+  gone_owners et = (
+    PlainCreate name list under,
+    λ j. SealedCreate name list (et j) no_tag
+        (replicate (length (sym (xor_pad-xor_pad key 0x42 number 0 text) j)) 0),
+  )
+
+  pub gone_others : (tokens ≡ cover_tokens Derive k.base (plan_of c.base.sets list) → ⊥)
+      → IsOwners k (outline c) true (SealedCreate name list tokens tag text) → ⊥
+  gone_others apart (PlainEnrol n, is) = absurd (cc is)
+  gone_others apart (PlainGrant u f, is) = absurd (cc is)
+  gone_others apart (PlainRevoke u f, is) = absurd (cc is)
+  gone_others apart (PlainRemove f, is) = absurd (cc is)
+  gone_others apart (PlainCreate n l p, is) =
+      let el : list ≡ l = cc is in
+      let et : tokens ≡ cover_tokens Derive k.base (plan_of c.base.sets l) = cc is in
+      apart (et ∙ ap (λ (x : ℕ). cover_tokens Derive k.base (plan_of c.base.sets x)) (sym el))
+
   pub creation_others : (tokens ≡ cover_tokens Derive k.base (plan_of c.base.sets list)
       → tag ≡ tag_of_file key number under → ⊥)
-      → IsOwners k (outline c) (SealedCreate name list tokens tag text) → ⊥
+      → IsOwners k (outline c) false (SealedCreate name list tokens tag text) → ⊥
   creation_others apart (PlainEnrol n, is) = absurd (cc is)
   creation_others apart (PlainGrant u f, is) = absurd (cc is)
+  creation_others apart (PlainRemove f, is) = absurd (cc is)
   creation_others apart (PlainRevoke u f, is) = absurd (cc is)
   creation_others apart (PlainCreate n l p, is) =
       let el : list ≡ l = cc is in
@@ -140,6 +192,13 @@ module _ (k : Masters) (c : Catalogue) (name : List ℕ) (list : ℕ) (tokens : 
       apart (et ∙ ap (λ (x : ℕ). cover_tokens Derive k.base (plan_of c.base.sets x)) (sym el))
       (eg ∙ ap (λ (x : ℕ). tag_of_file (access_key k.base (node_for c.base.sets x)) number p)
       (sym el) ∙ ap (λ (x : List ℕ). tag_of_file key number x) (sym plain_is))
+
+  -- other tokens are never those that the owner sends
+  pub tokens_others : (gone : Bool)
+      → (tokens ≡ cover_tokens Derive k.base (plan_of c.base.sets list) → ⊥)
+      → IsOwners k (outline c) gone (SealedCreate name list tokens tag text) → ⊥
+  tokens_others true apart owners = gone_others apart owners
+  tokens_others false apart owners = creation_others (λ et eg. apart et) owners
 
   -- there is room for the list's node
   pub has_room : IsTaken c (BriefCreate name list tokens tag (length text))

@@ -1,19 +1,20 @@
 //! The updates of records, with the bytes of new files as they were sent.
-ghost use Rattle.std.specs.Prelude.{◌≡◌, ◌≤◌, [], Some, None, IfOk, OnOk, IfSome, IsErr, IsErrOf};
-ghost use Rattle.std.specs.Prelude.{length, option_map};
+ghost use Rattle.std.specs.Prelude.{◌≡◌, ◌≤◌, ℕ, [], List, Some, None, true, false, IfOk, OnOk, IfSome};
+ghost use Rattle.std.specs.Prelude.{IsErr, IsErrOf, is_some, length, option_map};
 ghost use Rattle.ov_base.specs.declared.limits.TheConstants.{MAX_FILE_BYTES};
 ghost use Rattle.ov_blocks.specs.Extents.{IsInside};
 ghost use Rattle.ov_disk.specs.Calls.{IsDiskCall};
 ghost use Rattle.ov_disk.specs.Disk.{Told};
 ghost use Rattle.ov_disk.specs.Moments.{IsUntouched};
 ghost use Rattle.ov_history.specs.Briefs.{brief};
+ghost use Rattle.ov_history.specs.Fading.{faded_if};
 ghost use Rattle.ov_history.specs.Placed.{AllEndWithin, EndsWithin, bytes_at};
 ghost use Rattle.ov_history.specs.Rewrites.{surface_key};
 ghost use Rattle.ov_journal.specs.declared.fault.CheckFault.TheVariants.{Disk as DiskFailed};
 ghost use Rattle.ov_record.specs.Briefs.{plain_brief};
 ghost use Rattle.ov_record.specs.Updates.{SealedUpdate, sealed_update};
 ghost use Rattle.ov_surface.specs.Coats.{stored_under};
-ghost use Rattle.ov_store.specs.Owners.{HasTextIn, text_in};
+ghost use Rattle.ov_store.specs.Owners.{HasTextIn, IsTextIn, is_gone_in, text_in};
 
 use ov_base::{Memory, Octets};
 use ov_blocks::Extents;
@@ -97,8 +98,42 @@ fn sent_bytes<D: Disk>(
     Ok(Some(Octets::from_vec(bytes)))
 }
 
-/// The update of a record, with the text of the file that it creates, whose number this is; or none,
-/// where there is no such file of so many bytes.
+// The text of the file of this number, if it has so many bytes; and so many zeros where the file is
+// gone.
+fn text_for<D: Disk>(
+    alloc: Global,
+    disk: &mut D,
+    placed: &CataloguePlaces,
+    surface: &Master,
+    file: u32,
+    size: u32,
+) -> Result<Option<Octets>, CheckFault>
+    requires { Told (D.tells.reads disk.old) (λ i.
+        AllEndWithin (length i.blobs) placed.now.catalogue.files placed.now.placed) }
+    ensures many { IfOk result (λ found. IfSome found (λ text. length text ≡ size)) }
+    ensures found { IfOk result (λ found. Told (D.tells.reads disk.old) (λ i.
+        (text : List ℕ) → length text ≡ size
+        → IsTextIn surface.now.bytes placed.now file i.blobs text → is_some found ≡ true)) }
+    ensures same { IfOk result (λ found. Told (D.tells.reads disk.old) (λ i.
+        (text : List ℕ) → length text ≡ size
+        → IsTextIn surface.now.bytes placed.now file i.blobs text
+        → is_gone_in placed.now.catalogue file ≡ false → found ≡ Some text)) }
+    ensures untouched { IsUntouched D.tells disk.old disk.new }
+    ensures call { IsDiskCall D.tells (IsErrOf result DiskFailed) disk.old disk.new }
+{
+    let bytes = match sent_bytes(alloc, disk, placed, surface, file)? {
+        Some(bytes) => bytes,
+        None => return Ok(Some(Octets::from_vec(zeros(alloc, size)?))),
+    };
+    let many = bytes.as_slice().len();
+    if many != size as usize {
+        return Ok(None);
+    }
+    Ok(Some(bytes))
+}
+
+/// The update of a record, with the text of the file that it creates, whose number this is, or zeros
+/// where this file is gone; or none, where it has another number of bytes.
 pub(crate) fn whole_update<D: Disk>(
     alloc: Global,
     disk: &mut D,
@@ -111,10 +146,12 @@ pub(crate) fn whole_update<D: Disk>(
         AllEndWithin (length i.blobs) placed.now.catalogue.files placed.now.placed) }
     ensures brief { IfOk result (λ found. IfSome found (λ whole.
         brief (sealed_update whole) ≡ plain_brief update)) }
-    ensures whole { IfOk result (λ found. Told (D.tells.reads disk.old) (λ i.
+    ensures whole { let gone = is_gone_in placed.now.catalogue file in
+        IfOk result (λ found. Told (D.tells.reads disk.old) (λ i.
         (u : SealedUpdate) → brief u ≡ plain_brief update
         → HasTextIn surface.now.bytes placed.now file i.blobs u
-        → option_map (λ whole. sealed_update whole) found ≡ Some u)) }
+        → option_map (λ whole. faded_if gone (sealed_update whole)) found
+        ≡ Some (faded_if gone u))) }
     ensures untouched { IsUntouched D.tells disk.old disk.new }
     ensures call { IsDiskCall D.tells (IsErrOf result DiskFailed) disk.old disk.new }
 {
@@ -126,17 +163,18 @@ pub(crate) fn whole_update<D: Disk>(
             tokens,
             tag,
             length,
-        } => match sent_bytes(alloc, disk, placed, surface, file)? {
-            Some(bytes) if bytes.as_slice().len() == length as usize => Ok(Some(Update::Create {
+        } => match text_for(alloc, disk, placed, surface, file, length)? {
+            Some(bytes) => Ok(Some(Update::Create {
                 name,
                 list,
                 tokens,
                 tag,
                 bytes,
             })),
-            _ => Ok(None),
+            None => Ok(None),
         },
         Brief::Grant { user, file, token } => Ok(Some(Update::Grant { user, file, token })),
         Brief::Revoke { user, file } => Ok(Some(Update::Revoke { user, file })),
+        Brief::Remove { file } => Ok(Some(Update::Remove { file })),
     }
 }

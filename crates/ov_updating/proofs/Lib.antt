@@ -8,6 +8,7 @@ pub mod Listing
 pub mod Lists
 pub mod Ordering
 pub mod Origins
+pub mod Removing
 pub mod Sources
 pub mod Standing
 pub mod Taking

@@ -21,34 +21,46 @@ use Rattle.ov_images.specs.Laws.{placed_as}
 use Rattle.ov_moves.specs.Moves.{GrowsIntoMoves}
 use Rattle.ov_moves.specs.declared.moves.Move.{Move}
 use Rattle.ov_state.specs.Plans.{IsTaken}
-use Rattle.ov_updating.specs.Files.{AreHeldFor, firsts_of}
+use Rattle.ov_updating.specs.Files.{AreHeldFor, firsts_of, removed_by}
 
 -- ---- what an update is made from
 
 -- The rewrites of an update, the first blocks of all files by number, the extents that are held, the
--- spelling of the update before its own first blocks, and the bytes of a new file.
+-- spelling of the update before its own first blocks, the bytes of a new file, and the number of the
+-- file that is removed, where one is.
 pub record Asked : Type 0 where
   pub rewrites : List Rewrite
   pub placed : List (Option ℕ)
   pub held : List Extent
   pub front : List ℕ
   pub text : List ℕ
+  pub removed : Option ℕ
 
 -- what an update is made from, of these parts
-abbrev pub asked : List Rewrite → List (Option ℕ) → List Extent → List ℕ → List ℕ → Asked
-asked rewrites placed held front text =
-    record { rewrites = rewrites; placed = placed; held = held; front = front; text = text }
+abbrev pub asked : List Rewrite → List (Option ℕ) → List Extent → List ℕ → List ℕ → Option ℕ → Asked
+asked rewrites placed held front text removed = record {
+  rewrites = rewrites;
+  placed = placed;
+  held = held;
+  front = front;
+  text = text;
+  removed = removed;
+}
 
 -- A store with this catalogue takes the update, and this is what the update is made from. After it
--- there are no more files than a store may have, and each is no longer than a file may be.
+-- there are no more files than a store may have, and each is no longer than a file may be; nor was one
+-- before it.
 pub record IsAskedFor (c : Catalogue) (u : SealedUpdate) (a : Asked) : Type 0 where
   pub taken : IsTaken c (brief u)
   pub rewrites : a.rewrites ≡ rewrites_of c (brief u)
   pub form : HasBriefForm second_form (brief u)
   pub front : a.front ≡ brief_spelling second_form (brief u)
   pub text : (text : List ℕ) → text_of u ≡ Some text → a.text ≡ text
+  pub removed : a.removed ≡ removed_by (brief u)
   pub files : length (files_after c (brief u)) ≤ MAX_FILES
   pub short : (file : ℕ) (f : Filed) → living_at (files_after c (brief u)) file ≡ Some f
+      → f.length ≤ MAX_FILE_BYTES
+  pub was_short : (file : ℕ) (f : Filed) → living_at c.files file ≡ Some f
       → f.length ≤ MAX_FILE_BYTES
   pub held : AreHeldFor c.files a.placed a.held
 

@@ -10,8 +10,9 @@ ghost use Rattle.ov_updating.specs.Files.{files_of, firsts_of};
 ghost use Rattle.ov_updating.specs.Recording.{body_with};
 ghost use Rattle.ov_updating.specs.Updating.{AreHeldAfter, IsAsked, KeepsItOrMore, UpdateLasts, asked};
 
-use crate::files::list_files;
+use crate::files::{first_at, list_files};
 use crate::recording::Recording;
+use crate::releasing::release_at;
 use ov_blocks::Extents;
 use ov_disk::Disk;
 use ov_journal::{CheckFault, Journal};
@@ -20,11 +21,12 @@ use ov_recoat::Recoat;
 use std::alloc::Global;
 
 /// Makes an update on the disk: finds new extents for the files of these rewrites, writes their bytes
-/// there under their new surfaces, and then the record, and gives up the old extents. It answers
-/// where the files went.
+/// there under their new surfaces, and then the record, and gives up the old extents, and that of the
+/// file that the update removes. It answers where the files went.
 ///
-/// The first blocks of all files are by number; `front` is the update's spelling, and `text` the bytes
-/// of a new file. All memory is taken before the first call of the disk.
+/// The first blocks of all files are by number; `front` is the update's spelling, `text` the bytes of
+/// a new file, and `removed` the number of the file that is removed, where one is. All memory is taken
+/// before the first call of the disk.
 pub fn update<D: Disk>(
     alloc: Global,
     extents: &mut Extents,
@@ -34,8 +36,10 @@ pub fn update<D: Disk>(
     placed: &[Option<u32>],
     front: &[u8],
     text: &[u8],
+    removed: Option<u32>,
 ) -> Result<Vec<Move>, CheckFault>
-    requires asked { IsAsked (asked recoat.now.rewrites placed.now extents.old front.now text.now) }
+    requires asked { IsAsked
+        (asked recoat.now.rewrites placed.now extents.old front.now text.now removed) }
     requires whole { journal.old.bad ≡ false }
     requires count { length journal.old.offsets < 2 ^ 40 }
     requires stands { Stands D.tells journal.old disk.old }
@@ -45,7 +49,8 @@ pub fn update<D: Disk>(
     // Where the disk tells its bytes, a crash at any moment leaves an image that keeps the history
     // from before, or it with the update.
     ensures any_moment { LeavesAtMost D.tells (KeepsItOrMore recoat.now.master
-        (asked recoat.now.rewrites placed.now extents.old front.now text.now)) disk.old disk.new }
+        (asked recoat.now.rewrites placed.now extents.old front.now text.now removed))
+        disk.old disk.new }
 
     // At `Ok` the history with the update lasts, and the files of its rewrites have gone there, each
     // into the lowest run of free blocks.
@@ -53,12 +58,12 @@ pub fn update<D: Disk>(
         GoToFree (files_of placed.now recoat.now.rewrites) extents.old moves.items) }
     ensures lasts { IfOk result (λ moves. Told (D.tells.reads disk.old)
         (UpdateLasts D.tells recoat.now.master
-        (asked recoat.now.rewrites placed.now extents.old front.now text.now)
+        (asked recoat.now.rewrites placed.now extents.old front.now text.now removed)
         moves.items disk.new)) }
 
-    // The next one may be made in the same way.
+    // The next one may be made in the same way. The blocks of a file that is removed are free for it.
     ensures held { IfOk result (λ moves. AreHeldAfter
-        (asked recoat.now.rewrites placed.now extents.old front.now text.now)
+        (asked recoat.now.rewrites placed.now extents.old front.now text.now removed)
         (firsts_of moves.items) extents.new) }
     ensures lies { OnOk result (Told (D.tells.reads disk.new) (LiesIn extents.new)) }
     ensures stands { OnOk result (Stands D.tells journal.new disk.new) }
@@ -78,7 +83,10 @@ pub fn update<D: Disk>(
 {
     let files = list_files(alloc, placed, recoat.rewrites())?;
     let recording = Recording { front };
-    rewrite(
+    let moves = rewrite(
         alloc, extents, journal, disk, recoat, text, &files, &recording,
-    )
+    )?;
+    // Only now, with the record on the disk: until then a crash may leave the store with this file.
+    release_at(extents, first_at(placed, removed));
+    Ok(moves)
 }

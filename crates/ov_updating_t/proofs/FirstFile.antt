@@ -35,7 +35,6 @@ module _ (name tag : List ℕ) where
 
   none_held : AreHeldFor [] [] []
   none_held = record {
-    there = λ file lt. absurd (omega (arith, lt));
     placed_are = record { many = refl; each = λ file lt. absurd (omega (arith, lt)) };
     same = record { there = λ e is. is; back = λ e is. is };
     apart = λ file other first lt one two. absurd (cc one);
@@ -43,15 +42,17 @@ module _ (name tag : List ℕ) where
   }
 
   created : (front : List ℕ) → HasBriefForm second_form creation → front ≡ brief_spelling second_form creation
-      → IsAskedFor one_user (SealedCreate name 1 [] tag text) (asked rewrites [] [] front text)
+      → IsAskedFor one_user (SealedCreate name 1 [] tag text) (asked rewrites [] [] front text None)
   created front form is = record {
     taken = (refl, refl);
     rewrites = refl;
     form = form;
     front = is;
     text = λ t same. cc same;
+    removed = refl;
     files = lit≤ tt;
     short = short;
+    was_short = λ file f at. absurd (cc at);
     held = none_held;
   }
 
@@ -59,12 +60,12 @@ module _ (name tag : List ℕ) where
       → all ≡ rewrites → list ≡ 1 → tokens ≡ [] → held ≡ []
       → HasBriefForm second_form (BriefCreate name list tokens tag 3)
       → front ≡ brief_spelling second_form (BriefCreate name list tokens tag 3)
-      → IsAsked (asked all [] held front text)
+      → IsAsked (asked all [] held front text None)
   first_asked all front list tokens held are one none empty form is =
       let same : BriefCreate name list tokens tag 3 ≡ creation =
       ap (λ (l : ℕ). BriefCreate name l tokens tag 3) one ∙ ap (λ (t : List Token). BriefCreate name 1 t tag 3) none in
-      subst (λ (rs : List Rewrite). IsAsked (asked rs [] held front text)) (sym are)
-      (subst (λ (h : List Extent). IsAsked (asked rewrites [] h front text)) (sym empty) (
+      subst (λ (rs : List Rewrite). IsAsked (asked rs [] held front text None)) (sym are)
+      (subst (λ (h : List Extent). IsAsked (asked rewrites [] h front text None)) (sym empty) (
         one_user,
         SealedCreate name 1 [] tag text,
         created front (subst (HasBriefForm second_form) same form) (is ∙ ap (brief_spelling second_form) same),

@@ -64,7 +64,17 @@ fn create<D: Disk>(
     let (_, front) = spell_update(alloc, brief)?;
     let master = master();
     let recoat = Recoat::new(&master, &REWRITES);
-    update(alloc, extents, journal, disk, &recoat, &[], &front, &TEXT)
+    update(
+        alloc,
+        extents,
+        journal,
+        disk,
+        &recoat,
+        &[],
+        &front,
+        &TEXT,
+        None,
+    )
 }
 
 #[test]

@@ -38,3 +38,11 @@ fn a_record_is_read_again(rt: HostRuntime) -> Result<(), Fail> {
     }
     Ok(())
 }
+
+#[test]
+fn a_removal_has_its_file_alone(rt: HostRuntime) -> Result<(), Fail> {
+    let remove: Brief<WIDTH> = Brief::Remove { file: 258 };
+    let (_, front) = spell_update(rt.alloc(), remove)?;
+    assert!(rt; front.as_slice() == [6, 0, 0, 1, 2].as_slice());
+    Ok(())
+}

@@ -1,5 +1,6 @@
 use Rattle.std.proofs.Common.{◌≡◌, ◌*◌, ℕ, ◌∙◌, List, Option, ap, subst, sym}
 use Rattle.std.proofs.lemmas.Result.{err_from_is_err_and}
+use Rattle.ov_blocks.specs.declared.extents.Extent.{Extent}
 use Rattle.ov_history.specs.Placed.{with_unplaced}
 use Rattle.ov_images.specs.Extents.{AllTakeFree, new_extents}
 use Rattle.ov_record.specs.Briefs.{plain_brief}
@@ -7,11 +8,12 @@ use Rattle.ov_state.specs.Changes.{applied}
 use Rattle.ov_state.specs.Entries.{plain_rewrites}
 use Rattle.ov_placed.specs.Contents.{HoldsFiles, PlacedStore}
 use Rattle.ov_placed.specs.Faults.{IsTakenAt, NamesSpot, UpdateIsTakenAt}
-use Rattle.ov_placed.specs.Holding.{IsWithAll}
+use Rattle.ov_updating.specs.Files.{removed_by}
+use Rattle.ov_placed.specs.Holding.{AreHeld, IsWithAll, extent_removed}
 use Rattle.ov_placed.specs.Replaying.{placed_update}
 use Rattle.ov_placed.specs.declared.fault.ReplayFault.{ReplayFault}
 use Rattle.ov_placed.proofs.Taking.{all_have_blocks, files_there, free_in_use, gone_are_held}
-use Rattle.ov_placed.proofs.Taking.{holds_then, placed_is, taken_in_use}
+use Rattle.ov_placed.proofs.Taking.{holds_then, placed_is, removed_is_there, taken_in_use}
 use Rattle.ov_placed.proofs.catalogue.PlacedCatalogue.take.Goals as goal
 
 pub hold_all-requires-clause-some : goal.hold_all-requires-clause-some
@@ -35,50 +37,77 @@ returns-in_err-hold_all-clause-fault g c =
     (subst (λ (t : PlacedStore). NamesSpot (IsTakenAt c.args.blocks t.held c.deref.result.now)
     c.in_err-hold_all.field-0.0) c.self.view_is c.in_err-hold_all.ensures.fault)))
 
+pub give_up_removed-requires : goal.give_up_removed-requires
+give_up_removed-requires g c =
+    let s : PlacedStore = c.args.self.now in
+    let holds = subst (λ (t : PlacedStore). HoldsFiles t.catalogue t.placed t.held) c.self.view_is
+    c.self.invariant in
+    let with = subst (λ (t : PlacedStore). IsWithAll c.deref.result.now t.held
+    c.hold_all.new.extents) c.self.view_is c.in_ok-hold_all.ensures.held in
+    let gone : extent_removed c.self.inside.catalogue.catalogue c.deref-2.result.now
+    c.removed_by.result
+    ≡ extent_removed s.catalogue s.placed (removed_by (plain_brief c.args.stored.now.update)) =
+    λ j. extent_removed (ap (λ (t : PlacedStore). t.catalogue) c.self.view_is j)
+    ((c.deref-2.ensures.value ∙ c.in_ok-make_room.ensures.same
+    ∙ ap (λ (t : PlacedStore). t.placed) c.self.view_is) j) (c.removed_by.ensures j) in
+    subst (λ (l : List Extent). AreHeld l c.hold_all.new.extents) (sym gone)
+    (removed_is_there g.row.W (64 * g.row.W) c.requires.change.0 s (placed_update c.args.stored.now)
+    c.args.change c.requires.change.1 holds c.rewrites-rewritten.result.now
+    c.as_slice-firsts.result.now c.rewrites-rewritten.ensures c.as_slice-firsts.ensures
+    c.deref.result.now c.hold_all.new.extents (c.deref.ensures.value ∙ c.in_ok-new.ensures) with)
+
 pub exchange-requires-clause-files : goal.exchange-requires-clause-files
 exchange-requires-clause-files g c =
     let s : PlacedStore = c.args.self.now in
     let holds = subst (λ (t : PlacedStore). HoldsFiles t.catalogue t.placed t.held) c.self.view_is
     c.self.invariant in
-    let grown : c.add_new.new.placed.items
-    ≡ with_unplaced s.placed (plain_brief c.args.stored.now.update) = c.add_new.ensures
+    let grown : c.unplace.new.placed.items
+    ≡ with_unplaced s.placed (plain_brief c.args.stored.now.update) = c.unplace.ensures
     ∙ ap (λ (ps : List (Option ℕ)). with_unplaced ps (plain_brief c.args.stored.now.update))
     (c.in_ok-make_room.ensures.same ∙ ap (λ (t : PlacedStore). t.placed) c.self.view_is) in
     files_there g.row.W (64 * g.row.W) c.requires.change.0 s (placed_update c.args.stored.now)
     c.args.change c.requires.change.1 holds c.rewrites-rewritten.result.now c.as_slice-firsts.result.now
-    c.rewrites-rewritten.ensures c.as_slice-firsts.ensures c.add_new.new.placed.items grown
+    c.rewrites-rewritten.ensures c.as_slice-firsts.ensures c.unplace.new.placed.items grown
 
 pub exchange-requires-clause-held : goal.exchange-requires-clause-held
 exchange-requires-clause-held g c =
     let s : PlacedStore = c.args.self.now in
     let holds = subst (λ (t : PlacedStore). HoldsFiles t.catalogue t.placed t.held) c.self.view_is
     c.self.invariant in
-    let grown : c.add_new.new.placed.items
-    ≡ with_unplaced s.placed (plain_brief c.args.stored.now.update) = c.add_new.ensures
+    let grown : c.unplace.new.placed.items
+    ≡ with_unplaced s.placed (plain_brief c.args.stored.now.update) = c.unplace.ensures
     ∙ ap (λ (ps : List (Option ℕ)). with_unplaced ps (plain_brief c.args.stored.now.update))
     (c.in_ok-make_room.ensures.same ∙ ap (λ (t : PlacedStore). t.placed) c.self.view_is) in
     let new : c.deref.result.now ≡ new_extents (plain_rewrites c.rewrites-rewritten.result.now)
     c.as_slice-firsts.result.now = c.deref.ensures.value ∙ c.in_ok-new.ensures in
     let with = subst (λ (t : PlacedStore). IsWithAll c.deref.result.now t.held
     c.hold_all.new.extents) c.self.view_is c.in_ok-hold_all.ensures.held in
+    let gone : extent_removed c.self.inside.catalogue.catalogue c.deref-2.result.now
+    c.removed_by.result
+    ≡ extent_removed s.catalogue s.placed (removed_by (plain_brief c.args.stored.now.update)) =
+    λ j. extent_removed (ap (λ (t : PlacedStore). t.catalogue) c.self.view_is j)
+    ((c.deref-2.ensures.value ∙ c.in_ok-make_room.ensures.same
+    ∙ ap (λ (t : PlacedStore). t.placed) c.self.view_is) j) (c.removed_by.ensures j) in
+    let out = subst (λ (l : List Extent). IsWithAll l c.give_up_removed.new.extents
+    c.hold_all.new.extents) gone c.give_up_removed.ensures in
     gone_are_held g.row.W (64 * g.row.W) c.requires.change.0 s (placed_update c.args.stored.now)
     c.args.change c.requires.change.1 holds c.rewrites-rewritten.result.now c.as_slice-firsts.result.now
-    c.rewrites-rewritten.ensures c.as_slice-firsts.ensures c.add_new.new.placed.items grown
-    c.deref.result.now c.hold_all.new.extents new with
+    c.rewrites-rewritten.ensures c.as_slice-firsts.ensures c.unplace.new.placed.items grown
+    c.deref.result.now c.hold_all.new.extents c.give_up_removed.new.extents new with out
 
 pub returns-clause-placed : goal.returns-clause-placed
 returns-clause-placed g c =
     let s : PlacedStore = c.args.self.now in
     let holds = subst (λ (t : PlacedStore). HoldsFiles t.catalogue t.placed t.held) c.self.view_is
     c.self.invariant in
-    let grown : c.add_new.new.placed.items
-    ≡ with_unplaced s.placed (plain_brief c.args.stored.now.update) = c.add_new.ensures
+    let grown : c.unplace.new.placed.items
+    ≡ with_unplaced s.placed (plain_brief c.args.stored.now.update) = c.unplace.ensures
     ∙ ap (λ (ps : List (Option ℕ)). with_unplaced ps (plain_brief c.args.stored.now.update))
     (c.in_ok-make_room.ensures.same ∙ ap (λ (t : PlacedStore). t.placed) c.self.view_is) in
     placed_is g.row.W (64 * g.row.W) c.requires.change.0 s (placed_update c.args.stored.now)
     c.args.change c.requires.change.1 holds c.rewrites-rewritten.result.now
     c.as_slice-firsts.result.now c.rewrites-rewritten.ensures c.as_slice-firsts.ensures
-    c.add_new.new.placed.items grown c.exchange.new.placed.items c.exchange.ensures.placed
+    c.unplace.new.placed.items grown c.exchange.new.placed.items c.exchange.ensures.placed
 
 pub returns-clause-free : goal.returns-clause-free
 returns-clause-free g c =
@@ -97,19 +126,28 @@ invariant_of-self-2 g c =
     let s : PlacedStore = c.args.self.now in
     let holds = subst (λ (t : PlacedStore). HoldsFiles t.catalogue t.placed t.held) c.self.view_is
     c.self.invariant in
-    let grown : c.add_new.new.placed.items
-    ≡ with_unplaced s.placed (plain_brief c.args.stored.now.update) = c.add_new.ensures
+    let grown : c.unplace.new.placed.items
+    ≡ with_unplaced s.placed (plain_brief c.args.stored.now.update) = c.unplace.ensures
     ∙ ap (λ (ps : List (Option ℕ)). with_unplaced ps (plain_brief c.args.stored.now.update))
     (c.in_ok-make_room.ensures.same ∙ ap (λ (t : PlacedStore). t.placed) c.self.view_is) in
     let new : c.deref.result.now ≡ new_extents (plain_rewrites c.rewrites-rewritten.result.now)
     c.as_slice-firsts.result.now = c.deref.ensures.value ∙ c.in_ok-new.ensures in
     let with = subst (λ (t : PlacedStore). IsWithAll c.deref.result.now t.held
     c.hold_all.new.extents) c.self.view_is c.in_ok-hold_all.ensures.held in
+    let gone : extent_removed c.self.inside.catalogue.catalogue c.deref-2.result.now
+    c.removed_by.result
+    ≡ extent_removed s.catalogue s.placed (removed_by (plain_brief c.args.stored.now.update)) =
+    λ j. extent_removed (ap (λ (t : PlacedStore). t.catalogue) c.self.view_is j)
+    ((c.deref-2.ensures.value ∙ c.in_ok-make_room.ensures.same
+    ∙ ap (λ (t : PlacedStore). t.placed) c.self.view_is) j) (c.removed_by.ensures j) in
+    let out = subst (λ (l : List Extent). IsWithAll l c.give_up_removed.new.extents
+    c.hold_all.new.extents) gone c.give_up_removed.ensures in
     holds_then g.row.W (64 * g.row.W) c.requires.change.0 s (placed_update c.args.stored.now)
     c.args.change c.requires.change.1 holds c.rewrites-rewritten.result.now
     c.as_slice-firsts.result.now c.rewrites-rewritten.ensures c.as_slice-firsts.ensures
-    c.add_new.new.placed.items grown c.deref.result.now c.hold_all.new.extents
-    c.exchange.new.extents c.exchange.new.placed.items c.commit.new.self.catalogue new with
+    c.unplace.new.placed.items grown c.deref.result.now c.hold_all.new.extents
+    c.give_up_removed.new.extents c.exchange.new.extents c.exchange.new.placed.items
+    c.commit.new.self.catalogue new with out
     c.exchange.ensures.given c.exchange.ensures.placed
     (c.commit.ensures.applied
     ∙ ap (λ (t : PlacedStore). applied t.catalogue c.args.change) c.self.view_is)
