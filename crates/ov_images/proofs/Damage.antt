@@ -112,7 +112,7 @@ module _ (step : Option ℕ) where
 
 module _ (form : Form) (room : HasRoom form) where
   -- a body begins with one update
-  one_front : (u v : Brief) (body : List ℕ) → BeginsWith form u body → BeginsWith form v body
+  pub one_front : (u v : Brief) (body : List ℕ) → BeginsWith form u body → BeginsWith form v body
       → u ≡ v
   one_front u v body one two =
       (fronts_apart form room u v one.rest two.rest one.has_form two.has_form

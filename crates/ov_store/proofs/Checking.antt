@@ -59,7 +59,7 @@ pub record Nth (step : Option ℕ) (count behind : ℕ) (us : List SealedUpdate)
   pub form : HasRecordForm (form_behind step behind) placed
 
 module _ (step : Option ℕ) where
-  nth : (count behind : ℕ) (us : List SealedUpdate) (ps : List PlacedUpdate) (i : ℕ)
+  pub nth : (count behind : ℕ) (us : List SealedUpdate) (ps : List PlacedUpdate) (i : ℕ)
       → count + i ≡ behind → AllHaveFormFrom step count ps → brief_all us ≡ unplaced_all ps
       → i < length us → Nth step count behind us ps i
   nth count behind [] ps i is all same lt = absurd (omega (arith, lt))
@@ -101,7 +101,7 @@ module _ (step : Option ℕ) where
       ap (λ (l : List (List ℕ)). record_spelling (form_behind step count) p ∷ l)
       (take-bodies (count + 1) ps i)
 
-take-briefs : (us : List SealedUpdate) (ps : List PlacedUpdate) (i : ℕ)
+pub take-briefs : (us : List SealedUpdate) (ps : List PlacedUpdate) (i : ℕ)
     → brief_all us ≡ unplaced_all ps → brief_all (take i us) ≡ unplaced_all (take i ps)
 take-briefs us ps zero same = refl
 take-briefs [] [] (suc i) same = refl

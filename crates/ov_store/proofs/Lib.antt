@@ -18,4 +18,5 @@ pub mod OwnersLaws
 pub mod Replays
 pub mod Said
 pub mod Stopping
+pub mod UpdatesAt
 pub mod Wholes

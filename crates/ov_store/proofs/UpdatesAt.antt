@@ -1,0 +1,140 @@
+-- The update that stands in a record is that of each history for which a store stands.
+use Rattle.std.proofs.Common.{◌≡◌, ◌<◌, ◌≤◌, ℕ, Bool, List, [], ◌∷◌, length, get_or, refl, sym, ◌∙◌, ap, subst, arith}
+use Rattle.std.proofs.Common.{take}
+use Rattle.std.proofs.lemmas.List.{get_or_append_left}
+use Rattle.std.specs.Prelude.{Err, Option, Result, Some, slice_index}
+use Rattle.ov_disk.specs.Disk.{Image, Told}
+use Rattle.ov_disk.specs.Tells.{DiskTells}
+use Rattle.ov_record.specs.Briefs.{Brief as SpelledBrief}
+use Rattle.ov_history.specs.Briefs.{Brief, brief, numbered_brief, outer, spelled_brief}
+use Rattle.ov_history.specs.History.{Matrix, changed, changed_all, no_one}
+use Rattle.ov_history.specs.Lists.{file_names}
+use Rattle.ov_history.specs.Sent.{SealedUpdate}
+use Rattle.ov_history.specs.Placed.{PlacedUpdate, unplaced_all}
+use Rattle.ov_history.specs.Texts.{BriefHistory, brief_all}
+use Rattle.ov_history.specs.Sealed.{SealedHistory, file_names_of, outer_all}
+use Rattle.ov_images.specs.Damage.{BeginsWith}
+use Rattle.ov_images.specs.Images.{Keys}
+use Rattle.ov_images.specs.Records.{bodies_of, form_behind, matrix_after, names_after}
+use Rattle.ov_images.proofs.Damage.{one_front}
+use Rattle.ov_images.proofs.Records.{firsts_spelling, length-bodies_from, room_behind}
+use Rattle.ov_journal.specs.Book.{contents_of}
+use Rattle.ov_journal.specs.Log.{Log}
+use Rattle.ov_placed.specs.Contents.{PlacedStore}
+use Rattle.ov_record.specs.declared.brief.Brief.{Brief as Written}
+use Rattle.ov_state.specs.declared.state.TheConstants.{WIDTH}
+use Rattle.ov_store.specs.Briefs.{IsUpdateAt, ReadsUpdate}
+use Rattle.ov_store.specs.declared.briefs.BriefFault.{BriefFault}
+use Rattle.ov_store.specs.declared.briefs.BriefFault.TheVariants.{Changed, Disk as DiskFailed}
+use Rattle.ov_store.specs.declared.briefs.BriefFault.TheVariants.{Memory as NoMemory}
+use Rattle.ov_store.specs.Opened.{IsSafe, Serves}
+use Rattle.ov_store.specs.Owners.{IsHistoryOf, with_first}
+use Rattle.ov_store.proofs.Checked.{history_read}
+use Rattle.ov_store.proofs.Checking.{Nth, nth, take-briefs}
+use Rattle.ov_store.proofs.Histories.{same_length}
+use Rattle.ov_store.proofs.Looking.{store_of}
+
+-- updates make the same matrix whether they are known with their first blocks or with their texts
+matrix_same : (m : Matrix) (us : List SealedUpdate) (ps : List PlacedUpdate)
+    → brief_all us ≡ unplaced_all ps → matrix_after m ps ≡ changed_all m (outer_all us)
+matrix_same m [] [] same = refl
+matrix_same m [] (p ∷ ps) same = absurd (cc same)
+matrix_same m (u ∷ us) [] same = absurd (cc same)
+matrix_same m (u ∷ us) (p ∷ ps) same =
+    let head : brief u ≡ p.update = cc same in
+    let rest : brief_all us ≡ unplaced_all ps = cc same in
+    ap (λ (b : Brief). matrix_after (changed m (outer b)) ps) (sym head)
+    ∙ matrix_same (changed m (outer (brief u))) us ps rest
+
+module _ {D : Type 0} (tells : DiskTells D) (d : D) (k : Keys) (store : PlacedStore) (f : Bool)
+    (log : Log) (safe : IsSafe tells log store (store_of tells d k store f)) where
+  -- as many updates as records
+  pub many_updates : (g : SealedHistory) → Serves tells g (store_of tells d k store f)
+      → Told (tells.reads d) (λ _. length log.offsets ≡ length g.updates)
+  many_updates g serves i read =
+      let history = history_read tells d k store f log safe g serves i read in
+      sym history.many ∙ sym (same_length g history.placed history.briefs)
+
+  module _ (g : SealedHistory) (serves : Serves tells g (store_of tells d k store f)) (i : Image)
+      (read : tells.reads d ≡ Some i) (n : ℕ) (low : n < length log.offsets) where
+    history : IsHistoryOf k.surface log store g i
+    history = history_read tells d k store f log safe g serves i read
+
+    abbrev ps : List PlacedUpdate
+    ps = history.placed.updates
+
+    -- the names of the files before the update
+    abbrev names : List (List ℕ)
+    names = names_after (take n ps)
+
+    one : Nth log.step 0 n g.updates ps n
+    one =
+        nth log.step 0 n g.updates ps n (omega arith) history.form
+        (ap (λ (b : BriefHistory). b.updates) history.briefs)
+        (omega (arith, low, history.many, same_length g history.placed history.briefs))
+
+    -- the body of the record begins with the update, as it is spelled with these names
+    pub first_front : BeginsWith (form_behind log.step n) (spelled_brief names one.placed.update)
+        (get_or (contents_of i.book).records.bodies n [])
+    first_front =
+        let low_body : n < length (bodies_of log.step ps) =
+        omega (arith, low, length-bodies_from log.step 0 ps, history.many) in
+        let body : get_or (contents_of i.book).records.bodies n []
+        ≡ get_or (bodies_of log.step ps) n [] =
+        ap (λ (l : List (List ℕ)). get_or l n []) history.split
+        ∙ get_or_append_left (bodies_of log.step ps) history.rest [] n low_body in record {
+          has_form = one.form.spelled.0;
+          rest = firsts_spelling one.placed.firsts;
+          bytes = body ∙ one.body;
+        }
+
+    -- An update with which it begins is the history's. The record spells it with the names that the
+    -- files had then, and a spelling has one update.
+    pub front_at : (b : SpelledBrief)
+        → BeginsWith (form_behind log.step n) b (get_or (contents_of i.book).records.bodies n [])
+        → IsUpdateAt g n b
+    front_at b begins =
+        let same : b ≡ spelled_brief names one.placed.update =
+        one_front (form_behind log.step n) (room_behind log.step n) b (spelled_brief names one.placed.update)
+        (get_or (contents_of i.book).records.bodies n []) begins first_front in
+        let at_then : names ≡ file_names_of (with_first g (take n g.updates)) =
+        ap (λ (m : Matrix). file_names m.files)
+        (matrix_same no_one (take n g.updates) (take n ps)
+        (take-briefs g.updates ps n (ap (λ (b : BriefHistory). b.updates) history.briefs))) in record {
+          update = one.update;
+          rest = one.rest;
+          split = one.split;
+          told = ap (λ (these : List (List ℕ)). numbered_brief these b) (sym at_then)
+              ∙ ap (λ (u : SpelledBrief). numbered_brief names u) same
+              ∙ one.form.told ∙ sym one.same;
+        }
+
+  pub update_at : (n : ℕ) (b : SpelledBrief) → n < length log.offsets
+      → Told (tells.reads d) (λ i. BeginsWith (form_behind log.step n) b
+      (get_or (contents_of i.book).records.bodies n []))
+      → (g : SealedHistory) → Serves tells g (store_of tells d k store f)
+      → Told (tells.reads d) (λ _. IsUpdateAt g n b)
+  update_at n b low begins g serves i read = front_at g serves i read n low b (begins i read)
+
+  -- past the last record there is no update
+  pub none_left : (n : ℕ) → length log.offsets ≤ n
+      → (g : SealedHistory) → Serves tells g (store_of tells d k store f)
+      → Told (tells.reads d) (λ _. length g.updates ≤ n)
+  none_left n past g serves i read = omega (arith, past, many_updates g serves i read)
+
+  -- a record of a disk that tells its bytes begins with an update, so it hasn't changed
+  pub changed_never : (n : ℕ) → n < length log.offsets → (fault : BriefFault)
+      → ((place : ℕ) → fault ≡ Changed place
+      → (place ≡ slice_index log.offsets n)
+      × Told (tells.reads d) (λ i. (u : SpelledBrief) → BeginsWith (form_behind log.step n) u
+      (get_or (contents_of i.book).records.bodies n []) → ⊥))
+      → (r : Result (Option (Written WIDTH)) BriefFault) → r ≡ Err fault
+      → ReadsUpdate tells (store_of tells d k store f) n r
+  changed_never n low DiskFailed changed r is =
+      subst (ReadsUpdate tells (store_of tells d k store f) n) (sym is) tt
+  changed_never n low (Changed place) changed r is =
+      subst (ReadsUpdate tells (store_of tells d k store f) n) (sym is) (λ i read.
+      let kept = safe.some_history in
+      (changed place refl).1 i read _ (first_front kept.0 kept.2 i read n low))
+  changed_never n low NoMemory changed r is =
+      subst (ReadsUpdate tells (store_of tells d k store f) n) (sym is) tt
