@@ -92,6 +92,17 @@ impl<D: Disk> Store<D> {
         self.journal.count().min(u64::from(epoch)) as u32
     }
 
+    /// The place in Book of the gate of the record of update number `i`; or 0, where no record is,
+    /// past the last one.
+    pub fn gate(&self, i: u32) -> u64 {
+        let i = u64::from(i);
+        if i < self.journal.count() {
+            self.journal.offset(i)
+        } else {
+            0
+        }
+    }
+
     /// Update number `i`, counted from 0, without the bytes of its file; None where there are no
     /// more. Its record is read again. Over a disk that tells its bytes it is never found changed.
     pub fn brief(&mut self, alloc: Global, i: u32) -> Result<Option<Brief<WIDTH>>, BriefFault>
