@@ -1,3 +1,4 @@
 pub mod Followed
 pub mod Texts
 pub mod Namings
+pub mod Steps

@@ -104,6 +104,7 @@ module _ {D : Type 0} (tells : DiskTells D) (d : D) (k : Keys) (store : PlacedSt
           update = one.update;
           rest = one.rest;
           split = one.split;
+          more = one.more;
           told = ap (λ (these : List (List ℕ)). numbered_brief these b) (sym at_then)
               ∙ ap (λ (u : SpelledBrief). numbered_brief names u) same
               ∙ one.form.told ∙ sym one.same;

@@ -1,5 +1,5 @@
 -- The updates of an open store, read again one by one.
-use Rattle.std.specs.Prelude.{◌≡◌, ◌≤◌, ℕ, List, ◌∷◌, ◌++◌, length, take, Option, Some, None}
+use Rattle.std.specs.Prelude.{◌≡◌, ◌≤◌, ◌+◌, ℕ, List, [], ◌∷◌, ◌++◌, length, take, Option, Some, None}
 use Rattle.std.specs.Prelude.{Result, Ok, Err, ⊤}
 use Rattle.ov_disk.specs.Disk.{Told}
 use Rattle.ov_disk.specs.Tells.{DiskTells}
@@ -21,6 +21,7 @@ pub record IsUpdateAt (g : SealedHistory) (i : ℕ) (b : SpelledBrief) : Type 0 
   pub update : SealedUpdate
   pub rest : List SealedUpdate
   pub split : g.updates ≡ take i g.updates ++ update ∷ rest
+  pub more : take (i + 1) g.updates ≡ take i g.updates ++ update ∷ []
   pub told : numbered_brief (file_names_of (with_first g (take i g.updates))) b ≡ brief update
 
 -- What is answered for update number `i`, of each history for which the store stands, where its disk
