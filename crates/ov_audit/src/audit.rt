@@ -1,5 +1,5 @@
 //! An audit.
-ghost use Rattle.std.specs.Prelude.{◌≡◌, [], IfOk, OnErr, OnOk};
+ghost use Rattle.std.specs.Prelude.{◌≡◌, ◌↔◌, [], IfOk, OnErr, OnOk, true};
 ghost use Rattle.ov_exposure.specs.Auditing.{findings_from};
 ghost use Rattle.ov_audit.specs.Seen.{IsNext, SeesNext};
 
@@ -53,6 +53,20 @@ impl Audit {
             epoch: first,
             notes: Vec::new(alloc),
         }
+    }
+
+    /// Whether this state may be the next that is looked at: it has the next epoch, each file that was
+    /// noted, and at most one more.
+    pub fn is_next(&self, state: &Catalogue) -> bool
+        ensures { (result ≡ true) ↔ IsNext self.now state.now.catalogue }
+    {
+        state.known();
+        let files = state.sizes().files as usize;
+        state.epoch() > 0
+            && state.epoch() - 1 == self.epoch
+            && self.notes.len() <= files
+            && files <= self.notes.len() + 1
+            && (files == self.notes.len() || state.file_at(self.notes.len() as u32).is_some())
     }
 
     /// Looks at the state after the next update. Where memory is refused, the audit is as it was.
