@@ -2,3 +2,5 @@ pub mod Followed
 pub mod Texts
 pub mod Namings
 pub mod Steps
+pub mod Printed
+pub mod OpenStores
