@@ -1,6 +1,11 @@
 -- One update of a store, as its record spells it, is followed.
-use Rattle.std.proofs.Common.{◌≡◌, ◌+◌, ◌∙◌, ℕ, List, [], ◌∷◌, ◌++◌, ap, append_assoc, subst, sym, take}
+use Rattle.std.proofs.Common.{◌≡◌, ◌+◌, ◌≤◌, ◌∙◌, ℕ, List, [], ◌∷◌, ◌++◌, ap, append_assoc, arith}
+use Rattle.std.proofs.Common.{length, subst, sym, take}
+use Rattle.std.specs.Prelude.{None, Ok, Some}
+use Rattle.std.proofs.lemmas.List.{take_all}
 use Rattle.ov_audit.specs.Seen.{IsNext, Seen, SeesNext}
+use Rattle.ov_disk.specs.Tells.{DiskTells}
+use Rattle.ov_disk.proofs.Runs.{looks_then}
 use Rattle.ov_exposure.specs.Auditing.{AreMembers}
 use Rattle.ov_exposure.proofs.Moments.{sealed_then}
 use Rattle.ov_history.specs.Briefs.{Brief, brief, numbered_brief}
@@ -11,11 +16,15 @@ use Rattle.ov_history.specs.Sealed.{IsSealed, SealedHistory, with_sealed}
 use Rattle.ov_history.specs.Sent.{SealedUpdate}
 use Rattle.ov_history.proofs.Replaying.{goes_taken}
 use Rattle.ov_history.proofs.Showing.{history_is_shown}
-use Rattle.ov_record.specs.Briefs.{Brief as SpelledBrief}
+use Rattle.ov_machine.specs.Disks.{TellsNothing}
+use Rattle.ov_record.specs.Briefs.{Brief as SpelledBrief, plain_brief}
+use Rattle.ov_record.specs.declared.brief.Brief.{Brief as Written}
 use Rattle.ov_state.specs.Plans.{IsTaken}
-use Rattle.ov_store.specs.Briefs.{IsUpdateAt}
+use Rattle.ov_state.specs.declared.state.TheConstants.{WIDTH}
+use Rattle.ov_store.specs.Briefs.{IsUpdateAt, ReadsUpdate}
+use Rattle.ov_store.specs.Opened.{Opened}
 use Rattle.ov_store.specs.Owners.{with_first}
-use Rattle.ov_auditing.specs.Following.{HasFollowed}
+use Rattle.ov_auditing.specs.Following.{FollowsNext, FollowsOne, HasFollowed, StaysAsItWas}
 use Rattle.ov_auditing.proofs.Followed.{followed_next, may_look}
 use Rattle.ov_auditing.proofs.Texts.{some_update}
 
@@ -77,3 +86,52 @@ module _ (master : List ℕ) (g : SealedHistory) (b : Brief) (c next : Catalogue
       → (h : SealedHistory) × HasFollowed master h next later
   some_followed later sees =
       (with_sealed g u, followed_next master g u c next seen followed is_u made_u later sees)
+
+-- ---- an open store
+
+-- two reads that leave the store as it was
+pub stays_then : {D : Type 0} (tells : DiskTells D) (old mid new : Opened D) (before failed : Type 0)
+    → StaysAsItWas tells old mid before → StaysAsItWas tells mid new failed
+    → StaysAsItWas tells old new failed
+stays_then tells old mid new before failed one two = record {
+  kept = two.kept ∙ ap (λ s. record s { disk = new.disk }) one.kept;
+  untouched = looks_then tells old.disk mid.disk new.disk one.untouched two.untouched;
+  served = λ g serves. two.served g (one.served g serves);
+  call = (
+    two.call.0 ∙ one.call.0,
+    two.call.1 ∙ one.call.1,
+    omega (arith, one.call.2, two.call.2),
+    λ is. omega (arith, one.call.2, two.call.3 is),
+  );
+}
+
+module _ {D : Type 0} (tells : DiskTells D) (s : Opened D) (n : ℕ) (c : Catalogue) (seen : Seen) where
+  -- where there is an update more
+  pub next_followed : (b : Written WIDTH)
+      → ReadsUpdate tells s n (Ok (Some b))
+      → (next : Catalogue) (later : Seen)
+      → next
+      ≡ catalogue_after s.keys.surface c (numbered_brief (file_names_shown c) (plain_brief b))
+      → SeesNext seen next later
+      → FollowsNext tells s n c seen next later
+  next_followed b reads next later made sees g serves i read followed =
+      followed_at s.keys.surface g serves.catalogue.0 n (plain_brief b) (reads g serves i read) c seen
+      followed next later made sees
+
+  -- and where there is none
+  pub none_followed : ReadsUpdate tells s n (Ok None) → FollowsNext tells s n c seen c seen
+  none_followed reads g serves i read followed =
+      let few : length g.updates ≤ n = reads g serves i read in
+      subst (λ (us : List SealedUpdate). HasFollowed s.keys.surface (with_first g us) c seen)
+      (take_all n g.updates few ∙ sym (take_all (n + 1) g.updates (omega (arith, few)))) followed
+
+  -- an update that a disk tells is taken
+  pub told_taken : (b : Written WIDTH) → ReadsUpdate tells s n (Ok (Some b))
+      → FollowsOne tells s n c seen
+      → (IsTaken c (numbered_brief (file_names_shown c) (plain_brief b)) → ⊥)
+      → TellsNothing (tells.reads s.disk)
+  told_taken b reads one untaken i read =
+      let (g, serves, followed) = one i read in
+      untaken
+      (taken_at s.keys.surface g serves.catalogue.0 n (plain_brief b) (reads g serves i read) c seen
+      followed)

@@ -1,5 +1,5 @@
 -- Inner: no public contract needs this. That an audit and a catalogue have followed a history.
-use Rattle.std.specs.Prelude.{◌≡◌, ℕ, Bool, List, take, Option, Result, Ok, Err, ⊤}
+use Rattle.std.specs.Prelude.{◌≡◌, ◌+◌, ℕ, Bool, List, take, Option, Result, Ok, Err, ⊤}
 use Rattle.ov_audit.specs.Seen.{Seen}
 use Rattle.ov_disk.specs.Disk.{Image, Told}
 use Rattle.ov_disk.specs.Moments.{IsUntouched}
@@ -78,14 +78,33 @@ pub record HasFollowed (master : List ℕ) (g : SealedHistory) (c : Catalogue) (
   pub epoch : seen.epoch ≡ c.epoch
   pub seen_all : (users : List ℕ) → AreMembers users seen.users → HasSeen g users seen.notes
 
--- They have followed some history; and where the disk tells its bytes, the first so many updates of
--- each history for which the store stands.
-pub record FollowsFirst {D : Type 0} (tells : DiskTells D) (s : Opened D) (n : ℕ) (c : Catalogue)
-    (seen : Seen) : Type 0 where
-  pub some : (g : SealedHistory) × HasFollowed s.keys.surface g c seen
-  pub told : (g : SealedHistory) → Serves tells g s
-      → Told (tells.reads s.disk) (λ _.
-      HasFollowed s.keys.surface (with_first g (take n g.updates)) c seen)
+-- they have followed some history
+abbrev pub FollowsAny : List ℕ → Catalogue → Seen → Type 0
+FollowsAny master c seen = (g : SealedHistory) × HasFollowed master g c seen
+
+-- they have followed the first so many updates of this history
+abbrev pub FollowsFirst : List ℕ → SealedHistory → ℕ → Catalogue → Seen → Type 0
+FollowsFirst master g n c seen = HasFollowed master (with_first g (take n g.updates)) c seen
+
+-- Where the disk tells its bytes, they have followed the first so many updates of some history for
+-- which the store stands.
+abbrev pub FollowsOne : {D : Type 0} → DiskTells D → Opened D → ℕ → Catalogue → Seen → Type 0
+FollowsOne tells s n c seen =
+    Told (tells.reads s.disk) (λ _.
+    (g : SealedHistory) × Serves tells g s × FollowsFirst s.keys.surface g n c seen)
+
+-- so for each history for which the store stands
+abbrev pub FollowsEach : {D : Type 0} → DiskTells D → Opened D → ℕ → Catalogue → Seen → Type 0
+FollowsEach tells s n c seen =
+    (g : SealedHistory) → Serves tells g s
+    → Told (tells.reads s.disk) (λ _. FollowsFirst s.keys.surface g n c seen)
+
+-- What was followed of a history for which the store stands is followed by one update more.
+abbrev pub FollowsNext : {D : Type 0} → DiskTells D → Opened D → ℕ → Catalogue → Seen → Catalogue
+    → Seen → Type 0
+FollowsNext tells s n c seen next later =
+    (g : SealedHistory) → Serves tells g s → Told (tells.reads s.disk) (λ _.
+    FollowsFirst s.keys.surface g n c seen → FollowsFirst s.keys.surface g (n + 1) next later)
 
 -- Where the disk tells its bytes, these findings are exact of each history for which the store
 -- stands and each list that has just the users of the set.

@@ -1,7 +1,7 @@
 //! The updates of a store, read again and looked at one by one.
-ghost use Rattle.std.specs.Prelude.{◌≡◌, ◌+◌, ℕ, List, IfErr, IfOk, IfSome, IsErrOf, OnOk};
-ghost use Rattle.ov_auditing.specs.Following.{FindsAll, FindsUpdate, FollowsFirst, IsFaultOfStore};
-ghost use Rattle.ov_auditing.specs.Following.{MakesUpdate, StaysAsItWas};
+ghost use Rattle.std.specs.Prelude.{◌≡◌, ℕ, List, IfErr, IfOk, IfSome, IsErrOf, OnOk};
+ghost use Rattle.ov_auditing.specs.Following.{FindsAll, FindsUpdate, FollowsAny, FollowsNext};
+ghost use Rattle.ov_auditing.specs.Following.{FollowsOne, IsFaultOfStore, MakesUpdate, StaysAsItWas};
 ghost use Rattle.ov_disk.specs.declared.area.Area.TheVariants.{Book};
 ghost use Rattle.ov_exposure.specs.Auditing.{AreMembers};
 ghost use Rattle.ov_state.specs.Plans.{IsFitting, plain_brief};
@@ -75,15 +75,17 @@ fn look_at_next<D: Disk>(
     state: &mut Catalogue,
     audit: &mut Audit,
 ) -> Result<(), BeginFault>
-    requires followed { FollowsFirst D.tells store.old i state.old.catalogue audit.old }
     requires master { surface.now.bytes ≡ store.old.keys.surface }
-    ensures followed { OnOk result
-        (FollowsFirst D.tells store.new (i + 1) state.new.catalogue audit.new) }
+    requires members { (users : List ℕ) × AreMembers users audit.old.users }
+    requires any { FollowsAny surface.now.bytes state.old.catalogue audit.old }
+    requires followed { FollowsOne D.tells store.old i state.old.catalogue audit.old }
+    ensures any { OnOk result (FollowsAny surface.now.bytes state.new.catalogue audit.new) }
+    ensures followed { OnOk result (FollowsNext D.tells store.old i
+        state.old.catalogue audit.old state.new.catalogue audit.new) }
     ensures same { (audit.new.users ≡ audit.old.users) × (audit.new.server ≡ audit.old.server) }
     ensures fault { IfErr result (IsFaultOfStore (D.tells.reads store.old.disk)) }
     ensures stays { StaysAsItWas D.tells store.old store.new (IsErrOf result DiskFailed) }
 {
-    // The store is lent for the read, so its gate is asked for before.
     let gate = store.gate(i);
     match read_update(alloc, store, i)? {
         Some(update) => {
@@ -108,6 +110,7 @@ pub fn findings_of<D: Disk>(
     ensures fault { IfErr result (IsFaultOfStore (D.tells.reads store.old.disk)) }
     ensures stays { StaysAsItWas D.tells store.old store.new (IsErrOf result DiskFailed) }
 {
+    store.known();
     let updates = store.updates();
     let first = store.state().epoch() - updates;
     let mut state: Catalogue = State::new(alloc, store.state().mode(), first)?;

@@ -1,4 +1,4 @@
-use Rattle.std.proofs.Common.{◌≡◌, ◌∙◌, ◌++◌, ◌∷◌, [], ℕ, List, arith, subst, sym}
+use Rattle.std.proofs.Common.{[], ℕ, List, arith, subst, sym}
 use Rattle.std.proofs.lemmas.List.{take_all, take_more}
 use Rattle.ov_auditing.specs.Exposed.{AreUsersOf}
 use Rattle.ov_auditing.proofs.Namings.{none_named, one_more_named}
