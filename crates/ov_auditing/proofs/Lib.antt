@@ -4,3 +4,4 @@ pub mod Namings
 pub mod Steps
 pub mod Printed
 pub mod OpenStores
+pub mod Beginnings
