@@ -11,7 +11,7 @@ BAD_INPUT, BAD_WORDS, NOT_ENROLLED, NOTHING_TO_DO = 1, 2, 3, 4
 NAME = re.compile(r"[a-z0-9][a-z0-9._-]{0,63}")
 # How many bytes a set of users has in the records of each format, by the open gate and the magic.
 SET_BYTES, FIRST_RECORD = {b"\x01OVERENC1": 32, b"\x01OVERENC2": 128}, 78
-ENROLMENT, CREATION, REMOVAL = 1, 2, 6
+ENROLMENT, CREATION, REMOVAL, REPLACEMENT = 1, 2, 6, 7
 # The body of the record that stands between the updates of the first format and those of the second.
 STEP = b"\x05"
 
@@ -57,15 +57,19 @@ def records(book, origin):
 
 
 def names(book, origin):
-    """The users of a store.book and the files that weren't removed, in the order in which they came."""
-    found = {ENROLMENT: [], CREATION: []}
-    removed = set()
+    """The users of a store.book and the files that are there, in the order of their numbers."""
+    users, files = [], []
     for body, _ in records(book, origin):
-        if body[0] in found:
-            found[body[0]].append(body[2 : 2 + body[1]].decode(errors="replace"))
+        name = body[2 : 2 + body[1]].decode(errors="replace")
+        if body[0] == ENROLMENT:
+            users.append(name)
+        elif body[0] == CREATION:
+            files.append(name)
         elif body[0] == REMOVAL:
-            removed.add(int.from_bytes(body[1:5], "big"))
-    return found[ENROLMENT], [file for number, file in enumerate(found[CREATION]) if number not in removed]
+            files[int.from_bytes(body[1:5], "big")] = None
+        elif body[0] == REPLACEMENT:
+            files = [None if file == name else file for file in files] + [name]
+    return users, [file for file in files if file is not None]
 
 
 def expect_enrolled(user, users, origin):

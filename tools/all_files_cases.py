@@ -52,6 +52,15 @@ REMOVED_BOOK = (
     + b"\0"
 )  # fmt: skip
 
+# Of a store whose first file was replaced twice, and whose second was removed between the two.
+REPLACED_BOOK = (
+    BOOK[:-1]
+    + record(7, b"plan", bytes(37) + b"\x05" + bytes(4))
+    + b"\x01\0\0\0\x05\x06" + bytes([0, 0, 0, 1])
+    + record(7, b"plan", bytes(38))
+    + b"\0"
+)  # fmt: skip
+
 # The name and the words of a call, its input, whether store.book is in the folder, its status, what it puts, and
 # a part of what it says.
 CASES = [
@@ -60,6 +69,7 @@ CASES = [
     ("list", "", HEADER + b"\0", False, 0, "", ""),
     ("list", "alice", CARRIED_BOOK, False, 0, "list plan\nlist budget\n", ""),
     ("list", "", REMOVED_BOOK, False, 0, "list old\nlist plan\n", ""),
+    ("list", "", REPLACED_BOOK, False, 0, "list old\nlist plan\n", ""),
     ("list", "", CARRIED_BOOK[:180], False, 1, "", "the record at byte 175 isn't whole"),
     ("list", "bobb", BOOK, False, 3, "", "bobb isn't enrolled in this store.book"),
     ("list", "", b"", False, 1, "", "its header isn't whole"),

@@ -172,6 +172,7 @@ ENROL = "enrol @ keys a"
 GRANT = "grant @ keys a f1"
 REMOVE = "remove @ keys f1"
 CREATE = "create @ keys f1 a,b body"
+REPLACE = "replace @ keys f1 body"
 READ = "read @ key f1"
 LIST = "list @ keys f1"
 KEY = "key @ keys c"
@@ -184,6 +185,7 @@ FILE_IN_DOUBT = (
     "it may be done: look with `overctl list`; if it isn't, "
     "create it, with the same bytes, before any other file for its list"
 )
+REPLACED = "it may be done: repeat it, with the same bytes, before you send any other file for its list"
 NEW_USER = "it may be done: repeat it, and `refused 1 Taken` says that it was"
 REMOVED = "it may be done: repeat it, and `refused 3 NoFile` says that it was"
 AS_IT_WAS = "the store is as it was: try again"
@@ -210,6 +212,8 @@ def commands():
     case(REMOVE, ["WELCOME", "KNOWN", "ACCEPTED"], 0, b"ok 8\n", asked=3)
     case(CREATE, ["WELCOME", "PLAN", "ACCEPTED"], 0, b"ok 8\n", asked=3)
     case("create @ keys f1 - longest", ["WELCOME"], 8, b"", CUT_OFF, OTHER_PROGRAM + FILE_IN_DOUBT, asked=2)
+    case(REPLACE, ["WELCOME", "PLAN", "ACCEPTED"], 0, b"ok 8\n", asked=3)
+    case("replace @ keys f1 longest", ["WELCOME"], 8, b"", CUT_OFF, OTHER_PROGRAM + REPLACED, asked=2)
     case(LIST, ["WELCOME", "LISTED"], 0, b"list f1 a,b\n", asked=2)
     case(LIST, ["WELCOME", "LISTED_NONE"], 0, b"list f1 -\n", asked=2)
     case(KEY, ["WELCOME", "KNOWN_C"], 0, KEY_LINE.encode(), asked=2)
@@ -220,14 +224,17 @@ def commands():
 def refusals_and_disks():
     case(ENROL, ["WELCOME", "REFUSED"], 3, b"refused 1 Taken\n", "@ refuses the command: 1 Taken", TAKEN)
     case(REMOVE, ["WELCOME", b"\x88\x03"], 3, b"refused 3 NoFile\n", "@ refuses the command: 3 NoFile", NO_FILE)
+    case(REPLACE, ["WELCOME", b"\x88\x03"], 3, b"refused 3 NoFile\n", "@ refuses the command: 3 NoFile", NO_FILE)
     full = "@ refuses the command: 9 BytesFull"
     case(CREATE, ["WELCOME", b"\x88\x09"], 3, b"refused 9 BytesFull\n", full, BYTES_FULL)
+    case(REPLACE, ["WELCOME", b"\x88\x09"], 3, b"refused 9 BytesFull\n", full, BYTES_FULL)
     case(READ, [b"\x88\x04"], 3, b"refused 4 NoPath\n", "@ refuses the command: 4 NoPath", NO_PATH)
     failed = "the disk of the store at @ failed"
     again = "have the server started again; "
     case(ENROL, ["WELCOME", "KNOWN", "DEVICE_FAULT"], 4, b"", failed, again + NEW_USER)
     case(GRANT, ["WELCOME", "KNOWN", "DEVICE_FAULT"], 4, b"", failed, again + IN_DOUBT)
     case(REMOVE, ["WELCOME", "KNOWN", "DEVICE_FAULT"], 4, b"", failed, again + REMOVED)
+    case(REPLACE, ["WELCOME", "PLAN", "DEVICE_FAULT"], 4, b"", failed, again + REPLACED)
     case(READ, ["CHAINED", "DEVICE_FAULT"], 4, b"", failed, AS_IT_WAS)
 
 
@@ -240,6 +247,8 @@ def files_that_are_not_read():
         "create @ keys f1 a nobody": "cannot read nobody: no such file",
         "create @ keys f1 a folder": "cannot read folder: is a directory",
         "create @ nokeys f1 a nobody": "cannot read nokeys: no such file",
+        "replace @ keys f1 nobody": "cannot read nobody: no such file",
+        "replace @ nokeys f1 nobody": "cannot read nokeys: no such file",
     }.items():
         case(words, [], 5, b"", error, see, asked=0)
 
@@ -251,6 +260,7 @@ def output_that_is_not_written():
         (ENROL, updated, NEW_USER),
         (GRANT, updated, IN_DOUBT),
         (REMOVE, ["WELCOME", "KNOWN", "ACCEPTED"], REMOVED),
+        (REPLACE, ["WELCOME", "PLAN", "ACCEPTED"], REPLACED),
         (LIST, ["WELCOME", "LISTED"], writable),
         (READ, ["CHAINED", "BYTES"], writable),
         ("check keys", [], writable),
@@ -322,6 +332,8 @@ def keys_of_others():
     case(ENROL, ["WELCOME_OTHER"], 9, b"", error, hint, asked=1)
     first = hint + "; then create this file, before any other for its list"
     case(CREATE, ["WELCOME_OTHER"], 9, b"", error, first, asked=1)
+    again = hint + "; then repeat this, with the same bytes, before you send any other file for its list"
+    case(REPLACE, ["WELCOME_OTHER"], 9, b"", error, again, asked=1)
     case(ENROL, ["WELCOME", "KNOWN", "BAD_TAG"], 9, b"", error, hint, asked=3)
     digits = "it has two different lines of 64 hexadecimal digits"
     case("enrol @ key a", [], 10, b"", "key is no key file", digits, asked=0)
@@ -413,6 +425,7 @@ def questions_that_are_not_answered():
 def files_that_are_too_long():
     error, hint = "long has more than 16777216 bytes", "store it as several files"
     case("create @ keys f1 - long", [], 14, b"", error, hint, asked=0)
+    case("replace @ keys f1 long", [], 14, b"", error, hint, asked=0)
 
 
 # ---- words
@@ -427,6 +440,7 @@ def words_that_are_no_line():
         "grant": "ADDRESS KEYS USER FILE",
         "revoke": "ADDRESS KEYS USER FILE",
         "remove": "ADDRESS KEYS FILE",
+        "replace": "ADDRESS KEYS FILE PATH",
         "list": "ADDRESS KEYS FILE",
         "key": "ADDRESS KEYS USER",
         "read": "ADDRESS USERKEY FILE",
@@ -469,13 +483,13 @@ def words_that_are_no_line():
 
 def help_and_version():
     folder = client_folder()
-    commands = "enrol create grant revoke remove list key read check epoch users files".split()
+    commands = "enrol create grant revoke remove replace list key read check epoch users files".split()
     for words in ([], *[[command] for command in commands]):
         for flag in ("--help", "-h"):
             status, out, told = run(folder, [*words, flag])
             lines = out.decode().splitlines()
             assert (status, told) == (0, []), (words, status, told)
-            assert len(lines) <= (24 if words else 25) and max(map(len, lines)) <= 80, out.decode()
+            assert len(lines) <= (24 if words else 26) and max(map(len, lines)) <= 80, out.decode()
             assert any(line.startswith("Example: overctl ") for line in lines), out.decode()
             table = out.decode().split("Exit status:")[1]
             assert sorted(map(int, re.findall(r"(?:^| )(\d+) (?=[a-z])", table))) == [0, *range(2, 15)], table

@@ -62,18 +62,22 @@ def commands_of(chance):
     """Sixty commands, most of which are accepted."""
     users, files, made = [b"u0", b"u1", b"u2"], [], [("enrol", b"u%d" % n) for n in range(3)]
     kinds = ["create"] * 4 + ["grant"] * 5 + ["revoke"] * 4 + ["read"] * 2 + ["list"] + ["enrol"] + ["remove"]
+    kinds += ["replace"] * 2
+    sizes = [0, 1, 2, 15, 16, 100, 300, 1000, 4096, 4097]
     while len(made) < COMMANDS:
         kind = chance.choice(kinds)
         if kind == "enrol":
             users.append(chance.choice([users[-1], b"u%d" % len(users)]))
             made.append((kind, users[-1]))
         elif kind == "create" or not files:
-            size = chance.choice([0, 1, 2, 15, 16, 100, 300, 1000, 4096, 4097])
+            size = chance.choice(sizes)
             names = sorted(set(chance.choices(users, k=chance.choice([0, 1, 2, 3]))))
             files.append(b"f%d" % len(files))
             made.append(("create", files[-1], names, chance.randbytes(size)))
         elif kind in ("list", "remove"):
             made.append((kind, chance.choice(files)))
+        elif kind == "replace":
+            made.append((kind, chance.choice(files), chance.randbytes(chance.choice(sizes))))
         else:
             made.append((kind, chance.choice(users), chance.choice(files)))
     return made

@@ -1,8 +1,10 @@
 """Tries stores that are full, in both modes: of bytes, of files and of nodes. One more is refused, and
-store.blobs has just the blocks of the files.
+store.blobs has just the blocks of the files. A file that is replaced a thousand times takes the blocks of two
+files, and no more memory than one that is replaced ten times.
 
 Run, after `rt run` has built the program: python3 tools/full_store.py crates/overstore/out/overstore
 """
+import os
 import pathlib
 import subprocess
 import sys
@@ -39,8 +41,9 @@ def full_of_files():
     """16,384 files without bytes, of which one is removed: its number isn't given again."""
     script = [b"enrol a\n"] + [b"create f%d a 0\n\n" % number for number in range(16_384)]
     replies = [b"ok %d\n" % (number + 1) for number in range(16_385)]
-    script += [b"create one-more a 0\n\n", b"list f16383\n", b"remove f0\n", b"create one-more a 0\n\n"]
-    replies += [b"refused 8 FilesFull\n", b"list f16383 a\n", b"ok 16386\n", b"refused 8 FilesFull\n", b"end epoch 16386\n"]
+    script += [b"create one-more a 0\n\n", b"list f16383\n", b"remove f0\n", b"create one-more a 0\n\n", b"replace f1 0\n\n"]
+    replies += [b"refused 8 FilesFull\n", b"list f16383 a\n", b"ok 16386\n", b"refused 8 FilesFull\n"]
+    replies += [b"refused 8 FilesFull\n", b"end epoch 16386\n"]
     yield script, replies, 0
 
 
@@ -70,3 +73,39 @@ for name, cases in stores.items():
             if length != blobs:
                 sys.exit(f"full of {name}, {mode}: store.blobs has {length} bytes and not {blobs}")
     print(f"full of {name}: all replies are right, and one more is refused")
+
+
+# A file of 200,000 bytes, which are 49 blocks, and how much more memory a thousand replacements may take than ten: the
+# catalogue and the script's lines, which are as nothing beside one file more.
+SIZE, BLOCKS, SPARE_KIB = 200_000, 49, 2_000
+
+
+def peak_of_replacements(count, mode):
+    """The most memory, in KiB, of a run that replaces a file so often and then reads it."""
+    bodies = [bytes([number % 256]) * SIZE for number in range(count + 1)]
+    script = [b"enrol a\ncreate f a %d\n" % SIZE, bodies[0], b"\n"]
+    for body in bodies[1:]:
+        script += [b"replace f %d\n" % SIZE, body, b"\n"]
+    script.append(b"read a f\n")
+    replies = [b"ok %d\n" % (number + 1) for number in range(count + 2)]
+    replies += [b"data a f %d\n" % SIZE, bodies[-1], b"\nend epoch %d\n" % (count + 2)]
+    with tempfile.TemporaryDirectory() as folder:
+        path = pathlib.Path(folder)
+        (path / "keys.hex").write_bytes(keys.read_bytes())
+        (path / "script").write_bytes(b"".join(script))
+        with open(path / "script", "rb") as given, open(path / "replies", "wb") as put:
+            ran = subprocess.Popen([program, "run", mode], cwd=folder, stdin=given, stdout=put)
+            _, status, used = os.wait4(ran.pid, 0)
+        if status != 0 or (path / "replies").read_bytes() != b"".join(replies):
+            sys.exit(f"{count} replacements, {mode}: status {status}, or wrong replies")
+        length = (path / "store.blobs").stat().st_size
+        if length != 2 * BLOCKS * 4096:
+            sys.exit(f"{count} replacements, {mode}: store.blobs has {length} bytes")
+    return used.ru_maxrss
+
+
+for mode in ("full", "delta"):
+    few, many = peak_of_replacements(10, mode), peak_of_replacements(1000, mode)
+    if many > few + SPARE_KIB:
+        sys.exit(f"{mode}: ten replacements take {few} KiB of memory, and a thousand {many}")
+print("a file that is replaced a thousand times: two files' blocks, and no more memory than ten times")

@@ -505,9 +505,10 @@ def a_silent_client():
 
 
 def a_file_over_the_network():
-    """Enrol, create, key and read, grant, revoke and remove: the same bytes come back, and the log has each update."""
+    """Enrol, create, key and read, grant, revoke, replace and remove: the bytes that were sent last come back, and the
+    log has each update."""
     folder = new_folder()
-    server = Server(folder, 8, "--log")
+    server = Server(folder, 10, "--log")
     shutil.copy(KEYS, folder / "keys.hex")
     (folder / "file").write_bytes(random.Random(24).randbytes(70_000))
 
@@ -523,12 +524,15 @@ def a_file_over_the_network():
     assert client("enrol", server.address, "keys.hex", "bob") == b"ok 3\n"
     assert client("grant", server.address, "keys.hex", "bob", "report") == b"ok 4\n"
     assert client("revoke", server.address, "keys.hex", "bob", "report") == b"ok 5\n"
-    assert client("remove", server.address, "keys.hex", "report") == b"ok 6\n"
-    logged = [line.split(" ", 4)[4] for line in server.end(8)]
+    (folder / "file").write_bytes(random.Random(25).randbytes(70_001))
+    assert client("replace", server.address, "keys.hex", "report", "file") == b"ok 6\n"
+    assert client("read", server.address, "alice.key", "report") == (folder / "file").read_bytes()
+    assert client("remove", server.address, "keys.hex", "report") == b"ok 7\n"
+    logged = [line.split(" ", 4)[4] for line in server.end(10)]
     assert [it for it in logged if not it.startswith("end of session")] == [
-        "user 1", "create 2", "user 3", "grant 4", "revoke 5", "remove 6"
+        "user 1", "create 2", "user 3", "grant 4", "revoke 5", "replace 6", "remove 7"
     ], logged
-    assert logged.count("end of session 7") == 1, logged
+    assert logged.count("end of session 9") == 1, logged
 
 
 def a_write_that_fails():

@@ -7,7 +7,7 @@ WORDS = {1: "Taken", 2: "NoUser", 3: "NoFile", 4: "NoPath", 5: "Listed", 6: "Not
 
 class Machine:
     """Replies to commands, which are tuples: ("enrol", U), ("create", F, [U..], bytes), ("grant", U, F),
-    ("revoke", U, F), ("remove", F), ("read", U, F) and ("list", F)."""
+    ("revoke", U, F), ("remove", F), ("replace", F, bytes), ("read", U, F) and ("list", F)."""
 
     def __init__(self):
         self.users, self.files, self.epoch = [], {}, 0
@@ -58,6 +58,12 @@ class Machine:
         del self.files[file]
         return self.made()
 
+    def replace(self, file, data):
+        if file not in self.files:
+            return self.refused(3)
+        self.files[file] = (self.files[file][0], data)
+        return self.made()
+
     def read(self, user, file):
         wrong = self.missing(user, file)
         if wrong is None and user not in self.files[file][0]:
@@ -77,7 +83,10 @@ class Machine:
 def spelled(command):
     """The command as it stands in a script."""
     kind = command[0].encode()
-    if command[0] != "create":
-        return b" ".join([kind, *command[1:]]) + b"\n"
-    _, file, users, data = command
-    return b"create %s %s %d\n%s\n" % (file, b",".join(users) or b"-", len(data), data)
+    if command[0] == "create":
+        _, file, users, data = command
+        return b"create %s %s %d\n%s\n" % (file, b",".join(users) or b"-", len(data), data)
+    if command[0] == "replace":
+        _, file, data = command
+        return b"replace %s %d\n%s\n" % (file, len(data), data)
+    return b" ".join([kind, *command[1:]]) + b"\n"

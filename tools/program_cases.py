@@ -384,6 +384,30 @@ def stores_of_the_first_format():
         is_refused_and_kept(folder, b"error damaged book %d\n" % place)
 
 
+def notes_on_older_stores():
+    """Only a run or a load that opens such a store says so, until an update has carried it over."""
+    folder = store_folder()
+    run(folder, b"enrol alice\n")
+    book = folder / "store.book"
+    book.write_bytes(book.read_bytes().replace(b"OVERENC2", b"OVERENC1"))
+    keys = (folder / "keys.hex").read_bytes()
+
+    def told(*words):
+        done = subprocess.run([PROGRAM, *words], cwd=folder, stdin=subprocess.DEVNULL, capture_output=True)
+        return done.returncode, OLDER_STORE in done.stderr
+
+    assert told("run", "delta") == (0, True)
+    assert told("run", "full") == (9, False)
+    assert told("run", "fully") == (2, False)
+    assert told("load", "delta", "1") == (2, False)
+    assert told("--version") == (0, False)
+    (folder / "keys.hex").write_bytes(b"no keys")
+    assert told("run", "delta") == (10, False)
+    (folder / "keys.hex").write_bytes(keys)
+    assert told("load", "delta", "1", "1") == (0, True)
+    assert told("run", "delta") == (0, False)
+
+
 def is_refused_and_kept(folder, line):
     before = files_of(folder)
     expect(run(folder, b"enrol c\n"), 8, line)
@@ -604,6 +628,7 @@ cases = [
     memory_that_is_refused,
     stores_that_do_not_open,
     stores_of_the_first_format,
+    notes_on_older_stores,
     records_that_are_not_the_owners,
     key_files_that_are_none,
     closed_streams,

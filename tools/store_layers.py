@@ -1,10 +1,10 @@
 """The two layers of a store by the updates of its store.book, as docs/LAYERS.md has their rules: users, sets
-of keys with the edges into them, access tokens and files, with None in the place of each that was removed. It
-shares no code with the crates.
+of keys with the edges into them, access tokens and files, with None in the place of each that was removed
+or replaced. It shares no code with the crates.
 """
 import dataclasses
 
-from all_files import CREATION, ENROLMENT, REMOVAL, records
+from all_files import CREATION, ENROLMENT, REMOVAL, REPLACEMENT, records
 
 GRANT = 3
 
@@ -49,9 +49,12 @@ class Store:
             self.update(body, set_bytes)
 
     def update(self, body, set_bytes):
-        if body[0] in (ENROLMENT, CREATION):
+        if body[0] in (ENROLMENT, CREATION, REPLACEMENT):
             name, rest = body[2 : 2 + body[1]].decode(), body[2 + body[1] :]
-            self.enrol(name) if body[0] == ENROLMENT else self.create(name, rest[:set_bytes])
+            if body[0] == ENROLMENT:
+                self.enrol(name)
+            else:
+                self.create(name, self.listed(rest[:set_bytes]) if body[0] == CREATION else self.replaced(name))
         elif body[0] == REMOVAL:
             self.files[int.from_bytes(body[1:5], "big")] = None
         else:
@@ -64,8 +67,17 @@ class Store:
         for layer in (self.base, self.surface):
             layer.node_of(own)
 
-    def create(self, name, bits):
-        users = frozenset(8 * place + bit for place, byte in enumerate(bits) for bit in range(8) if byte >> bit & 1)
+    def listed(self, bits):
+        """The users of the set field of a creation."""
+        return frozenset(8 * place + bit for place, byte in enumerate(bits) for bit in range(8) if byte >> bit & 1)
+
+    def replaced(self, name):
+        """The list of the file of this name, which is gone then."""
+        number = [file and file.name for file in self.files].index(name)
+        users, self.files[number] = self.files[number].users, None
+        return users
+
+    def create(self, name, users):
         self.files.append(File(name, self.base.node_of(users), users))
         self.lay(self.files[-1])
 

@@ -20,7 +20,8 @@ NAME = NAME_FIRST + b"._-"
 USER, NODE, FILE, BYTES = 1023, 4095, 16383, 16777216
 USERS, SET_BYTES = USER + 1, 128
 ENROL, CREATE = (1, 7, 10, 11), (1, 2, 8, 9, 10, 11)
-GRANT, REVOKE, REMOVE, READ = (2, 3, 5, 10, 11), (2, 3, 6, 10, 11), (3, 10, 11), (2, 3, 4)
+GRANT, REVOKE, REMOVE, READ = (2, 3, 5, 10, 11), (2, 3, 6, 10, 11), (3, 11), (2, 3, 4)
+REPLACE = (3, 8, 9, 10, 11)
 
 
 class Wrong(Exception):
@@ -63,12 +64,12 @@ class Text:
             seen.append(name)
 
     def update(self):
-        kind = self.byte((1, 2, 3, 4, 6))
+        kind = self.byte((1, 2, 3, 4, 6, 7))
         if kind == 1:
             self.name()
-        elif kind == 2:
+        elif kind in (2, 7):
             self.name()
-            self.take(SET_BYTES)
+            self.take(SET_BYTES if kind == 2 else 0)
             self.take(32 * self.number(2, 0, USERS))
             self.take(32)
             self.take(self.number(4, 0, BYTES))
@@ -109,7 +110,7 @@ class Text:
 
 
 def read_request(text):
-    kind = text.byte(range(1, 9))
+    kind = text.byte(range(1, 10))
     if kind == 2:
         verb = text.byte((1, 3, 4, 5, 6))
         text.name()
@@ -127,6 +128,8 @@ def read_request(text):
         text.take(5)
     elif kind == 8:
         text.name()
+    elif kind == 9:
+        text.name(), text.number(4, 0, BYTES)
     text.end()
 
 
@@ -137,7 +140,7 @@ def number(data, at):
 def read_answer(request, text):
     kind = request[0]
     kinds = {1: (0x81,), 2: (0x82, 0x88), 3: (0x83, 0x88), 4: (0x84, 0x88, 0x89, 0x8a, 0x8d), 5: (0x85, 0x88),
-             6: (0x86, 0x88, 0x8c, 0x8d), 7: (0x87,), 8: (0x8f, 0x88)}[kind] + (0x8e,)
+             6: (0x86, 0x88, 0x8c, 0x8d), 7: (0x87,), 8: (0x8f, 0x88), 9: (0x83, 0x88)}[kind] + (0x8e,)
     answer = text.byte(kinds)
     if answer == 0x81:
         text.byte((0, 1)), text.take(36)
@@ -164,9 +167,9 @@ def read_answer(request, text):
             text.entry(request[1])
     elif answer == 0x88:
         of_ask = {1: ENROL, 3: GRANT, 4: REVOKE, 5: (2,), 6: REMOVE}
-        of_update = {1: ENROL, 2: CREATE, 3: GRANT, 4: REVOKE, 6: REMOVE}
+        of_update = {1: ENROL, 2: CREATE, 3: GRANT, 4: REVOKE, 6: REMOVE, 7: REPLACE}
         text.byte({2: lambda: of_ask[request[1]], 3: lambda: CREATE, 4: lambda: of_update[request[5]], 5: lambda: READ,
-                   6: lambda: (3,), 8: lambda: (3,)}[kind]())
+                   6: lambda: (3,), 8: lambda: (3,), 9: lambda: REPLACE}[kind]())
     elif answer == 0x89:
         text.number(4, number(request, 1) + 1)
     elif answer == 0x8c:
@@ -200,17 +203,19 @@ TOKEN, TAG, SET = bytes(range(32)), bytes(range(100, 132)), bytes([9]) + bytes(S
 ALICE, BOB, F1 = field(b"alice"), field(b"b0-b"), field(b"f1")
 ENROLMENT = b"\1" + ALICE
 CREATION = b"\2" + F1 + SET + u16(1) + TOKEN + TAG + u32(5) + b"hello"
+REPLACEMENT = b"\7" + F1 + u16(1) + TOKEN + TAG + u32(5) + b"hello"
 
 REQUESTS = [
     b"\1", b"\2\1" + ALICE, b"\2\3" + ALICE + F1, b"\2\5" + BOB, b"\3" + F1 + u32(700) + u16(2) + ALICE + BOB,
     b"\4" + u32(7) + ENROLMENT + TAG, b"\4" + u32(7) + CREATION + TAG, b"\4" + u32(7) + b"\3" + u32(1) + u32(2) + b"\1" + TOKEN + TAG,
     b"\4" + u32(7) + b"\4" + u32(1) + u32(2) + TAG, b"\5" + ALICE + F1, b"\6" + u32(3) + u32(9) + u32(0) + u32(65536),
     b"\7\5" + u32(4), b"\x08" + F1, b"\2\6" + F1, b"\4" + u32(7) + b"\6" + u32(2) + TAG,
+    b"\x09" + F1 + u32(700), b"\4" + u32(7) + REPLACEMENT + TAG,
 ]
 
 HELLO, ASK, GRANTED, COVER = REQUESTS[0], REQUESTS[1], REQUESTS[2], REQUESTS[4]
 UPDATE, CHAIN, CHUNK, LIST = REQUESTS[5], REQUESTS[9], b"\6" + u32(3) + u32(9) + u32(0) + u32(6), REQUESTS[12]
-REMOVED, REMOVAL = REQUESTS[13], REQUESTS[14]
+REMOVED, REMOVAL, REPLAN, REPLACED = REQUESTS[13:]
 STEP = u32(6) + TOKEN
 
 ANSWERS = [
@@ -226,6 +231,7 @@ ANSWERS = [
     (b"\7\5" + u32(0), b"\x87\1" + F1 + u32(1) + u32(5) + u32(6) + TAG + b"\1" + u32(2)), (b"\7\6" + u32(0), b"\x87\0"),
     (REMOVED, b"\x82" + u32(7) + u32(0) + u32(0) + u32(0) + u32(5) + u32(6) + b"\0"), (REMOVED, b"\x88\3"), (REMOVAL, b"\x88\x0b"),
     (b"\7\5" + u32(0), b"\x87\1\0"),
+    (REPLAN, b"\x83" + u32(7) + u32(1) + SET + u32(4) + b"\1" + u16(2) + u32(0) + u32(3)), (REPLAN, b"\x88\3"), (REPLACED, b"\x88\x08"),
 ]
 
 
@@ -247,7 +253,7 @@ def case(request, data):
 ASKED = [
     HELLO, ASK, GRANTED, b"\2\4" + ALICE + F1, b"\2\5" + BOB, COVER, UPDATE, b"\4" + u32(7) + CREATION + TAG,
     REQUESTS[7], REQUESTS[8], CHAIN, CHUNK, b"\6" + u32(3) + u32(9) + u32(0) + u32(65536),
-] + [b"\7" + bytes([part]) + u32(0) for part in range(7)] + [LIST, REMOVED, REMOVAL]
+] + [b"\7" + bytes([part]) + u32(0) for part in range(7)] + [LIST, REMOVED, REMOVAL, REPLAN, REPLACED]
 
 
 def known(user=0, base=0, surface=0, file=0, node=0, wants=0, epoch=7):

@@ -2,7 +2,7 @@
 _overctl() {
     local word=${COMP_WORDS[COMP_CWORD]} words=
     case $COMP_CWORD,$word in
-        1,*) words='enrol create grant revoke remove list key read check epoch users files --help --version' ;;
+        1,*) words='enrol create grant revoke remove replace list key read check epoch users files --help --version' ;;
         *,-*) words=--help ;;
     esac
     mapfile -t COMPREPLY < <(compgen -W "$words" -- "$word")

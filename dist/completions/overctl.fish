@@ -9,6 +9,7 @@ complete -c overctl -n $command -a create -d 'Store bytes as a file for the user
 complete -c overctl -n $command -a grant -d "Put a user onto a file's list"
 complete -c overctl -n $command -a revoke -d "Take a user off a file's list"
 complete -c overctl -n $command -a remove -d 'Take a file away for good'
+complete -c overctl -n $command -a replace -d 'Give a file new bytes and new keys'
 complete -c overctl -n $command -a list -d "Print a file's list"
 complete -c overctl -n $command -a key -d 'Print the key line with which a user reads'
 complete -c overctl -n $command -a read -d "Print a file's bytes, by a user's key line"

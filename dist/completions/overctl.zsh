@@ -9,6 +9,7 @@ case ${words[2]} in
     create) places=($address $keys '4:file in the store: ' '5:users, with commas between them: ' '6:bytes to be stored:_files') ;;
     grant | revoke) places=($address $keys '4:user: ' '5:file in the store: ') ;;
     remove | list) places=($address $keys '4:file in the store: ') ;;
+    replace) places=($address $keys '4:file in the store: ' '5:bytes to be stored:_files') ;;
     read) places=($address '3:file of a user key line:_files' '4:file in the store: ') ;;
     check) places=('2:file of both masters:_files') ;;
     epoch | users) places=($address) ;;
@@ -17,5 +18,5 @@ esac
 _arguments \
     '(- *)--help[print help]' \
     '(- *)--version[print the version]' \
-    '1:command:((enrol\:"add a user" create\:"store bytes as a file" grant\:"put a user onto a list" revoke\:"take a user off a list" remove\:"take a file away" list\:"print a list" key\:"print a user key line" read\:"print the bytes of a file" check\:"print a check value" epoch\:"print mode and epoch" users\:"print the users" files\:"print all lists, or the files of a user"))' \
+    '1:command:((enrol\:"add a user" create\:"store bytes as a file" grant\:"put a user onto a list" revoke\:"take a user off a list" remove\:"take a file away" replace\:"give a file new bytes" list\:"print a list" key\:"print a user key line" read\:"print the bytes of a file" check\:"print a check value" epoch\:"print mode and epoch" users\:"print the users" files\:"print all lists, or the files of a user"))' \
     $places

@@ -3,7 +3,7 @@ use Rattle.std.proofs.Common.{◌≡◌, ℕ, List, Result, Ok, Err, refl, subst
 use Rattle.ov_history.specs.Masters.{Masters}
 use Rattle.ov_owner.specs.Calls.{Runs}
 use Rattle.ov_owner.specs.Changes.{command_of, errand_of}
-use Rattle.ov_owner.specs.Errands.{Errand, creating, enrolling, granting, removing, revoking}
+use Rattle.ov_owner.specs.Errands.{Errand, creating, enrolling, granting, removing, replacing, revoking}
 use Rattle.ov_owner.specs.Steps.{IsErrandFor, IsOwnersReply}
 use Rattle.ov_owner.specs.declared.change.Change.{Change}
 use Rattle.ov_owner.specs.declared.fault.OwnerFault.{OwnerFault}
@@ -45,6 +45,8 @@ module _ {P : Type 0} (peer : PeerTells P) (k : Masters) (bytes : List ℕ) (cha
       (result, runs_as (removing file) (errand_is k.base change (commands.Remove file) is), says)
   performed_by (acts.Create file list) is =
       (result, runs_as (creating k.base file list bytes) (errand_is k.base change (commands.Create file list bytes) is), says)
+  performed_by (acts.Replace file) is =
+      (result, runs_as (replacing k.base file bytes) (errand_is k.base change (commands.Replace file bytes) is), says)
   performed_by act is = absurd is
 
 -- What is told of an owner's call is told of the line on it.
@@ -89,4 +91,5 @@ module _ (k : Masters) (bytes : List ℕ) (change : Change) (v : Service) (Then 
   told_by (acts.Revoke user file) is = told_of (commands.Revoke user file) is
   told_by (acts.Remove file) is = told_of (commands.Remove file) is
   told_by (acts.Create file list) is = told_of (commands.Create file list bytes) is
+  told_by (acts.Replace file) is = told_of (commands.Replace file bytes) is
   told_by act is = absurd is

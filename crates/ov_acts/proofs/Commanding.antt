@@ -19,7 +19,7 @@ use Rattle.ov_owner.proofs.Completing.{update_said}
 use Rattle.ov_owner.specs.Calls.{Runs}
 use Rattle.ov_owner.specs.Clients.{reader_in}
 use Rattle.ov_owner.specs.Completeness.{IsSaidOrCut, SaysList, SaysReader, SaysUpdate, SaysWelcome}
-use Rattle.ov_owner.specs.Errands.{Errand, creating, enrolling, granting, removing, revoking}
+use Rattle.ov_owner.specs.Errands.{Errand, creating, enrolling, granting, removing, replacing, revoking}
 use Rattle.ov_owner.specs.Questions.{AsksOnce, names_in, welcome_in}
 use Rattle.ov_owner.specs.Steps.{IsErrandFor}
 use Rattle.ov_owner.specs.declared.fault.OwnerFault.{OwnerFault}
@@ -105,6 +105,10 @@ module _ {P : Type 0} (peer : PeerTells P)
       says_so (Disk p q) update_line result outcome
       (update_called (commands.Create file list bytes) (creating k.base file list bytes) p q result
       refl runs serving) says
+  performed (acts.Replace file) bytes p q outcome named (result, runs, says) serving =
+      says_so (Disk p q) update_line result outcome
+      (update_called (commands.Replace file bytes) (replacing k.base file bytes) p q result refl runs
+      serving) says
   performed (acts.List file) bytes p q outcome named (result, asks, says) serving =
       says_so (Disk p q) (list_line file) result outcome
       (list_called file p q result named asks serving) says

@@ -85,6 +85,9 @@ body_taken : {P : Type 0} (disk : Type 0) (act : Act) (body : Option (List ℕ))
 body_taken disk (acts.Create file list) body bytes found p q outcome Next stores few is then goes =
     bytes_taken disk bytes found p q outcome Next few
     (subst (λ (b : Option (List ℕ)). FindsBytes b found) stores is) then goes
+body_taken disk (acts.Replace file) body bytes found p q outcome Next stores few is then goes =
+    bytes_taken disk bytes found p q outcome Next few
+    (subst (λ (b : Option (List ℕ)). FindsBytes b found) stores is) then goes
 body_taken disk act body bytes found p q outcome Next stores few is then goes =
     then [] (subst (λ (t : Result (List ℕ) Stop). ActGoesOn t p q outcome Next) is goes)
 
@@ -153,6 +156,8 @@ module _ {P : Type 0} (peer : PeerTells P)
       owner_answered (acts.Remove file) keys body k h v named does alone serving store has
   act_answered (acts.Create file list) keys body k h v named does alone serving store has =
       owner_answered (acts.Create file list) keys body k h v named does alone serving store has
+  act_answered (acts.Replace file) keys body k h v named does alone serving store has =
+      owner_answered (acts.Replace file) keys body k h v named does alone serving store has
   act_answered (acts.List file) keys body k h v named does alone serving store has =
       owner_answered (acts.List file) keys body k h v named does alone serving store has
   act_answered (acts.Key user) keys body k h v named does alone serving store has =

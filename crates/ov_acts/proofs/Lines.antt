@@ -77,6 +77,7 @@ three_words (acts.Create file list) command first second third path (text, c, w,
     let e : file ≡ first = cc in
     let f : text ≡ second = cc in
     (c, subst IsName e named, (list, subst (λ t. IsWritten t list) f written))
+three_words (acts.Replace file) command first second third path (c, w, named) = absurd (cc)
 three_words (acts.List file) command first second third path (c, w, p, named) = absurd (cc)
 three_words (acts.Key user) command first second third path (c, w, p, named) = absurd (cc)
 three_words (acts.Read file) command first second third path (c, w, p, named) = absurd (cc)
@@ -96,6 +97,8 @@ few_words (acts.Remove file) command path words (c, w, p, named) =
     let e : length words ≡ 1 = ap length w in (omega arith, omega arith)
 few_words (acts.Create file list) command path words (text, c, w, named, written) =
     let e : length words ≡ 3 = ap length w in (omega arith, omega arith)
+few_words (acts.Replace file) command path words (c, w, named) =
+    let e : length words ≡ 2 = ap length w in (omega arith, omega arith)
 few_words (acts.List file) command path words (c, w, p, named) =
     let e : length words ≡ 1 = ap length w in (omega arith, omega arith)
 few_words (acts.Key user) command path words (c, w, p, named) =
@@ -134,6 +137,11 @@ act_of_line (acts.Create file list) command address keys a k path rest (c, more,
     let g : more ≡ rest = cc in
     subst (λ x. IsActLine (acts.Create file list) x rest path) f
     (subst (λ x. IsActLine (acts.Create file list) c x path) g is)
+act_of_line (acts.Replace file) command address keys a k path rest (c, more, e, is) =
+    let f : c ≡ command = cc in
+    let g : more ≡ rest = cc in
+    subst (λ x. IsActLine (acts.Replace file) x rest path) f
+    (subst (λ x. IsActLine (acts.Replace file) c x path) g is)
 act_of_line (acts.List file) command address keys a k path rest (c, more, e, is) =
     let f : c ≡ command = cc in
     let g : more ≡ rest = cc in
@@ -171,6 +179,8 @@ short_line (acts.Revoke user file) address keys path words (command, rest, e, is
 short_line (acts.Remove file) address keys path words (command, rest, e, is) =
     let long : length words ≡ suc (suc (suc (length rest))) = ap length e in inl (omega arith)
 short_line (acts.Create file list) address keys path words (command, rest, e, is) =
+    let long : length words ≡ suc (suc (suc (length rest))) = ap length e in inl (omega arith)
+short_line (acts.Replace file) address keys path words (command, rest, e, is) =
     let long : length words ≡ suc (suc (suc (length rest))) = ap length e in inl (omega arith)
 short_line (acts.List file) address keys path words (command, rest, e, is) =
     let long : length words ≡ suc (suc (suc (length rest))) = ap length e in inl (omega arith)

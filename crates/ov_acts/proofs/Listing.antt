@@ -22,6 +22,7 @@ line_limits (acts.Enrol user) address keys path words is = tt
 line_limits (acts.Grant user file) address keys path words is = tt
 line_limits (acts.Revoke user file) address keys path words is = tt
 line_limits (acts.Remove file) address keys path words is = tt
+line_limits (acts.Replace file) address keys path words is = tt
 line_limits (acts.List file) address keys path words is = tt
 line_limits (acts.Key user) address keys path words is = tt
 line_limits (acts.Read file) address keys path words is = tt

@@ -16,6 +16,7 @@ told_by_owner (acts.Grant user file) keys body v Then outcome owns told = told
 told_by_owner (acts.Revoke user file) keys body v Then outcome owns told = told
 told_by_owner (acts.Remove file) keys body v Then outcome owns told = told
 told_by_owner (acts.Create file list) keys body v Then outcome owns told = told
+told_by_owner (acts.Replace file) keys body v Then outcome owns told = told
 told_by_owner (acts.List file) keys body v Then outcome owns told = told
 told_by_owner (acts.Key user) keys body v Then outcome owns told = told
 told_by_owner (acts.Read file) keys body v Then outcome owns told = absurd owns

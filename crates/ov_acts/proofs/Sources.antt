@@ -40,6 +40,8 @@ pub same_bytes : (act : Act) (body : Option (List ℕ)) (bytes stored : List ℕ
     → FindsBody act body (Ok bytes) → StoresBytes act body stored → stored ≡ bytes
 same_bytes (acts.Create file list) body bytes stored found is =
     subst (λ b. IfSome b (λ all. all ≡ bytes)) is found.all
+same_bytes (acts.Replace file) body bytes stored found is =
+    subst (λ b. IfSome b (λ all. all ≡ bytes)) is found.all
 same_bytes (acts.Enrol user) body bytes stored found is = cc
 same_bytes (acts.Grant user file) body bytes stored found is = cc
 same_bytes (acts.Revoke user file) body bytes stored found is = cc
@@ -126,6 +128,8 @@ module _ {P : Type 0} (peer : PeerTells P) where
   no_keys (acts.Remove name) file body p q outcome none (found, is, goes) =
       no_masters file found p q outcome _ none is goes
   no_keys (acts.Create name list) file body p q outcome none (found, is, goes) =
+      no_masters file found p q outcome _ none is goes
+  no_keys (acts.Replace name) file body p q outcome none (found, is, goes) =
       no_masters file found p q outcome _ none is goes
   no_keys (acts.List name) file body p q outcome none (found, is, goes) =
       no_masters file found p q outcome _ none is goes

@@ -5,7 +5,7 @@ use Rattle.ov_io.specs.Calls.{TakesWhile}
 use Rattle.ov_io.specs.Tells.{SourceTells}
 use Rattle.ov_io.proofs.Pieces.{while_as}
 use Rattle.ov_keyfile.specs.declared.masters.Masters.{Masters as ReadMasters}
-use Rattle.ov_acts.specs.Causes.{HasKeys, IsCreation, TakesFiles, TakesUpTo, most_bytes, most_keys}
+use Rattle.ov_acts.specs.Causes.{HasKeys, StoresFile, TakesFiles, TakesUpTo, most_bytes, most_keys}
 use Rattle.ov_acts.specs.Files.{FindsMasters, IsOwners}
 use Rattle.ov_acts.specs.declared.job.Act.{Act}
 use Rattle.ov_acts.specs.declared.job.Act.TheVariants as acts
@@ -19,11 +19,11 @@ takes_so {S} tells size most failed old new e t =
     while_as tells (λ seen. length seen < most) ⊤ ⊤ failed ⊥ old new (λ x. x) (λ x. absurd x)
     (subst (λ (n : ℕ). TakesWhile tells (λ seen. length seen < n) ⊤ failed old new) e t)
 
--- a creation takes from its body, or doesn't
-pub created_takes : (same takes : Type 0) (act : Act) (file : List ℕ) (list : List (List ℕ))
-    → act ≡ acts.Create file list → same ⊎ takes → same ⊎ (IsCreation act × takes)
-created_takes same takes act file list is (inl e) = inl e
-created_takes same takes act file list is (inr t) = inr (subst IsCreation (sym is) tt, t)
+-- an act that stores a file takes from it, or doesn't
+pub stored_takes : (same takes : Type 0) (act : Act)
+    → StoresFile act → same ⊎ takes → same ⊎ (StoresFile act × takes)
+stored_takes same takes act stores (inl e) = inl e
+stored_takes same takes act stores (inr t) = inr (stores, t)
 
 -- masters were found in a key file
 keys_hold : (act : Act) (keys : Option (List ℕ)) (masters : ReadMasters) → IsOwners act
@@ -38,6 +38,8 @@ keys_hold (acts.Revoke user name) (Some file) masters owns found =
 keys_hold (acts.Remove name) (Some file) masters owns found =
     (masters.base.bytes, masters.surface.bytes, found)
 keys_hold (acts.Create name list) (Some file) masters owns found =
+    (masters.base.bytes, masters.surface.bytes, found)
+keys_hold (acts.Replace name) (Some file) masters owns found =
     (masters.base.bytes, masters.surface.bytes, found)
 keys_hold (acts.List name) (Some file) masters owns found =
     (masters.base.bytes, masters.surface.bytes, found)
@@ -61,6 +63,8 @@ module _ {K B : Type 0} (keys_tells : SourceTells K) (body_tells : SourceTells B
       record { keys = takes; body = inl same }
   keys_alone (acts.Create name list) k k_after b b_after owns takes same =
       record { keys = takes; body = inl same }
+  keys_alone (acts.Replace name) k k_after b b_after owns takes same =
+      record { keys = takes; body = inl same }
   keys_alone (acts.List name) k k_after b b_after owns takes same =
       record { keys = takes; body = inl same }
   keys_alone (acts.Key user) k k_after b b_after owns takes same =
@@ -81,7 +85,7 @@ module _ {K B : Type 0} (keys_tells : SourceTells K) (body_tells : SourceTells B
   pub both_files : (act : Act) (k k_after : K) (b b_after : B) (masters : ReadMasters)
       → IsOwners act → FindsMasters (keys_tells.left k) (Ok masters)
       → TakesUpTo keys_tells 131 k k_after
-      → (b_after ≡ b) ⊎ (IsCreation act × TakesUpTo body_tells most_bytes b b_after)
+      → (b_after ≡ b) ⊎ (StoresFile act × TakesUpTo body_tells most_bytes b b_after)
       → TakesFiles keys_tells body_tells act k k_after b b_after
   both_files act k k_after b b_after masters owns found takes (inl same) =
       keys_alone act k k_after b b_after owns takes same

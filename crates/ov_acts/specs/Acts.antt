@@ -11,7 +11,7 @@ use Rattle.ov_history.specs.Masters.{Masters}
 use Rattle.ov_keyfile.specs.declared.masters.Masters.{Masters as ReadMasters}
 use Rattle.ov_owner.specs.Calls.{Runs}
 use Rattle.ov_owner.specs.Clients.{reader_in}
-use Rattle.ov_owner.specs.Errands.{creating, enrolling, granting, removing, revoking}
+use Rattle.ov_owner.specs.Errands.{creating, enrolling, granting, removing, replacing, revoking}
 use Rattle.ov_owner.specs.Questions.{AsksOnce, names_in, welcome_in}
 use Rattle.ov_owner.specs.declared.fault.OwnerFault.{OwnerFault}
 use Rattle.ov_script.specs.Lines.{reply_line}
@@ -26,7 +26,7 @@ use Rattle.ov_acts.specs.Files.{FindsBody, FindsMasters, FindsReader, plain_mast
 use Rattle.ov_acts.specs.Stops.{Outcome, stop_of_client, stop_of_owner}
 use Rattle.ov_acts.specs.declared.job.Act.{Act}
 use Rattle.ov_acts.specs.declared.job.Act.TheVariants.{Check, Create, Enrol, Grant, Key}
-use Rattle.ov_acts.specs.declared.job.Act.TheVariants.{List as ListNames, Read, Remove, Revoke}
+use Rattle.ov_acts.specs.declared.job.Act.TheVariants.{List as ListNames, Read, Remove, Replace, Revoke}
 use Rattle.ov_acts.specs.declared.stop.Stop.{Stop}
 use Rattle.ov_acts.specs.declared.stop.Stop.TheVariants.{Memory, OtherKeys}
 
@@ -93,6 +93,7 @@ AsksFor (Grant user file) bytes command = command ≡ commands.Grant user file
 AsksFor (Revoke user file) bytes command = command ≡ commands.Revoke user file
 AsksFor (Remove file) bytes command = command ≡ commands.Remove file
 AsksFor (Create file list) bytes command = command ≡ commands.Create file list bytes
+AsksFor (Replace file) bytes command = command ≡ commands.Replace file bytes
 AsksFor act bytes command = ⊥
 
 -- the act asks an owner's question, which changes nothing
@@ -121,6 +122,10 @@ module _ {P : Type 0} (peer : PeerTells P) where
   Performs k (Create file list) bytes p q outcome =
       (result : Result ℕ OwnerFault)
       × Runs peer k.surface (creating k.base file list bytes) p q result
+      × Says update_line result outcome
+  Performs k (Replace file) bytes p q outcome =
+      (result : Result ℕ OwnerFault)
+      × Runs peer k.surface (replacing k.base file bytes) p q result
       × Says update_line result outcome
   Performs k (ListNames file) bytes p q outcome =
       (result : Result (List (List ℕ)) OwnerFault)

@@ -7,7 +7,7 @@ use Rattle.ov_io.specs.Calls.{TakesWhile}
 use Rattle.ov_io.specs.Tells.{SourceTells}
 use Rattle.ov_keyfile.specs.KeyFile.{HasMasters}
 use Rattle.ov_acts.specs.declared.job.Act.{Act}
-use Rattle.ov_acts.specs.declared.job.Act.TheVariants.{Create, Read}
+use Rattle.ov_acts.specs.declared.job.Act.TheVariants.{Create, Read, Replace}
 use Rattle.ov_acts.specs.declared.stop.Stop.{Stop}
 use Rattle.ov_acts.specs.declared.stop.Stop.TheVariants as stops
 
@@ -20,6 +20,7 @@ HasKeys act bytes = HasMasters bytes
 -- the act has bytes to store, and the file has more than may be stored
 abbrev pub StoresTooMany : Act → Option (List ℕ) → Type 0
 StoresTooMany (Create file list) body = IfSome body (λ bytes. MAX_FILE_BYTES < length bytes)
+StoresTooMany (Replace file) body = IfSome body (λ bytes. MAX_FILE_BYTES < length bytes)
 StoresTooMany act body = ⊥
 
 -- A file is said not to have been read only where a count of what is read rose, the link to have
@@ -48,9 +49,10 @@ NeedsKeys act keys p q status =
     IfSome keys (λ bytes. (HasKeys act bytes → ⊥) → (q ≡ p) × ((status ≡ 10) ⊎ (status ≡ 5)))
 
 -- the act stores the bytes of a file
-abbrev pub IsCreation : Act → Type 0
-IsCreation (Create file list) = Unit {0}
-IsCreation act = ⊥
+abbrev pub StoresFile : Act → Type 0
+StoresFile (Create file list) = Unit {0}
+StoresFile (Replace file) = Unit {0}
+StoresFile act = ⊥
 
 -- how many bytes of a file of keys are taken at most: one more than the longest of its form has
 abbrev pub most_keys : Act → ℕ
@@ -66,12 +68,12 @@ most_bytes = MAX_FILE_BYTES + 1
 abbrev pub TakesUpTo : {S : Type 0} → SourceTells S → ℕ → S → S → Type 0
 TakesUpTo tells most old new = TakesWhile tells (λ seen. length seen < most) ⊤ ⊥ old new
 
--- The file to be stored is taken from only for a creation, and only once the file of keys was found
--- to be of its form.
+-- The file to be stored is taken from only for a creation or a replacement, and only once the file
+-- of keys was found to be of its form.
 abbrev pub TakesBody : {S : Type 0} → SourceTells S → Act → Option (List ℕ) → S → S → Type 0
 TakesBody tells act keys old new =
     (new ≡ old)
-    ⊎ (IsCreation act × IfSome keys (HasKeys act) × TakesUpTo tells most_bytes old new)
+    ⊎ (StoresFile act × IfSome keys (HasKeys act) × TakesUpTo tells most_bytes old new)
 
 -- what an act takes of its two files
 pub record TakesFiles {K B : Type 0} (keys_tells : SourceTells K) (body_tells : SourceTells B)

@@ -11,7 +11,7 @@ use Rattle.ov_keyfile.specs.KeyFile.{HasMasters, IsKeyFile}
 use Rattle.ov_keyfile.specs.declared.masters.Masters.{Masters as ReadMasters}
 use Rattle.ov_owner.specs.declared.limits.TheConstants.{MAX_LIST_BYTES, MAX_LIST_NAMES}
 use Rattle.ov_acts.specs.declared.job.Act.{Act}
-use Rattle.ov_acts.specs.declared.job.Act.TheVariants.{Check, Create, Read}
+use Rattle.ov_acts.specs.declared.job.Act.TheVariants.{Check, Create, Read, Replace}
 use Rattle.ov_acts.specs.declared.stop.Stop.{Stop}
 use Rattle.ov_acts.specs.declared.stop.Stop.TheVariants.{BadKeys, Memory, TooLong}
 use Rattle.ov_acts.specs.declared.stop.Stop.TheVariants.{Read as ReadFault}
@@ -56,9 +56,11 @@ FindsBytes body (Err ReadFault) = Unit {0}
 FindsBytes body (Err Memory) = Unit {0}
 FindsBytes body (Err stop) = ⊥
 
--- the bytes that an act stores: those of the file for a creation, and none for any other
+-- the bytes that an act stores: those of the file for a creation or a replacement, and none for any
+-- other
 abbrev pub FindsBody : Act → Option (List ℕ) → Result (List ℕ) Stop → Type 0
 FindsBody (Create file list) body found = FindsBytes body found
+FindsBody (Replace file) body found = FindsBytes body found
 FindsBody act body found = found ≡ Ok []
 
 -- the act is one of an owner at a server

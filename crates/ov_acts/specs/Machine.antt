@@ -20,7 +20,7 @@ use Rattle.ov_acts.specs.Acts.{list_line, update_line}
 use Rattle.ov_acts.specs.Stops.{Outcome}
 use Rattle.ov_acts.specs.declared.job.Act.{Act}
 use Rattle.ov_acts.specs.declared.job.Act.TheVariants.{Check, Create, Enrol, Grant, Key}
-use Rattle.ov_acts.specs.declared.job.Act.TheVariants.{List as ListNames, Read, Remove, Revoke}
+use Rattle.ov_acts.specs.declared.job.Act.TheVariants.{List as ListNames, Read, Remove, Replace, Revoke}
 use Rattle.ov_acts.specs.declared.stop.Stop.TheVariants.{Damaged, Refused}
 
 -- ---- an owner's acts
@@ -66,6 +66,8 @@ CommandsAsMachine k (Remove file) bytes v Then outcome =
     UpdatesAsMachine k (commands.Remove file) v Then outcome
 CommandsAsMachine k (Create file list) bytes v Then outcome =
     UpdatesAsMachine k (commands.Create file list bytes) v Then outcome
+CommandsAsMachine k (Replace file) bytes v Then outcome =
+    UpdatesAsMachine k (commands.Replace file bytes) v Then outcome
 CommandsAsMachine k (ListNames file) bytes v Then outcome = ListsAsMachine v Then file outcome
 CommandsAsMachine k (Key user) bytes v Then outcome = HandsKeys k v Then user outcome
 CommandsAsMachine k act bytes v Then outcome = Unit {0}
@@ -99,6 +101,7 @@ ReadsAsMachine k r file v Then (Err stop) = Unit {0}
 -- these are the bytes that the act stores, of a file that tells them
 abbrev pub StoresBytes : Act → Option (List ℕ) → List ℕ → Type 0
 StoresBytes (Create file list) body bytes = body ≡ Some bytes
+StoresBytes (Replace file) body bytes = body ≡ Some bytes
 StoresBytes act body bytes = bytes ≡ []
 
 -- What an owner's act comes to is the machine's, where its files tell their bytes and the key file

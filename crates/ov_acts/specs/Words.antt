@@ -7,7 +7,7 @@ use Rattle.ov_base.specs.Names.{IsName}
 use Rattle.ov_script.specs.WrittenLists.{IsList}
 use Rattle.ov_acts.specs.declared.job.Act.{Act}
 use Rattle.ov_acts.specs.declared.job.Act.TheVariants.{Check, Create, Enrol, Grant, Key}
-use Rattle.ov_acts.specs.declared.job.Act.TheVariants.{List as ListNames, Read, Remove, Revoke}
+use Rattle.ov_acts.specs.declared.job.Act.TheVariants.{List as ListNames, Read, Remove, Replace, Revoke}
 use Rattle.ov_acts.specs.declared.job.Job.{Job}
 use Rattle.ov_acts.specs.declared.words.TheConstants.{MAX_WRITTEN_LIST}
 
@@ -31,6 +31,8 @@ IsActLine (Remove file) command words path =
 IsActLine (Create file list) command words path =
     (text : List ℕ) × (command ≡ codes "create") × (words ≡ file ∷ text ∷ path ∷ [])
     × IsName file × IsWritten text list
+IsActLine (Replace file) command words path =
+    (command ≡ codes "replace") × (words ≡ file ∷ path ∷ []) × IsName file
 IsActLine (ListNames file) command words path =
     (command ≡ codes "list") × (words ≡ file ∷ []) × (path ≡ []) × IsName file
 IsActLine (Key user) command words path =

@@ -7,7 +7,7 @@ ghost use Rattle.ov_client.specs.Readers.{Reader};
 ghost use Rattle.ov_keyfile.specs.KeyFile.{HasMasters};
 ghost use Rattle.ov_protocol.specs.Serving.{Service};
 ghost use Rattle.ov_acts.specs.Acts.{Acts, ChecksBy, OwnsBy, ReadsBy, check_line};
-ghost use Rattle.ov_acts.specs.Causes.{EndsFor, HasKeys, IsCreation, NeedsKeys, StopsFor};
+ghost use Rattle.ov_acts.specs.Causes.{EndsFor, HasKeys, NeedsKeys, StopsFor, StoresFile};
 ghost use Rattle.ov_acts.specs.Causes.{StoresTooMany, TakesFiles, TakesUpTo, most_bytes};
 ghost use Rattle.ov_acts.specs.Completeness.{AsksByName, IsComplete};
 ghost use Rattle.ov_acts.specs.Endings.{Ends};
@@ -34,10 +34,10 @@ fn body_of<B: Source>(alloc: Global, act: &Act, body: &mut B) -> Result<Octets, 
     ensures cause { StopsFor (Rose (B.tells.faults body.old) (B.tells.faults body.new)) ⊥ ⊥
         (StoresTooMany act.now (B.tells.left body.old)) result }
     ensures takes { (body.new ≡ body.old)
-        ⊎ (IsCreation act.now × TakesUpTo B.tells most_bytes body.old body.new) }
+        ⊎ (StoresFile act.now × TakesUpTo B.tells most_bytes body.old body.new) }
 {
     match act {
-        Act::Create { file: _, list: _ } => bytes_of(alloc, body),
+        Act::Create { file: _, list: _ } | Act::Replace { file: _ } => bytes_of(alloc, body),
         _ => Ok(Octets::new(alloc)),
     }
 }
@@ -157,6 +157,7 @@ fn perform<K: Source, B: Source, P: Peer>(
         | Act::Revoke { user: _, file: _ }
         | Act::Remove { file: _ }
         | Act::Create { file: _, list: _ }
+        | Act::Replace { file: _ }
         | Act::List { file: _ }
         | Act::Key { user: _ } => own(alloc, act, keys, body, peer),
     }

@@ -117,6 +117,7 @@ fn change_of<'a>(act: &'a Act, bytes: &'a [u8]) -> Option<Change<'a>>
     match act {
         Act::Enrol { user } => Some(Change::Enrol { user }),
         Act::Create { file, list } => Some(Change::Create { file, list, bytes }),
+        Act::Replace { file } => Some(Change::Replace { file, bytes }),
         Act::Grant { user, file } => Some(Change::Grant { user, file }),
         Act::Revoke { user, file } => Some(Change::Revoke { user, file }),
         Act::Remove { file } => Some(Change::Remove { file }),
@@ -140,6 +141,7 @@ fn question<P: Peer>(alloc: Global, owner: &Owner, act: &Act, peer: &mut P) -> R
         Act::Key { user } => line_on_client(alloc, owner.client(alloc, peer, user)),
         Act::Enrol { user: _ }
         | Act::Create { file: _, list: _ }
+        | Act::Replace { file: _ }
         | Act::Grant { user: _, file: _ }
         | Act::Revoke { user: _, file: _ }
         | Act::Remove { file: _ }

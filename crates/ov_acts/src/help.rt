@@ -38,7 +38,7 @@ macro_rules! command {
 }
 
 /// The commands.
-pub static LINES: [Line; 12] = [
+pub static LINES: [Line; 13] = [
     command!(
         "enrol",
         ["ADDRESS", "KEYS", "USER"],
@@ -68,6 +68,12 @@ pub static LINES: [Line; 12] = [
         ["ADDRESS", "KEYS", "FILE"],
         "Remove a file; its name is free again: `ok EPOCH`",
         "127.0.0.1:7400 keys.hex report"
+    ),
+    command!(
+        "replace",
+        ["ADDRESS", "KEYS", "FILE", "PATH"],
+        "Give a file new bytes; its list stays: `ok EPOCH`",
+        "127.0.0.1:7400 keys.hex report report.txt"
     ),
     command!(
         "list",

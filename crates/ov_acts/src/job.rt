@@ -15,6 +15,8 @@ pub enum Act {
     Remove { file: Name },
     /// `create`: the file is made, for the users of the list.
     Create { file: Name, list: Names },
+    /// `replace`: the file is gone, and one of its name and list has the bytes of PATH.
+    Replace { file: Name },
     /// `list`: the names in the file's list are asked for.
     List { file: Name },
     /// `key`: the user's key line is asked for.

@@ -7,7 +7,7 @@
 //!
 //! | [`Act`] | result |
 //! |---|---|
-//! | `enrol`, `create`, `grant`, `revoke`, `remove` | `ok EPOCH` |
+//! | `enrol`, `create`, `grant`, `revoke`, `remove`, `replace` | `ok EPOCH` |
 //! | `list` | `list FILE NAMES` |
 //! | `key` | the line of a user's keys |
 //! | `read` | the bytes of a file, asked for with such a line |

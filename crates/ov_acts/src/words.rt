@@ -49,18 +49,40 @@ fn act_of_one(command: &str, word: &str) -> Option<Act>
     }
 }
 
-/// The act that has two names behind its keys.
-fn act_of_two(command: &str, first: &str, second: &str) -> Option<Act>
-    ensures found { IfSome result (λ act.
-        IsActLine act command.now (first.now ∷ second.now ∷ []) []) }
+/// An act, and the path of the bytes that it stores, where it stores some.
+#[derive(Drop)]
+struct Taken<'a> {
+    act: Act,
+    path: &'a str,
+}
+
+/// The act that has two words behind its keys: two names, or a name and a path.
+fn act_of_two<'a>(command: &str, first: &str, second: &'a str) -> Option<Taken<'a>>
+    ensures found { IfSome result (λ taken.
+        IsActLine taken.act command.now (first.now ∷ second.now ∷ []) taken.path.now) }
     ensures none { IfNone result ((act : ActValue) (path : List ℕ)
         → IsActLine act command.now (first.now ∷ second.now ∷ []) path → ⊥) }
 {
-    let user = Name::read(first.as_bytes())?;
-    let file = Name::read(second.as_bytes())?;
+    let name = Name::read(first.as_bytes())?;
     match command {
-        "grant" => Some(Act::Grant { user, file }),
-        "revoke" => Some(Act::Revoke { user, file }),
+        "replace" => Some(Taken {
+            act: Act::Replace { file: name },
+            path: second,
+        }),
+        "grant" => Some(Taken {
+            act: Act::Grant {
+                user: name,
+                file: Name::read(second.as_bytes())?,
+            },
+            path: "",
+        }),
+        "revoke" => Some(Taken {
+            act: Act::Revoke {
+                user: name,
+                file: Name::read(second.as_bytes())?,
+            },
+            path: "",
+        }),
         _ => None,
     }
 }
@@ -81,13 +103,6 @@ fn creation(alloc: Global, file: &str, list: &str) -> Result<Option<Act>, Memory
     }
 }
 
-/// An act, and the path of the bytes that it stores, where it stores some.
-#[derive(Drop)]
-struct Taken<'a> {
-    act: Act,
-    path: &'a str,
-}
-
 /// The act of the words behind an address and keys.
 fn act_of<'a>(
     alloc: Global,
@@ -106,7 +121,7 @@ fn act_of<'a>(
             None => Ok(None),
         },
         [first, second] => match act_of_two(command, first.as_str(), second.as_str()) {
-            Some(act) => Ok(Some(Taken { act, path: "" })),
+            Some(taken) => Ok(Some(taken)),
             None => Ok(None),
         },
         [file, list, path] => {

@@ -9,7 +9,7 @@ use Rattle.ov_disk.specs.Disk.{Image}
 use Rattle.ov_disk.proofs.Runs.{started, then_on}
 use Rattle.ov_disk.specs.Tells.{DiskTells}
 use Rattle.ov_script.specs.declared.command.Command.{Command}
-use Rattle.ov_script.specs.declared.command.Command.TheVariants.{Enrol, Create, Grant, Revoke, Remove, Read as AskRead, List as ListNames, Epoch as AskEpoch}
+use Rattle.ov_script.specs.declared.command.Command.TheVariants.{Enrol, Create, Grant, Revoke, Remove, Replace, Read as AskRead, List as ListNames, Epoch as AskEpoch}
 use Rattle.ov_script.specs.declared.next.Next.{Next}
 use Rattle.ov_script.specs.declared.next.Next.TheVariants.{Command as Next-Command}
 use Rattle.ov_script.specs.declared.next.ScriptFault.{ScriptFault}
@@ -38,6 +38,7 @@ use Rattle.ov_answering.specs.Lasting.{KeepsFirst, KeepsNext}
 use Rattle.ov_answering.specs.declared.answer.Stop.{Stop}
 use Rattle.ov_answering.specs.declared.answer.Stop.TheVariants.{End, BadLine, Long, Read, Write, Disk, Trace, Memory, Tag}
 use Rattle.ov_answering.proofs.Lists.{item_creation}
+use Rattle.ov_script.proofs.CreateLaws.{replace_size}
 
 pub kept : (out : Option (List ℕ)) → Keeps out out
 kept None = tt
@@ -455,6 +456,7 @@ item_commands item (Create file names body) is = item_creation item file body na
 item_commands item (Grant user file) is = tt
 item_commands item (Revoke user file) is = tt
 item_commands item (Remove file) is = tt
+item_commands item (Replace file body) is = replace_size item file body is
 item_commands item (AskRead user file) is = tt
 item_commands item (ListNames file) is = tt
 item_commands item AskEpoch is = tt

@@ -16,7 +16,6 @@ use Rattle.ov_journal.specs.Standing.{IsUnborn}
 use Rattle.ov_journal.specs.declared.fault.CheckFault.{CheckFault}
 use Rattle.ov_journal.specs.declared.fault.CheckFault.TheVariants.{Disk as NoDisk}
 use Rattle.ov_journal.specs.declared.fault.CheckFault.TheVariants.{Memory as NoMemory}
-use Rattle.ov_record.specs.Updates.{SealedUpdate}
 use Rattle.ov_images.specs.Images.{IsImageOf, Keys, Opens, StandsIn, keys_of}
 use Rattle.ov_images.proofs.Keeping.{is_born}
 use Rattle.ov_history.specs.FadingLaws.{IsRight}
@@ -24,6 +23,7 @@ use Rattle.ov_history.specs.Masters.{Masters}
 use Rattle.ov_history.specs.Plain.{PlainHistory, empty_plain}
 use Rattle.ov_history.specs.Sealed.{SealedHistory, blank}
 use Rattle.ov_history.specs.Sealing.{sealed}
+use Rattle.ov_history.specs.Sent.{SealedUpdate}
 use Rattle.ov_store.specs.Beginning.{FindsHistory, IsBeginFault, IsNew, LeavesHistory, ReadsBorn}
 use Rattle.ov_store.specs.Beginning.{WritesNoBorn, disk_left}
 use Rattle.ov_store.specs.Opened.{Opened, Serves}

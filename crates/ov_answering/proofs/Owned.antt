@@ -3,7 +3,6 @@
 use Rattle.std.proofs.Common.{◌≡◌, ℕ, ◌+◌, Bool, List, [], ◌∷◌, ◌++◌, length, refl, sym, ◌∙◌, ap}
 use Rattle.std.proofs.Common.{subst, Option}
 use Rattle.std.specs.Prelude.{not}
-use Rattle.ov_record.specs.Updates.{SealedUpdate}
 use Rattle.ov_history.specs.Briefs.{brief, outer}
 use Rattle.ov_history.specs.Fading.{faded_all, faded_if, is_gone_from, made_by}
 use Rattle.ov_history.specs.FadingLaws.{IsRight}
@@ -15,6 +14,7 @@ use Rattle.ov_history.specs.Plain.{PlainHistory, PlainUpdate, measured, measured
 use Rattle.ov_history.specs.Refusals.{AllAccepted, refusal_of}
 use Rattle.ov_history.specs.Sealed.{AllFit, IsSealed, SealedHistory, outer_all, outer_of}
 use Rattle.ov_history.specs.Sealing.{sealed, sealed_from, sealed_update}
+use Rattle.ov_history.specs.Sent.{SealedUpdate}
 use Rattle.ov_history.proofs.MatrixLaws.{files_of-layers_of}
 use Rattle.ov_history.proofs.Pushing.{matrix_of-push, with_updates, with_updates-all}
 use Rattle.ov_history.proofs.Sealing.{measured-sealed}

@@ -1,27 +1,14 @@
 -- The machine answers reads alike at all legal histories for which one sealed history is right.
-use Rattle.std.proofs.Common.{◌≡◌, ◌∙◌, ℕ, ◌+◌, Bool, true, false, List, [], ◌∷◌, length}
-use Rattle.std.proofs.Common.{Some, None, Result, Ok, Err, refl, sym, ap, subst}
-use Rattle.std.proofs.lemmas.List.{length-replicate}
+use Rattle.std.proofs.Common.{◌≡◌, ◌∙◌, ℕ, true, List, Some, None, Result, Ok, Err, subst}
 use Rattle.ov_base.proofs.Tests.{true_of_not}
-use Rattle.ov_record.specs.Updates.{SealedUpdate, SealedEnrol, SealedCreate, SealedGrant}
-use Rattle.ov_record.specs.Updates.{SealedRevoke, SealedRemove}
-use Rattle.ov_history.specs.Briefs.{brief, outer}
-use Rattle.ov_history.specs.Fading.{faded_all, faded_if, is_gone_from, made_by}
 use Rattle.ov_history.specs.FadingLaws.{IsRight}
-use Rattle.ov_history.specs.History.{Created, History, Matrix, Update, matrix_of, start_of}
-use Rattle.ov_history.specs.History.{with_update}
-use Rattle.ov_history.specs.Layers.{Layers, layers_of}
+use Rattle.ov_history.specs.History.{History, Matrix, matrix_of}
 use Rattle.ov_history.specs.Lists.{file_number, is_file, user_number}
 use Rattle.ov_history.specs.Masters.{Masters}
 use Rattle.ov_history.specs.Plain.{PlainHistory, bytes_of, history_of}
-use Rattle.ov_history.specs.Refusals.{read_refusal, refusal_of}
-use Rattle.ov_history.specs.Sealed.{AllFit, HasParts, IsSealed, SealedHistory, catalogue_of}
-use Rattle.ov_history.specs.Sealed.{outer_of, stored_of}
-use Rattle.ov_history.specs.Sealing.{sealed}
-use Rattle.ov_history.proofs.FadedBytes.{agreeing_store_the_same}
-use Rattle.ov_history.proofs.Fading.{agreeing_show_the_same, faded_is_sealed}
+use Rattle.ov_history.specs.Refusals.{read_refusal}
+use Rattle.ov_history.specs.Sealed.{SealedHistory}
 use Rattle.ov_history.proofs.Fading.{right_histories_read_alike}
-use Rattle.ov_history.proofs.Sealing.{sealed_is_sealed}
 use Rattle.ov_client.specs.Laws.{IsReadAt}
 use Rattle.ov_client.specs.declared.fault.ClientFault.{ClientFault}
 use Rattle.ov_client.specs.declared.fault.ClientFault.TheVariants as client

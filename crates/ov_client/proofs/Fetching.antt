@@ -4,7 +4,7 @@ use Rattle.std.proofs.Common.{List, [], ◌∷◌, ◌++◌, length, take, drop,
 use Rattle.std.proofs.Common.{Ok, Err, refl, sym, ap, subst, arith, append_assoc}
 use Rattle.std.specs.Prelude.{◌+◌, min, ◌==◌, nat_lt, if◌then◌else◌, is_some, slice_index_or}
 use Rattle.std.proofs.Math.Seq.{drop-append_seam}
-use Rattle.std.proofs.lemmas.List.{append-nil, take-append-drop}
+use Rattle.std.proofs.lemmas.List.{take-append-drop}
 use Rattle.ov_base.proofs.Tests.{ge_of_false}
 use Rattle.ov_base.specs.declared.limits.TheConstants.{MAX_CHUNK_BYTES}
 use Rattle.ov_base.specs.declared.refusal.Refusal.TheVariants.{NoFile}
@@ -18,11 +18,13 @@ use Rattle.ov_history.specs.Plain.{PlainHistory, bytes_of}
 use Rattle.ov_history.specs.Refusals.{read_refusal}
 use Rattle.ov_history.specs.Sealed.{SealedHistory, catalogue_of, stored_of}
 use Rattle.ov_history.specs.Sealing.{sealed}
+use Rattle.ov_history.proofs.Agreeing.{right_keeps, right_shows}
 use Rattle.ov_wire.specs.declared.answer.Answer.{Answer}
 use Rattle.ov_wire.specs.declared.answer.Answer.TheVariants as answers
 use Rattle.ov_wire.specs.declared.answer.Chained.{Chained}
 use Rattle.ov_protocol.specs.Reading.{AnswersChain, AnswersChunk, IsChainedFor}
 use Rattle.ov_protocol.specs.Serving.{Service, followed, later}
+use Rattle.ov_protocol.proofs.Following.{followed-append}
 use Rattle.ov_client.specs.Laws.{HoldsRootKeys, IsAsMachine}
 use Rattle.ov_client.specs.Readers.{Reader, judged, keys_along, uncovered}
 use Rattle.ov_client.specs.Talks.{AsksChain, AsksChunk, Ends, Stage}
@@ -31,7 +33,6 @@ use Rattle.ov_client.specs.Telling.{chained_unless, chunk_bytes, wrong_field}
 use Rattle.ov_client.specs.declared.fault.ClientFault.TheVariants as client
 use Rattle.ov_client.specs.declared.reading.TheConstants.{TRIES}
 use Rattle.ov_client.specs.declared.telling.Fetched.TheVariants.{Bytes}
-use Rattle.ov_history.proofs.Agreeing.{right_keeps, right_shows}
 use Rattle.ov_client.proofs.Leading.{BeginsAt}
 use Rattle.ov_client.proofs.Opening.{file_is, judged_is, length_is, read_named, there}
 use Rattle.ov_client.proofs.Staying.{IsIn, file_in, found_file, same_stored}
@@ -135,8 +136,7 @@ module _ (k : Masters) (r : Reader) (file : List ℕ) (holds : HoldsRootKeys k r
           right = right;
           chained_at = refl;
           more = [];
-          goes = sym (ap (λ (us : List SealedUpdate). record v.history { updates = us })
-              (append-nil v.history.updates));
+          goes = refl;
           allowed = allowed;
           told = told;
           base = base;
@@ -173,8 +173,7 @@ module _ (k : Masters) (r : Reader) (file : List ℕ) (holds : HoldsRootKeys k r
     goes_to : followed v.history others ≡ followed f.history all_more
     goes_to =
         ap (λ (g : SealedHistory). followed g others) f.goes
-        ∙ ap (λ (us : List SealedUpdate). record f.history { updates = us })
-        (append_assoc f.history.updates f.more others)
+        ∙ followed-append f.history f.more others
 
     low : IsIn before.files c.file
     low =

@@ -14,6 +14,7 @@ use Rattle.ov_history.specs.Places.{living_at}
 use Rattle.ov_history.specs.Plain.{PlainHistory}
 use Rattle.ov_history.specs.Sealed.{SealedHistory, catalogue_of, stored_of}
 use Rattle.ov_history.specs.Sealing.{sealed}
+use Rattle.ov_history.proofs.Agreeing.{right_keeps, right_shows}
 use Rattle.ov_wire.specs.declared.request.Request.{Request}
 use Rattle.ov_wire.specs.declared.request.Request.TheVariants as requests
 use Rattle.ov_wire.specs.declared.answer.Answer.{Answer}
@@ -36,7 +37,6 @@ use Rattle.ov_client.specs.Talks.{AsksChain, AsksChunk, Closes, Ends, Goes, IsAf
 use Rattle.ov_client.specs.Talks.{after, asked_at}
 use Rattle.ov_client.specs.declared.fault.ClientFault.{ClientFault}
 use Rattle.ov_client.specs.declared.fault.ClientFault.TheVariants as client
-use Rattle.ov_history.proofs.Agreeing.{right_keeps, right_shows}
 use Rattle.ov_client.proofs.Fetching.{IsFetching, StandsAt, chain_stands, chunk_stands}
 
 module _ (k : Masters) (r : Reader) (file : List ℕ) (holds : HoldsRootKeys k r) where

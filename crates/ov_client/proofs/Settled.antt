@@ -14,6 +14,7 @@ use Rattle.ov_history.specs.Plain.{PlainHistory, history_of}
 use Rattle.ov_history.specs.Refusals.{IsLegal}
 use Rattle.ov_history.specs.Sealed.{SealedHistory, catalogue_of, stored_of}
 use Rattle.ov_history.specs.Sealing.{sealed}
+use Rattle.ov_history.proofs.Agreeing.{right_keeps, right_shows}
 use Rattle.ov_wire.specs.declared.request.Request.{Request}
 use Rattle.ov_wire.specs.declared.request.Request.TheVariants as requests
 use Rattle.ov_wire.specs.declared.answer.Answer.{Answer}
@@ -37,7 +38,6 @@ use Rattle.ov_client.specs.Talks.{AsksChain, AsksChunk, Closes, Ends, Goes, IsAf
 use Rattle.ov_client.specs.Talks.{after, asked_at}
 use Rattle.ov_client.specs.declared.fault.ClientFault.{ClientFault}
 use Rattle.ov_client.specs.declared.fault.ClientFault.TheVariants as client
-use Rattle.ov_history.proofs.Agreeing.{right_keeps, right_shows}
 use Rattle.ov_client.proofs.Staying.{found_file}
 use Rattle.ov_client.proofs.Quiet.{IsFetching, StandsQuiet, chain_stands, chunk_stands, low_told}
 use Rattle.ov_client.proofs.ReadingBack.{chain_is_answer, reads_back}

@@ -6,23 +6,25 @@ use Rattle.std.specs.Prelude.{◌⊎◌, Option, Some, None, is_some, slice_inde
 use Rattle.std.proofs.lemmas.Bool.{cases_lt}
 use Rattle.std.proofs.lemmas.List.{get_or_append_left}
 use Rattle.ov_graph.proofs.GraphLaws.{last_item}
-use Rattle.ov_record.specs.Updates.{SealedCreate, SealedEnrol, SealedGrant, SealedRemove}
-use Rattle.ov_record.specs.Updates.{SealedRevoke, SealedUpdate}
+use Rattle.ov_record.specs.Updates.{SealedUpdate as SpelledUpdate}
 use Rattle.ov_surface.specs.Coats.{stored_under}
 use Rattle.ov_history.specs.Briefs.{Brief, BriefCreate, BriefEnrol, BriefGrant, BriefRemove}
-use Rattle.ov_history.specs.Briefs.{BriefRevoke, brief, outer, text_of}
+use Rattle.ov_history.specs.Briefs.{BriefReplace, BriefRevoke, brief, outer, text_of}
 use Rattle.ov_history.specs.Catalogue.{Catalogue, Filed, catalogue_after, empty_catalogue}
-use Rattle.ov_history.specs.Catalogue.{grown_catalogue, new_file, no_filed, outline, refiled}
-use Rattle.ov_history.specs.Catalogue.{settled_files}
+use Rattle.ov_history.specs.Catalogue.{filed_at, grown_catalogue, new_file, no_filed, outline}
+use Rattle.ov_history.specs.Catalogue.{refiled, settled_files}
 use Rattle.ov_history.specs.Places.{change_at, gone, living_at}
-use Rattle.ov_history.specs.Layers.{lists_after, lists_of, same_surface, surface_at}
+use Rattle.ov_history.specs.Layers.{list_in, lists_after, lists_of, same_surface, surface_at}
 use Rattle.ov_history.specs.Layers.{wants_of, with_wants}
 use Rattle.ov_history.specs.Rewrites.{surface_key, with_text}
 use Rattle.ov_history.specs.Sealed.{SealedHistory, catalogue_all, catalogue_of, sent_all, sent_of}
 use Rattle.ov_history.specs.Sealed.{stored_of}
+use Rattle.ov_history.specs.Sent.{SealedCreate, SealedEnrol, SealedGrant, SealedRemove}
+use Rattle.ov_history.specs.Sent.{SealedReplace, SealedRevoke, SealedUpdate}
 use Rattle.ov_history.proofs.ChangeLaws.{gone_other, length-change_at}
 use Rattle.ov_history.proofs.Storing.{coated, coats_of, length-settled_files, living_below}
 use Rattle.ov_protocol.specs.Serving.{followed}
+use Rattle.ov_protocol.proofs.Following.{followed-numbered, numbered_all}
 
 abbrev pub file_in : List (Option Filed) → ℕ → Filed
 file_in files n = unwrap_or (living_at files n) no_filed
@@ -78,6 +80,25 @@ was_same files o n same is = (
   ap (λ (p : Option Filed). is_some p) (sym same) ∙ is,
 )
 
+-- what is left after a file is gone was there before, and is the same
+left_file : (file : ℕ) (files : List (Option Filed)) (n : ℕ) → IsIn (change_at gone file files) n
+    → (file_in (change_at gone file files) n ≡ file_in files n) × IsIn files n
+left_file file files n is =
+    was_same files (living_at (change_at gone file files) n) n (gone_other file files n is) is
+
+-- what is there among these files and one more, below the number of that, is there among these
+more_file : (files : List (Option Filed)) (f : Filed) (n : ℕ) → n < length files
+    → IsIn (files ++ Some f ∷ []) n
+    → (file_in (files ++ Some f ∷ []) n ≡ file_in files n) × IsIn files n
+more_file files f n given is =
+    was_same files (living_at (files ++ Some f ∷ []) n) n
+    (get_or_append_left files (Some f ∷ []) None n given) is
+
+-- the file that replaces another
+abbrev replacing : Catalogue → ℕ → List ℕ → ℕ → Filed
+replacing c file tag size =
+    new_file c (filed_at c file).name (list_in (outline c) file) tag size
+
 -- a file whose number was given, and that is there still, is the same until the surfaces are
 -- settled
 grown_file : (c : Catalogue) (b : Brief) (n : ℕ) → n < length c.files
@@ -85,13 +106,16 @@ grown_file : (c : Catalogue) (b : Brief) (n : ℕ) → n < length c.files
     → (file_in (grown_catalogue c b).files n ≡ file_in c.files n) × IsIn c.files n
 grown_file c (BriefEnrol user) n given is = (refl, is)
 grown_file c (BriefCreate file list tokens tag size) n given is =
-    let f : Filed = new_file c file list tag size in
-    was_same c.files (living_at (c.files ++ Some f ∷ []) n) n
-    (get_or_append_left c.files (Some f ∷ []) None n given) is
+    more_file c.files (new_file c file list tag size) n given is
 grown_file c (BriefGrant user file token) n given is = (refl, is)
 grown_file c (BriefRevoke user file) n given is = (refl, is)
-grown_file c (BriefRemove file) n given is =
-    was_same c.files (living_at (change_at gone file c.files) n) n (gone_other file c.files n is) is
+grown_file c (BriefRemove file) n given is = left_file file c.files n is
+grown_file c (BriefReplace file tokens tag size) n given is =
+    let f : Filed = replacing c file tag size in
+    let (same, there) = more_file (change_at gone file c.files) f n
+    (omega (arith, given, length-change_at gone file c.files)) is in
+    let (was, before) = left_file file c.files n there in
+    (same ∙ was, before)
 
 -- a number that was given stays so
 grown_given : (c : Catalogue) (b : Brief) (n : ℕ) → n < length c.files
@@ -104,6 +128,14 @@ grown_given c (BriefGrant user file token) n given = given
 grown_given c (BriefRevoke user file) n given = given
 grown_given c (BriefRemove file) n given =
     omega (arith, given, length-change_at gone file c.files)
+grown_given c (BriefReplace file tokens tag size) n given =
+    let f : Filed = replacing c file tag size in
+    omega (
+      arith,
+      given,
+      length-change_at gone file c.files,
+      length-append (change_at gone file c.files) (Some f ∷ []),
+    )
 
 grown_epoch : (c : Catalogue) (b : Brief) → (grown_catalogue c b).epoch ≡ c.epoch + 1
 grown_epoch c (BriefEnrol user) = refl
@@ -111,38 +143,52 @@ grown_epoch c (BriefCreate file list tokens tag size) = refl
 grown_epoch c (BriefGrant user file token) = refl
 grown_epoch c (BriefRevoke user file) = refl
 grown_epoch c (BriefRemove file) = refl
+grown_epoch c (BriefReplace file tokens tag size) = refl
 
 -- no file is of a generation past the epoch
 abbrev pub AreUpTo : ℕ → List (Option Filed) → Type 0
 AreUpTo epoch files = (n : ℕ) → IsIn files n → (file_in files n).generation ≤ epoch
 
+-- it stays so where a file is gone
+left_up_to : (epoch file : ℕ) (files : List (Option Filed)) → AreUpTo epoch files
+    → AreUpTo epoch (change_at gone file files)
+left_up_to epoch file files up n is =
+    let (same, there) = left_file file files n is in
+    let was = up n there in
+    let generation = ap (λ (f : Filed). f.generation) same in
+    omega (arith, was, generation)
+
+-- with one more file, which is of the next epoch, none is past that
+more_up_to : (epoch : ℕ) (files : List (Option Filed)) (f : Filed) → AreUpTo epoch files
+    → f.generation ≡ epoch + 1 → AreUpTo (epoch + 1) (files ++ Some f ∷ [])
+more_up_to epoch files f up next n is =
+    let low : n < length (files ++ Some f ∷ []) = in_below (files ++ Some f ∷ []) n is in
+    elim (cases_lt n (length files)) [
+      | inl old ↦
+          let (same, there) = more_file files f n old is in
+          let was = up n there in
+          let generation = ap (λ (g : Filed). g.generation) same in
+          omega (arith, was, generation)
+      | inr past ↦
+          let here : n ≡ length files =
+          omega (arith, low, past, length-append files (Some f ∷ [])) in
+          let generation = ap (λ (o : Option Filed). (unwrap_or o no_filed).generation)
+          (last_item files (Some f) n None here) in
+          omega (arith, generation, next)
+    ]
+
 grown_up_to : (c : Catalogue) (b : Brief) → AreUpTo c.epoch c.files
     → AreUpTo (c.epoch + 1) (grown_catalogue c b).files
 grown_up_to c (BriefEnrol user) up n is = let was = up n is in omega arith
 grown_up_to c (BriefCreate file list tokens tag size) up n is =
-    let f : Filed = new_file c file list tag size in
-    let low : n < length (c.files ++ Some f ∷ []) = in_below (c.files ++ Some f ∷ []) n is in
-    elim (cases_lt n (length c.files)) [
-      | inl old ↦
-          let same : living_at (c.files ++ Some f ∷ []) n ≡ living_at c.files n =
-          get_or_append_left c.files (Some f ∷ []) None n old in
-          let was = up n (ap (λ (o : Option Filed). is_some o) (sym same) ∙ is) in
-          let generation = ap (λ (o : Option Filed). (unwrap_or o no_filed).generation) same in
-          omega arith
-      | inr past ↦
-          let here : n ≡ length c.files = omega (arith, length-append c.files (Some f ∷ [])) in
-          let generation = ap (λ (o : Option Filed). (unwrap_or o no_filed).generation)
-          (last_item c.files (Some f) n None here) in
-          omega arith
-    ]
+    more_up_to c.epoch c.files (new_file c file list tag size) up refl n is
 grown_up_to c (BriefGrant user file token) up n is = let was = up n is in omega arith
 grown_up_to c (BriefRevoke user file) up n is = let was = up n is in omega arith
 grown_up_to c (BriefRemove file) up n is =
-    let (same, there) = was_same c.files (living_at (change_at gone file c.files) n) n
-    (gone_other file c.files n is) is in
-    let was = up n there in
-    let generation = ap (λ (f : Filed). f.generation) same in
-    omega (arith, was, generation)
+    let was = left_up_to c.epoch file c.files up n is in omega arith
+grown_up_to c (BriefReplace file tokens tag size) up n is =
+    more_up_to c.epoch (change_at gone file c.files) (replacing c file tag size)
+    (left_up_to c.epoch file c.files up) refl n is
 
 -- The number stays given. A file that has it afterwards had it before, and is as it was or came to
 -- a generation past the epoch.
@@ -265,6 +311,15 @@ many_one c texts (SealedCreate file list tokens tag text) many =
 many_one c texts (SealedGrant user file token) many = many
 many_one c texts (SealedRevoke user file) many = many
 many_one c texts (SealedRemove file) many = many ∙ sym (length-change_at gone file c.files)
+many_one c texts (SealedReplace file tokens tag text) many =
+    let f : Filed = replacing c file tag (length text) in
+    omega (
+      arith,
+      many,
+      length-append texts (text ∷ []),
+      length-change_at gone file c.files,
+      length-append (change_at gone file c.files) (Some f ∷ []),
+    )
 
 many_all : (master : List ℕ) (c : Catalogue) (texts : List (List ℕ)) (updates : List SealedUpdate)
     → length texts ≡ length c.files
@@ -292,15 +347,19 @@ coated_at master g n is_in =
 
 module _ (master : List ℕ) (g : SealedHistory) (updates : List SealedUpdate) (n : ℕ)
     (is_in : IsIn (catalogue_of master g).files n) where
-  stays_followed : Stays (catalogue_of master g) (catalogue_of master (followed g updates)) n
-  stays_followed =
+  -- the history with these updates behind its own
+  abbrev more : SealedHistory
+  more = record g { updates = g.updates ++ updates }
+
+  stays_longer : Stays (catalogue_of master g) (catalogue_of master more) n
+  stays_longer =
       subst (λ (d : Catalogue). Stays (catalogue_of master g) d n)
       (sym (catalogue_both master (empty_catalogue g.mode g.first) g.updates updates))
       (stays_all master (catalogue_of master g) updates n
       (in_below (catalogue_of master g).files n is_in))
 
   -- the texts that were sent stay
-  same_text : slice_index_or (sent_of (followed g updates)) n [] ≡ slice_index_or (sent_of g) n []
+  same_text : slice_index_or (sent_of more) n [] ≡ slice_index_or (sent_of g) n []
   same_text =
       let many : length (sent_of g) ≡ length (catalogue_of master g).files =
       many_all master (empty_catalogue g.mode g.first) [] g.updates refl in
@@ -308,22 +367,40 @@ module _ (master : List ℕ) (g : SealedHistory) (updates : List SealedUpdate) (
       ∙ sent_stays (sent_of g) updates n
       (omega (arith, many, in_below (catalogue_of master g).files n is_in))
 
-  module _ (still : IsIn (catalogue_of master (followed g updates)).files n)
-      (generation : (file_in (catalogue_of master (followed g updates)).files n).generation
+  module _ (still : IsIn (catalogue_of master more).files n)
+      (generation : (file_in (catalogue_of master more).files n).generation
       ≡ (file_in (catalogue_of master g).files n).generation) where
     -- a file that is there still, of the same generation, is the same
-    same_file : file_in (catalogue_of master (followed g updates)).files n
+    same_file : file_in (catalogue_of master more).files n
         ≡ file_in (catalogue_of master g).files n
-    same_file = elim (stays_followed.same still) [
+    same_file = elim (stays_longer.same still) [
       | inl is ↦ is
       | inr past ↦
           let up = up_to_of master g n is_in in absurd (omega (arith, past, up, generation))
     ]
 
     -- and the same bytes are stored of it
-    pub same_stored : slice_index_or (stored_of master (followed g updates)) n []
+    same_longer : slice_index_or (stored_of master more) n []
         ≡ slice_index_or (stored_of master g) n []
-    same_stored =
-        coated_at master (followed g updates) n still
+    same_longer =
+        coated_at master more n still
         ∙ (λ i. stored_under (surface_key master (same_file i).surface) n (same_text i))
         ∙ sym (coated_at master g n is_in)
+
+-- the same bytes are stored of a file that is there still, of the same generation, after updates as
+-- they are spelled
+pub same_stored : (master : List ℕ) (g : SealedHistory) (updates : List SpelledUpdate) (n : ℕ)
+    → IsIn (catalogue_of master g).files n
+    → IsIn (catalogue_of master (followed g updates)).files n
+    → (file_in (catalogue_of master (followed g updates)).files n).generation
+    ≡ (file_in (catalogue_of master g).files n).generation
+    → slice_index_or (stored_of master (followed g updates)) n []
+    ≡ slice_index_or (stored_of master g) n []
+same_stored master g updates n is_in =
+    subst
+    (λ (h : SealedHistory). IsIn (catalogue_of master h).files n
+    → (file_in (catalogue_of master h).files n).generation
+    ≡ (file_in (catalogue_of master g).files n).generation
+    → slice_index_or (stored_of master h) n [] ≡ slice_index_or (stored_of master g) n [])
+    (sym (followed-numbered g updates))
+    (same_longer master g (numbered_all g updates) n is_in)

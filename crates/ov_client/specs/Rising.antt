@@ -12,8 +12,8 @@ Rises [] = Unit {0}
 Rises (n ∷ []) = Unit {0}
 Rises (n ∷ (m ∷ more)) = (n < m) × Rises (m ∷ more)
 
--- the generations of tries in each of which the file moved or was removed rise, and are as many as
--- the tries
+-- the generations of tries in each of which the file moved, or was removed or replaced, rise, and
+-- are as many as the tries
 abbrev pub MovedGenerationsRise : Type 0
 MovedGenerationsRise =
     (r : Reader) (file : List ℕ) (asks : List Ask) (unanswered : Option (List ℕ))

@@ -30,8 +30,8 @@ pub enum ClientFault {
     /// The server's disk failed.
     #[error("the server's disk failed")]
     Device,
-    /// In each of nine tries, which were made at these generations, the file's surface changed or
-    /// the file was removed.
+    /// In each of nine tries, which were made at these generations, the file's surface changed, or
+    /// the file was removed or replaced.
     #[error("the file changed while it was read, in each of nine tries")]
     Unsettled {
         generations: [u32; 9],

@@ -27,7 +27,8 @@ pub fn refusals_are_of_chains()
     ensures { RefusalsAreOfChains }
 {}
 
-/// The generations of nine tries, in each of which the file moved or was removed, rise.
+/// The generations of nine tries, in each of which the file moved, or was removed or replaced,
+/// rise.
 pub fn moved_generations_rise()
     ensures { MovedGenerationsRise }
 {}

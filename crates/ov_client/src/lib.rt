@@ -4,7 +4,7 @@
 //! From these alone it reads a file: it asks a peer for the chains from the roots to the file's
 //! nodes, derives the keys along them, asks for the stored bytes chunk after chunk, takes both
 //! coats off, and gives the bytes only if the file's tag is theirs. Where the file's surface
-//! changes meanwhile, or the file is removed, it begins again, nine times in all.
+//! changes meanwhile, or the file is removed or replaced, it begins again, nine times in all.
 //!
 //! ```text
 //! fetch ──► try_once ──► ask_chain     Chain: the chains, or a refusal

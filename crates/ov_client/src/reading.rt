@@ -28,8 +28,8 @@ const TRIES: usize = 9;
 pub enum Tried {
     /// The file's bytes.
     Read(Octets),
-    /// The file's surface changed, or the file was removed: the generation of the chains that were
-    /// told, and the least that the next may have.
+    /// The file's surface changed, or the file was removed or replaced: the generation of the
+    /// chains that were told, and the least that the next may have.
     Again { generation: u32, next: u64 },
 }
 
@@ -91,8 +91,8 @@ impl Client {
         }
     }
 
-    /// One try: the chains, then the chunks. It ends early where the file's surface changes or the
-    /// file is removed.
+    /// One try: the chains, then the chunks. It ends early where the file's surface changes, or the
+    /// file is removed or replaced.
     fn try_once<P: Peer>(
         &self,
         alloc: Global,
@@ -114,12 +114,12 @@ impl Client {
     /// The bytes of a file, by the user's keys alone.
     ///
     /// Asks for the chains from the user's two roots to the file's nodes, and then for its stored
-    /// bytes, chunk after chunk. Where the file's surface changes meanwhile, or the file is removed,
-    /// it begins again, nine times in all; a read is refused only where the chains are. The bytes are
-    /// given only if the file's tag is theirs. A file without bytes asks for no chunk. Where the
-    /// reader's keys are those of the user's roots, a peer that serves a right history, and that
-    /// nobody else updates, cuts a read off only by a fault of its disk or of the link, or where
-    /// memory is refused.
+    /// bytes, chunk after chunk. Where the file's surface changes meanwhile, or the file is removed
+    /// or replaced, it begins again, nine times in all; a read is refused only where the chains
+    /// are. The bytes are given only if the file's tag is theirs. A file without bytes asks for no
+    /// chunk. Where the reader's keys are those of the user's roots, a peer that serves a right
+    /// history, and that nobody else updates, cuts a read off only by a fault of its disk or of the
+    /// link, or where memory is refused.
     pub fn fetch<P: Peer>(
         &self,
         alloc: Global,

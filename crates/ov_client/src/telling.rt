@@ -15,8 +15,8 @@ use ov_wire::{Answer, Chained};
 pub enum Fetched {
     /// Bytes.
     Bytes(Octets),
-    /// Nothing, and the read begins again: since its chains were told, the file's surface changed or
-    /// the file was removed. The next chains have at least this generation.
+    /// Nothing, and the read begins again: since its chains were told, the file's surface changed,
+    /// or the file was removed or replaced. The next chains have at least this generation.
     Again(u64),
 }
 
@@ -110,7 +110,7 @@ pub fn fetched_in(asked: u32, count: u32, answer: Answer) -> Result<Fetched, Cli
         Answer::Bytes { bytes } => sized(count, bytes),
         Answer::Moved { generation } => Ok(Fetched::Again(generation as u64)),
         // A chunk is refused where the file is gone, and for no other reason. A file that has its
-        // name now was made later, so its generation is greater.
+        // name now was made later, by a creation or in its place, so its generation is greater.
         Answer::Refused { refusal: _ } => Ok(Fetched::Again(asked as u64 + 1)),
         Answer::DeviceFault => Err(ClientFault::Device),
         Answer::NoMemory => Err(ClientFault::Memory),

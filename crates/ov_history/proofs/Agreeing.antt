@@ -4,22 +4,23 @@ use Rattle.std.proofs.Common.{◌≡◌, ◌∙◌, ℕ, ◌+◌, ◌<◌, Bool,
 use Rattle.std.proofs.Common.{refl, sym, ap, subst, arith, length-append, true≢false}
 use Rattle.std.specs.Prelude.{Some, not, option_map, replicate}
 use Rattle.std.proofs.lemmas.List.{length-replicate}
-use Rattle.ov_record.specs.Updates.{SealedUpdate, SealedEnrol, SealedCreate, SealedGrant}
-use Rattle.ov_record.specs.Updates.{SealedRevoke, SealedRemove}
 use Rattle.ov_history.specs.Briefs.{brief, outer}
 use Rattle.ov_history.specs.Fading.{AgreeButGone, faded, faded_all, faded_if, faded_of}
 use Rattle.ov_history.specs.Fading.{is_gone_from, made_by, no_tag}
 use Rattle.ov_history.specs.History.{Created, History, Matrix, Update, changed, changed_all}
-use Rattle.ov_history.specs.History.{delisted, listed, matrix_of, no_one, start_of, with_update}
+use Rattle.ov_history.specs.History.{File, delisted, file_at, listed, matrix_of, no_one, resized}
+use Rattle.ov_history.specs.History.{start_of, with_update}
 use Rattle.ov_history.specs.Layers.{Layers, layers_of}
 use Rattle.ov_history.specs.Lists.{is_file}
 use Rattle.ov_history.specs.Masters.{Masters}
-use Rattle.ov_history.specs.Places.{gone}
+use Rattle.ov_history.specs.Places.{change_at, gone}
 use Rattle.ov_history.specs.Plain.{PlainHistory, PlainUpdate, history_of, with_plain}
 use Rattle.ov_history.specs.Refusals.{IsLegal, refusal_of}
 use Rattle.ov_history.specs.Sealed.{AllFit, HasParts, IsSealed, SealedHistory, catalogue_of}
 use Rattle.ov_history.specs.Sealed.{outer_all, outer_of, stored_of, with_sealed}
 use Rattle.ov_history.specs.Sealing.{IsSealedAs, sealed, sealed_update}
+use Rattle.ov_history.specs.Sent.{SealedUpdate, SealedEnrol, SealedCreate, SealedGrant}
+use Rattle.ov_history.specs.Sent.{SealedRevoke, SealedRemove, SealedReplace}
 use Rattle.ov_history.specs.Words.{HasFile}
 use Rattle.ov_history.proofs.ChangeLaws.{length-change_at}
 use Rattle.ov_history.proofs.FadedBytes.{agreeing_store_the_same}
@@ -40,6 +41,9 @@ faded_twice (SealedCreate file list tokens tag text) =
 faded_twice (SealedGrant user file token) = refl
 faded_twice (SealedRevoke user file) = refl
 faded_twice (SealedRemove file) = refl
+faded_twice (SealedReplace file tokens tag text) =
+    ap (λ n. SealedReplace file tokens no_tag (replicate n 0))
+    (length-replicate (length text) 0)
 
 -- what fades by a first test, of a file that is then gone by a second one, fades by the second
 faded_both : (small big : Bool) (u : SealedUpdate)
@@ -53,6 +57,8 @@ faded_both true false (SealedCreate file list tokens tag text) goes =
 faded_both true false (SealedGrant user file token) goes = refl
 faded_both true false (SealedRevoke user file) goes = refl
 faded_both true false (SealedRemove file) goes = refl
+faded_both true false (SealedReplace file tokens tag text) goes =
+    absurd (true≢false (sym (goes refl refl)))
 
 -- what fades makes as many files
 pub made-faded : (b : Bool) (u : SealedUpdate) → made_by (faded_if b u) ≡ made_by u
@@ -62,6 +68,7 @@ made-faded true (SealedCreate file list tokens tag text) = refl
 made-faded true (SealedGrant user file token) = refl
 made-faded true (SealedRevoke user file) = refl
 made-faded true (SealedRemove file) = refl
+made-faded true (SealedReplace file tokens tag text) = refl
 
 -- an update that has its parts once it fades had them before
 parts_back : (y : Layers) (b : Bool) (u : SealedUpdate) → HasParts y (brief (faded_if b u))
@@ -72,6 +79,7 @@ parts_back y true (SealedCreate file list tokens tag text) parts = parts
 parts_back y true (SealedGrant user file token) parts = parts
 parts_back y true (SealedRevoke user file) parts = parts
 parts_back y true (SealedRemove file) parts = parts
+parts_back y true (SealedReplace file tokens tag text) parts = parts
 
 -- ---- all updates
 
@@ -90,6 +98,13 @@ made_after m (SealedGrant user file token) =
 made_after m (SealedRevoke user file) =
     omega (arith, length-change_at (option_map (delisted user)) file m.files)
 made_after m (SealedRemove file) = omega (arith, length-change_at gone file m.files)
+made_after m (SealedReplace file tokens tag text) =
+    let new : File = resized (length text) (file_at m file) in
+    omega (
+      arith,
+      length-append (change_at gone file m.files) (Some new ∷ []),
+      length-change_at gone file m.files,
+    )
 
 -- the numbers of files are as many as the updates made
 made_many : (m : Matrix) (updates : List SealedUpdate)

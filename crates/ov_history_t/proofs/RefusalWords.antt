@@ -22,11 +22,11 @@ use Rattle.ov_base.proofs.SetLaws.{Within-within, within-Within}
 use Rattle.ov_base.proofs.Tests.{lt_is_true, lt_of_true}
 use Rattle.ov_graph.proofs.ListLaws.{Contains-cases, Contains-first, Contains-later, Contains-none}
 use Rattle.ov_history.specs.History.{Update, Enrolled, Created, Granted, Revoked, History, Matrix}
-use Rattle.ov_history.specs.History.{File, Removed, epoch_of, matrix_of}
+use Rattle.ov_history.specs.History.{File, Removed, Replaced, epoch_of, matrix_of}
 use Rattle.ov_history.specs.Layers.{Layers, layers_after, layers_of}
 use Rattle.ov_history.specs.Lists.{byte_sum, everyone, file_at, file_names}
 use Rattle.ov_history.specs.Lists.{is_file, name_left}
-use Rattle.ov_history.specs.Places.{here_or_after, living_at, place_of}
+use Rattle.ov_history.specs.Places.{change_at, gone, here_or_after, living_at, place_of}
 use Rattle.ov_history.specs.Refusals.{Test, first_of_tests, is_past_nodes, read_tests, tests_of}
 use Rattle.ov_history.proofs.PlaceLaws.{everyone-Has, everyone-below}
 use Rattle.ov_history.proofs.Pushing.{layers_of-push}
@@ -288,6 +288,17 @@ decided h (Revoked user file) =
 decided h (Removed file) =
     let m = matrix_of h in
     (no_file_at m file, (nodes h (Removed file), (spent h, tt)))
+decided h (Replaced file size) =
+    let m = matrix_of h in (
+      no_file_at m file,
+      (
+        Decides-le MAX_FILES (length m.files),
+        (
+          Decides-ltb MAX_STORE_BYTES (byte_sum (change_at gone file m.files) + size),
+          (nodes h (Replaced file size), (spent h, tt)),
+        ),
+      ),
+    )
 
 -- each refusal that applies to an update has a test
 listed : (h : History) (u : Update) (why : Refusal) → Applies h u why
@@ -347,6 +358,17 @@ listed h (Removed file) FilesFull p = absurd p
 listed h (Removed file) BytesFull p = absurd p
 listed h (Removed file) NodesFull p = inr (inl refl)
 listed h (Removed file) Spent p = inr (inr (inl refl))
+listed h (Replaced file size) Taken p = absurd p
+listed h (Replaced file size) NoUser p = absurd p
+listed h (Replaced file size) NoFile p = inl refl
+listed h (Replaced file size) NoPath p = absurd p
+listed h (Replaced file size) Listed p = absurd p
+listed h (Replaced file size) NotListed p = absurd p
+listed h (Replaced file size) UsersFull p = absurd p
+listed h (Replaced file size) FilesFull p = inr (inl refl)
+listed h (Replaced file size) BytesFull p = inr (inr (inl refl))
+listed h (Replaced file size) NodesFull p = inr (inr (inr (inl refl)))
+listed h (Replaced file size) Spent p = inr (inr (inr (inr (inl refl))))
 
 pub updates_are_refused : UpdatesAreRefused
 updates_are_refused h u =

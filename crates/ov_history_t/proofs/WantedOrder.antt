@@ -9,7 +9,7 @@ use Rattle.ov_graph.specs.Contents.{plan_of}
 use Rattle.ov_graph.proofs.GraphLaws.{last_item}
 use Rattle.ov_surface.specs.Wanted.{wanted_surface}
 use Rattle.ov_history.specs.History.{Update, Enrolled, Created, Granted, Revoked, History}
-use Rattle.ov_history.specs.History.{File, Removed, matrix_of, with_update}
+use Rattle.ov_history.specs.History.{File, Removed, Replaced, matrix_of, with_update}
 use Rattle.ov_history.specs.Layers.{Layers, Place, appended, grown, holders, layers_after, layers_of}
 use Rattle.ov_history.specs.Layers.{lists_after, lists_of, node_for, wants_at, wants_of, with_set}
 use Rattle.ov_history.specs.Layers.{settled_all, settled_at, want_at, with_wants}
@@ -265,6 +265,7 @@ first_is y (Created file list size) h is = omega arith
 first_is y (Granted user file) h is = omega arith
 first_is y (Revoked user file) h is = omega arith
 first_is y (Removed file) h is = omega arith
+first_is y (Replaced file size) h is = omega arith
 
 past : (h : History) (u : Update) (node : ℕ) → first_new h u ≤ node
     → length (grown (layers_of h) u).surface ≤ node

@@ -5,7 +5,7 @@ use Rattle.ov_base.specs.declared.refusal.Refusal.TheVariants.{NoFile, NoPath}
 use Rattle.ov_script.specs.Lines.{reply_line}
 use Rattle.ov_script.specs.declared.command.Command.{Command}
 use Rattle.ov_script.specs.declared.command.Command.TheVariants.{Enrol, Create, Grant, Remove, Read}
-use Rattle.ov_script.specs.declared.command.Command.TheVariants.{Epoch as AskEpoch}
+use Rattle.ov_script.specs.declared.command.Command.TheVariants.{Epoch as AskEpoch, Replace}
 use Rattle.ov_script.specs.declared.reply.Reply.TheVariants.{Accepted, Bytes, Epoch as EpochIs}
 use Rattle.ov_script.specs.declared.reply.Reply.TheVariants.{Refused}
 use Rattle.ov_history.specs.Plain.{PlainHistory, empty_plain}
@@ -60,6 +60,26 @@ RemovesFiles =
     ≡ reply_line (Accepted 1) ++ reply_line (Accepted 2) ++ reply_line (Accepted 3)
     ++ reply_line (Accepted 4) ++ reply_line (Bytes bob letter (120 ∷ 49 ∷ []))
     ++ reply_line (Accepted 5) ++ reply_line (Refused NoFile) ++ reply_line (Accepted 6)
+
+-- A file that both users have is replaced, and the second user reads the new bytes. It is then
+-- removed under its name, which is free for another file. If a replacement were for the list of the
+-- creation, the second user would be refused.
+abbrev pub ReplacesFiles : Type 0
+ReplacesFiles =
+    lines (empty_plain Delta 0)
+    (Enrol alice ∷ Enrol bob ∷ Create letter (alice ∷ []) (120 ∷ 49 ∷ []) ∷ Grant bob letter
+    ∷ Replace letter (97 ∷ 98 ∷ 99 ∷ []) ∷ Read bob letter ∷ Remove letter ∷ Read alice letter
+    ∷ Create letter (bob ∷ []) [] ∷ [])
+    ≡ reply_line (Accepted 1) ++ reply_line (Accepted 2) ++ reply_line (Accepted 3)
+    ++ reply_line (Accepted 4) ++ reply_line (Accepted 5)
+    ++ reply_line (Bytes bob letter (97 ∷ 98 ∷ 99 ∷ [])) ++ reply_line (Accepted 6)
+    ++ reply_line (Refused NoFile) ++ reply_line (Accepted 7)
+
+-- A file that isn't there isn't replaced, and the history stays. If it were made all the same,
+-- there would be a file without a name.
+pub record ReplacesNoOther : Type 0 where
+  pub reply : reply_to (history []) (Replace letter (104 ∷ [])) ≡ Refused NoFile
+  pub stays : after (history []) (Replace letter (104 ∷ [])) ≡ history []
 
 -- A file that is gone isn't removed once more, and the history stays. If its name stayed with its
 -- number, it would be removed twice.

@@ -1,7 +1,7 @@
 -- In which order one update adds its surface nodes.
 use Rattle.std.specs.Prelude.{◌≡◌, ◌≢◌, ℕ, ◌<◌, ◌≤◌, ◌+◌, length, slice_get, Some}
 use Rattle.ov_history.specs.History.{Update, Enrolled, Created, Granted, Revoked, Removed, History}
-use Rattle.ov_history.specs.History.{with_update}
+use Rattle.ov_history.specs.History.{Replaced, with_update}
 use Rattle.ov_history.specs.Layers.{layers_of}
 use Rattle.ov_history.specs.Words.{HasFile, wanted_of}
 
@@ -12,6 +12,7 @@ roots_of (Created file list size) = 0
 roots_of (Granted user file) = 0
 roots_of (Revoked user file) = 0
 roots_of (Removed file) = 0
+roots_of (Replaced file size) = 0
 
 -- the number of the first surface node that an update adds for a file
 abbrev pub first_new : History → Update → ℕ

@@ -13,10 +13,10 @@ use Rattle.ov_base.specs.declared.refusal.Refusal.TheVariants.{Listed, NotListed
 use Rattle.ov_base.specs.declared.refusal.Refusal.TheVariants.{FilesFull, BytesFull, NodesFull}
 use Rattle.ov_base.specs.declared.refusal.Refusal.TheVariants.{Spent}
 use Rattle.ov_history.specs.History.{Update, Enrolled, Created, Granted, Revoked, History, Matrix}
-use Rattle.ov_history.specs.History.{File, Removed, epoch_of, matrix_of, with_update}
+use Rattle.ov_history.specs.History.{File, Removed, Replaced, epoch_of, matrix_of, with_update}
 use Rattle.ov_history.specs.Layers.{Layers, layers_of}
 use Rattle.ov_history.specs.Lists.{byte_sum, file_at}
-use Rattle.ov_history.specs.Places.{living_at}
+use Rattle.ov_history.specs.Places.{change_at, gone, living_at}
 use Rattle.ov_history.specs.Refusals.{list_refusal, read_refusal, refusal_of}
 
 -- ---- an update
@@ -37,6 +37,7 @@ IsTaken m (Created file list size) = IsNamed m.files file
 IsTaken m (Granted user file) = ⊥
 IsTaken m (Revoked user file) = ⊥
 IsTaken m (Removed file) = ⊥
+IsTaken m (Replaced file size) = ⊥
 
 -- a user that the update names isn't enrolled
 abbrev pub LacksUser : Matrix → Update → Type 0
@@ -45,6 +46,7 @@ LacksUser m (Created file list size) = IsBelow (length m.users) list → ⊥
 LacksUser m (Granted user file) = length m.users ≤ user
 LacksUser m (Revoked user file) = length m.users ≤ user
 LacksUser m (Removed file) = ⊥
+LacksUser m (Replaced file size) = ⊥
 
 -- the file that the update names isn't there, or is gone
 abbrev pub LacksFile : Matrix → Update → Type 0
@@ -53,6 +55,7 @@ LacksFile m (Created file list size) = ⊥
 LacksFile m (Granted user file) = living_at m.files file ≡ None
 LacksFile m (Revoked user file) = living_at m.files file ≡ None
 LacksFile m (Removed file) = living_at m.files file ≡ None
+LacksFile m (Replaced file size) = living_at m.files file ≡ None
 
 -- the user who is to be granted the file is in its list
 abbrev pub IsInList : Matrix → Update → Type 0
@@ -61,6 +64,7 @@ IsInList m (Created file list size) = ⊥
 IsInList m (Granted user file) = Has (file_at m file).list user
 IsInList m (Revoked user file) = ⊥
 IsInList m (Removed file) = ⊥
+IsInList m (Replaced file size) = ⊥
 
 -- the user whose access is to be revoked isn't in the file's list
 abbrev pub IsOutOfList : Matrix → Update → Type 0
@@ -69,6 +73,7 @@ IsOutOfList m (Created file list size) = ⊥
 IsOutOfList m (Granted user file) = ⊥
 IsOutOfList m (Revoked user file) = Has (file_at m file).list user → ⊥
 IsOutOfList m (Removed file) = ⊥
+IsOutOfList m (Replaced file size) = ⊥
 
 -- a user is to be enrolled, and there are as many as a store holds
 abbrev pub HasAllUsers : Matrix → Update → Type 0
@@ -77,24 +82,29 @@ HasAllUsers m (Created file list size) = ⊥
 HasAllUsers m (Granted user file) = ⊥
 HasAllUsers m (Revoked user file) = ⊥
 HasAllUsers m (Removed file) = ⊥
+HasAllUsers m (Replaced file size) = ⊥
 
--- a file is to be created, and as many were created as a store has numbers for; the number of one
--- that is gone isn't given again
+-- a file is to be created or replaced, and as many were made as a store has numbers for; the number
+-- of one that is gone isn't given again
 abbrev pub HasAllFiles : Matrix → Update → Type 0
 HasAllFiles m (Enrolled user) = ⊥
 HasAllFiles m (Created file list size) = MAX_FILES ≤ length m.files
 HasAllFiles m (Granted user file) = ⊥
 HasAllFiles m (Revoked user file) = ⊥
 HasAllFiles m (Removed file) = ⊥
+HasAllFiles m (Replaced file size) = MAX_FILES ≤ length m.files
 
--- A file is to be created, and with it all files that are there have more bytes than a store holds.
--- A store that is then exactly full has no more.
+-- A file is to be created, and with it all files that are there have more bytes than a store holds;
+-- or one is to be replaced, and with the new one all others have. A store that is then exactly full
+-- has no more.
 abbrev pub PassesBytes : Matrix → Update → Type 0
 PassesBytes m (Enrolled user) = ⊥
 PassesBytes m (Created file list size) = MAX_STORE_BYTES < byte_sum m.files + size
 PassesBytes m (Granted user file) = ⊥
 PassesBytes m (Revoked user file) = ⊥
 PassesBytes m (Removed file) = ⊥
+PassesBytes m (Replaced file size) =
+    MAX_STORE_BYTES < byte_sum (change_at gone file m.files) + size
 
 -- a layer has more nodes than a layer holds
 abbrev pub PassesNodes : Layers → Type 0

@@ -19,8 +19,9 @@ pub use layers::{
     surfaces_have_their_own_keys,
 };
 pub use machine::{
-    a_file_is_removed_once, a_line_is_of_the_history_before, a_refused_update_changes_nothing,
-    a_removed_file_is_not_there, only_the_listed_read, the_next_epoch_is_answered,
+    a_file_is_removed_once, a_file_that_is_not_there_is_not_replaced,
+    a_line_is_of_the_history_before, a_refused_update_changes_nothing, a_removed_file_is_not_there,
+    a_replaced_file_has_the_new_bytes, only_the_listed_read, the_next_epoch_is_answered,
 };
 pub use ordering::new_surfaces_are_in_the_order_of_files;
 pub use refusing::{

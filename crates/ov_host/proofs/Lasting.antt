@@ -14,6 +14,7 @@ use Rattle.ov_wire.specs.RequestReading.{request_of}
 use Rattle.ov_protocol.specs.Serving.{followed}
 use Rattle.ov_protocol.specs.Updating.{spelled_by, updates_in, updates_of}
 use Rattle.ov_protocol.specs.Replies.{AnswersRead, made_of, updates_asked}
+use Rattle.ov_protocol.proofs.Following.{followed-append}
 use Rattle.ov_peer.specs.Disks.{AsksBytes, HasUpdate}
 use Rattle.ov_peer.specs.Spellings.{longer_if, says_accepted, spelling_in, spelling_of, with_accepted}
 use Rattle.ov_peer.proofs.Following.{followed-nil}
@@ -36,10 +37,7 @@ rose_from first mid last low rose = grind arith
 rose_still : (first mid last : ℕ) → Rose first mid → mid ≤ last → Rose first last
 rose_still first mid last rose low = grind arith
 
--- ---- histories with updates behind them
-
-followed-append : (g : SealedHistory) (us more : List SealedUpdate) → followed (followed g us) more ≡ followed g (us ++ more)
-followed-append g us more = ap (λ (all : List SealedUpdate). record g { updates = all }) (append_assoc g.updates us more)
+-- ---- updates, one after the other
 
 updates-push : (list : List (List ℕ)) (spelling : List ℕ) → updates_of (list ++ spelling ∷ []) ≡ updates_of list ++ updates_in spelling
 updates-push [] spelling = append-nil (updates_in spelling)

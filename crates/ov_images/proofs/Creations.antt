@@ -20,8 +20,8 @@ use Rattle.ov_images.specs.Images.{HasRecords, Keys, header_of}
 use Rattle.ov_images.specs.Records.{HasRecordForm, StopsInUpdate, bodies_of, form_behind}
 use Rattle.ov_images.specs.Extents.{IsLaidOut}
 use Rattle.ov_images.specs.Damage.{HasBadRecords, in_book}
-use Rattle.ov_images.proofs.Rows.{alice, bad_book, contents, enrol, first_record, head, one_user}
-use Rattle.ov_images.proofs.Rows.{placed, step_record}
+use Rattle.ov_images.proofs.Rows.{alice, bad_book, contents, enrol, enrol_form, first_record, head}
+use Rattle.ov_images.proofs.Rows.{one_form, one_user, placed, step_record}
 
 -- a file 'n' of one byte at block 0, for the first user
 abbrev create : PlacedUpdate
@@ -48,17 +48,23 @@ short_record = 1 ∷ 0 ∷ 0 ∷ 0 ∷ 77 ∷ short_body
 abbrev pub long_record : List ℕ
 long_record = 1 ∷ 0 ∷ 0 ∷ 0 ∷ 173 ∷ long_body
 
-first_create : HasRecordForm first_form create
-first_create = (
-  (refl, small-IsBelow (8 * set_bytes first_form) 1 (lit< tt), lit≤ tt, tt, refl, lit≤ tt),
-  ((lit< tt, tt), refl),
-)
+first_create : HasRecordForm first_form [] create
+first_create = record {
+  spelled = (
+    (refl, small-IsBelow (8 * set_bytes first_form) 1 (lit< tt), lit≤ tt, tt, refl, lit≤ tt),
+    ((lit< tt, tt), refl),
+  );
+  told = refl;
+}
 
-second_create : HasRecordForm second_form create
-second_create = (
-  (refl, small-IsBelow (8 * set_bytes second_form) 1 (lit< tt), lit≤ tt, tt, refl, lit≤ tt),
-  ((lit< tt, tt), refl),
-)
+second_create : HasRecordForm second_form [] create
+second_create = record {
+  spelled = (
+    (refl, small-IsBelow (8 * set_bytes second_form) 1 (lit< tt), lit≤ tt, tt, refl, lit≤ tt),
+    ((lit< tt, tt), refl),
+  );
+  told = refl;
+}
 
 file_laid : (master : List ℕ) → IsLaidOut master 1 (placed with_file)
 file_laid master = record {
@@ -77,7 +83,7 @@ short_stops = refl
 
 module _ (k : Keys) (blobs : List ℕ) (long : length k.base_check ≡ 32) where
   has_file : (format : ℕ) (step : Option ℕ) (bytes : List ℕ) → length blobs ≡ 4096
-      → IsFormat format → HasRecordForm (form_behind step 1) create
+      → IsFormat format → HasRecordForm (form_behind step 1) [] create
       → records_in ((48 + format) == 49) (run_after 0 bytes)
       ≡ record { bodies = bodies_of step with_file; step = step; bad = None }
       → HasRecords k (placed with_file) (image (head format k ++ bytes) blobs)
@@ -86,7 +92,7 @@ module _ (k : Keys) (blobs : List ℕ) (long : length k.base_check ≡ 32) where
     known = known;
     first = lit< tt;
     step = step;
-    form = ((refl, (tt, refl)), (form, tt));
+    form = (enrol_form _ _ alice refl, (form, tt));
     laid_out =
         subst (λ (n : ℕ). IsLaidOut k.surface n (placed with_file))
         (sym (ap (λ (n : ℕ). min (n / BLOCK_BYTES) MAX_BLOCKS) block)) (file_laid k.surface);
@@ -108,7 +114,7 @@ module _ (k : Keys) (blobs : List ℕ) (long : length k.base_check ≡ 32) where
         kept = record {
           mode_is = refl;
           first_is = refl;
-          form = ((refl, (tt, refl)), tt);
+          form = one_form step;
           laid_out = record {
             replayed = record {
               stands = ((refl, tt, tt), refl);

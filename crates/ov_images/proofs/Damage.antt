@@ -3,8 +3,11 @@ use Rattle.std.proofs.Common.{◌≡◌, inl, inr, ⊎_elim, ℕ, ◌+◌, List,
 use Rattle.std.proofs.Common.{refl, sym, ◌∙◌, ap, subst, append_assoc}
 use Rattle.std.specs.Prelude.{◌⊎◌, Option, None}
 use Rattle.ov_base.specs.declared.mode.Mode.{Mode}
+use Rattle.ov_record.specs.Briefs.{Brief as SpelledBrief}
 use Rattle.ov_record.specs.Forms.{Form, HasRoom}
-use Rattle.ov_history.specs.Briefs.{Brief}
+use Rattle.ov_history.specs.Briefs.{Brief, spelled_brief}
+use Rattle.ov_history.specs.History.{Matrix, no_one}
+use Rattle.ov_history.specs.Lists.{file_names}
 use Rattle.ov_history.specs.Rewrites.{rewrites_of}
 use Rattle.ov_history.specs.Texts.{BriefHistory, IsSealedBriefly, with_brief}
 use Rattle.ov_history.specs.Placed.{HasFirsts, PlacedHistory, PlacedUpdate, count_of, placed_of}
@@ -14,7 +17,8 @@ use Rattle.ov_journal.specs.Book.{Contents, Records, contents_of, spelled}
 use Rattle.ov_journal.specs.Steps.{gate_behind}
 use Rattle.ov_journal.specs.declared.header.Header.{Header}
 use Rattle.ov_images.specs.Records.{AllHaveFormFrom, HasRecordForm, StopsInRecord, bodies_from}
-use Rattle.ov_images.specs.Records.{bodies_of, form_behind, record_spelling}
+use Rattle.ov_images.specs.Records.{bodies_of, form_behind, matrix_after, matrix_with}
+use Rattle.ov_images.specs.Records.{names_after, numbered_after, record_spelling}
 use Rattle.ov_images.specs.Extents.{IsFirstTaken, IsLaidOut, blocks_in, catalogue_at}
 use Rattle.ov_images.specs.Extents.{extents_in_use, new_extents}
 use Rattle.ov_images.specs.Images.{header_of}
@@ -31,26 +35,35 @@ use Rattle.ov_images.proofs.Extents.{one_taken, unplaced-push}
 -- ---- updates and their bodies
 
 module _ (step : Option ℕ) where
-  -- some updates, then one whose body is this and has so many others before it, and more
-  record Cut (behind : ℕ) (all front : List PlacedUpdate) (body : List ℕ) : Type 0 where
-    next : PlacedUpdate
-    more : List PlacedUpdate
-    is : all ≡ front ++ next ∷ more
-    has_form : HasRecordForm (form_behind step behind) next
-    bytes : body ≡ record_spelling (form_behind step behind) next
+  -- the names of the files after these updates, from this matrix on
+  abbrev names_from : Matrix → List PlacedUpdate → List (List ℕ)
+  names_from start updates = file_names (matrix_after start updates).files
 
-  cut_here : (count behind : ℕ) (u : PlacedUpdate) (all : List PlacedUpdate) (body : List ℕ)
-      → count + 0 ≡ behind → HasRecordForm (form_behind step count) u
-      → body ≡ record_spelling (form_behind step count) u → Cut behind (u ∷ all) [] body
-  cut_here count behind u all body is has_form bytes =
+  -- some updates from this matrix on, then one whose body is this and has so many others before it,
+  -- and more
+  record Cut (behind : ℕ) (start : Matrix) (all front : List PlacedUpdate) (body : List ℕ) : Type 0
+    where
+      next : PlacedUpdate
+      more : List PlacedUpdate
+      is : all ≡ front ++ next ∷ more
+      has_form : HasRecordForm (form_behind step behind) (names_from start front) next
+      bytes : body ≡ record_spelling (form_behind step behind) (names_from start front) next
+
+  cut_here : (count behind : ℕ) (start : Matrix) (u : PlacedUpdate) (all : List PlacedUpdate)
+      (body : List ℕ) → count + 0 ≡ behind
+      → HasRecordForm (form_behind step count) (file_names start.files) u
+      → body ≡ record_spelling (form_behind step count) (file_names start.files) u
+      → Cut behind start (u ∷ all) [] body
+  cut_here count behind start u all body is has_form bytes =
       let here : count ≡ behind = omega (arith, is) in
-      subst (λ (n : ℕ). Cut n (u ∷ all) [] body) here
+      subst (λ (n : ℕ). Cut n start (u ∷ all) [] body) here
       (record { next = u; more = all; is = refl; has_form = has_form; bytes = bytes })
 
   -- so behind one update more
-  cut_behind : (behind : ℕ) (u v : PlacedUpdate) (all front : List PlacedUpdate) (body : List ℕ)
-      → u ≡ v → Cut behind all front body → Cut behind (u ∷ all) (v ∷ front) body
-  cut_behind behind u v all front body first later = record {
+  cut_behind : (behind : ℕ) (start : Matrix) (u v : PlacedUpdate) (all front : List PlacedUpdate)
+      (body : List ℕ) → u ≡ v → Cut behind (matrix_with start v) all front body
+      → Cut behind start (u ∷ all) (v ∷ front) body
+  cut_behind behind start u v all front body first later = record {
     next = later.next;
     more = later.more;
     is = λ j. first j ∷ later.is j;
@@ -58,81 +71,106 @@ module _ (step : Option ℕ) where
     bytes = later.bytes;
   }
 
-  cut : (count behind : ℕ) (all front : List PlacedUpdate) (body : List ℕ)
-      (rest : List (List ℕ)) → count + length front ≡ behind → AllHaveFormFrom step count all
-      → AllHaveFormFrom step count front
-      → bodies_from step count all ≡ bodies_from step count front ++ body ∷ rest
-      → Cut behind all front body
-  cut count behind [] [] body rest is fa ff same = absurd (cc same)
-  cut count behind [] (v ∷ front) body rest is fa ff same = absurd (cc same)
-  cut count behind (u ∷ all) [] body rest is fa ff same =
-      let one : record_spelling (form_behind step count) u ≡ body = cc same in
-      cut_here count behind u all body is fa.0 (sym one)
-  cut count behind (u ∷ all) (v ∷ front) body rest is fa ff same =
+  cut : (count behind : ℕ) (start : Matrix) (all front : List PlacedUpdate) (body : List ℕ)
+      (rest : List (List ℕ)) → count + length front ≡ behind
+      → AllHaveFormFrom step count start all → AllHaveFormFrom step count start front
+      → bodies_from step count start all ≡ bodies_from step count start front ++ body ∷ rest
+      → Cut behind start all front body
+  cut count behind start [] [] body rest is fa ff same = absurd (cc same)
+  cut count behind start [] (v ∷ front) body rest is fa ff same = absurd (cc same)
+  cut count behind start (u ∷ all) [] body rest is fa ff same =
+      let one : record_spelling (form_behind step count) (file_names start.files) u ≡ body =
+      cc same in
+      cut_here count behind start u all body is fa.0 (sym one)
+  cut count behind start (u ∷ all) (v ∷ front) body rest is fa ff same =
       let form : Form = form_behind step count in
-      let one : record_spelling form u ≡ record_spelling form v = cc same in
-      let others : bodies_from step (count + 1) all
-      ≡ bodies_from step (count + 1) front ++ body ∷ rest = cc same in
-      cut_behind behind u v all front body
-      (records_apart form (room_behind step count) u v fa.0 ff.0 one)
-      (cut (count + 1) behind all front body rest (omega (arith, is)) fa.1 ff.1 others)
+      let names : List (List ℕ) = file_names start.files in
+      let one : record_spelling form names u ≡ record_spelling form names v = cc same in
+      let others : bodies_from step (count + 1) (matrix_with start u) all
+      ≡ bodies_from step (count + 1) (matrix_with start v) front ++ body ∷ rest = cc same in
+      let first = records_apart form (room_behind step count) names u v fa.0 ff.0 one in
+      let on : matrix_with start u ≡ matrix_with start v = ap (matrix_with start) first in
+      cut_behind behind start u v all front body first
+      (cut (count + 1) behind (matrix_with start v) all front body rest (omega (arith, is))
+      (subst (λ (x : Matrix). AllHaveFormFrom step (count + 1) x all) on fa.1) ff.1
+      (ap (λ (x : Matrix). bodies_from step (count + 1) x all) (sym on) ∙ others))
 
   -- of two fronts of the same bodies, each with the body behind it, both are the same, or one goes
   -- on with the body behind the other
-  abbrev Either : ℕ → ℕ → List PlacedUpdate → List PlacedUpdate → List ℕ → List ℕ → Type 0
-  Either n m us vs body other =
-      ((us ≡ vs) × (body ≡ other)) ⊎ (Cut n vs us body ⊎ Cut m us vs other)
+  abbrev Either : ℕ → ℕ → Matrix → List PlacedUpdate → List PlacedUpdate → List ℕ → List ℕ
+      → Type 0
+  Either n m start us vs body other =
+      ((us ≡ vs) × (body ≡ other)) ⊎ (Cut n start vs us body ⊎ Cut m start us vs other)
 
-  either : (count n m : ℕ) (us vs : List PlacedUpdate) (body other : List ℕ)
+  either : (count n m : ℕ) (start : Matrix) (us vs : List PlacedUpdate) (body other : List ℕ)
       (rest more : List (List ℕ)) → count + length us ≡ n → count + length vs ≡ m
-      → AllHaveFormFrom step count us → AllHaveFormFrom step count vs
-      → bodies_from step count us ++ body ∷ rest ≡ bodies_from step count vs ++ other ∷ more
-      → Either n m us vs body other
-  either count n m [] [] body other rest more is too fu fv same =
+      → AllHaveFormFrom step count start us → AllHaveFormFrom step count start vs
+      → bodies_from step count start us ++ body ∷ rest
+      ≡ bodies_from step count start vs ++ other ∷ more
+      → Either n m start us vs body other
+  either count n m start [] [] body other rest more is too fu fv same =
       let one : body ≡ other = cc same in inl (refl, one)
-  either count n m [] (v ∷ vs) body other rest more is too fu fv same =
-      let one : body ≡ record_spelling (form_behind step count) v = cc same in
-      inr (inl (cut_here count n v vs body is fv.0 one))
-  either count n m (u ∷ us) [] body other rest more is too fu fv same =
-      let one : record_spelling (form_behind step count) u ≡ other = cc same in
-      inr (inr (cut_here count m u us other too fu.0 (sym one)))
-  either count n m (u ∷ us) (v ∷ vs) body other rest more is too fu fv same =
+  either count n m start [] (v ∷ vs) body other rest more is too fu fv same =
+      let one : body ≡ record_spelling (form_behind step count) (file_names start.files) v =
+      cc same in
+      inr (inl (cut_here count n start v vs body is fv.0 one))
+  either count n m start (u ∷ us) [] body other rest more is too fu fv same =
+      let one : record_spelling (form_behind step count) (file_names start.files) u ≡ other =
+      cc same in
+      inr (inr (cut_here count m start u us other too fu.0 (sym one)))
+  either count n m start (u ∷ us) (v ∷ vs) body other rest more is too fu fv same =
       let form : Form = form_behind step count in
-      let one : record_spelling form u ≡ record_spelling form v = cc same in
-      let others : bodies_from step (count + 1) us ++ body ∷ rest
-      ≡ bodies_from step (count + 1) vs ++ other ∷ more = cc same in
-      let first = records_apart form (room_behind step count) u v fu.0 fv.0 one in
+      let names : List (List ℕ) = file_names start.files in
+      let after : Matrix = matrix_with start u in
+      let one : record_spelling form names u ≡ record_spelling form names v = cc same in
+      let others : bodies_from step (count + 1) after us ++ body ∷ rest
+      ≡ bodies_from step (count + 1) (matrix_with start v) vs ++ other ∷ more = cc same in
+      let first = records_apart form (room_behind step count) names u v fu.0 fv.0 one in
+      let on : after ≡ matrix_with start v = ap (matrix_with start) first in
       ⊎_elim (λ both. inl (λ j. first j ∷ both.0 j, both.1))
-      (λ cuts. inr (⊎_elim (λ a. inl (cut_behind n v u vs us body (sym first) a))
-      (λ b. inr (cut_behind m u v us vs other first b)) cuts))
-      (either (count + 1) n m us vs body other rest more (omega (arith, is))
-      (omega (arith, too)) fu.1 fv.1 others)
+      (λ cuts. inr (⊎_elim (λ a. inl (cut_behind n start v u vs us body (sym first) a))
+      (λ b. inr (cut_behind m start u v us vs other first
+      (subst (λ (x : Matrix). Cut m x us vs other) on b))) cuts))
+      (either (count + 1) n m after us vs body other rest more (omega (arith, is))
+      (omega (arith, too)) fu.1
+      (subst (λ (x : Matrix). AllHaveFormFrom step (count + 1) x vs) (sym on) fv.1)
+      (others
+      ∙ ap (λ (x : Matrix). bodies_from step (count + 1) x vs ++ other ∷ more) (sym on)))
 
 -- ---- one body
 
 module _ (form : Form) (room : HasRoom form) where
   -- a body begins with one update
-  pub one_front : (u v : Brief) (body : List ℕ) → BeginsWith form u body → BeginsWith form v body
-      → u ≡ v
+  one_front : (u v : SpelledBrief) (body : List ℕ)
+      → BeginsWith form u body → BeginsWith form v body → u ≡ v
   one_front u v body one two =
       (fronts_apart form room u v one.rest two.rest one.has_form two.has_form
       (sym one.bytes ∙ two.bytes)).0
 
   -- a record begins with its update
-  begins : (u : PlacedUpdate) (body : List ℕ) → HasRecordForm form u
-      → body ≡ record_spelling form u → BeginsWith form u.update body
-  begins u body has_form bytes =
-      record { has_form = has_form.0; rest = firsts_spelling u.firsts; bytes = bytes }
+  begins : (names : List (List ℕ)) (u : PlacedUpdate) (body : List ℕ)
+      → HasRecordForm form names u → body ≡ record_spelling form names u
+      → BeginsWith form (spelled_brief names u.update) body
+  begins names u body has_form bytes =
+      record { has_form = has_form.spelled.0; rest = firsts_spelling u.firsts; bytes = bytes }
 
-  no_stop : (u : Brief) (body : List ℕ) (gate : ℕ) (spot : Spot) → BeginsWith form u body
+  no_stop : (u : SpelledBrief) (body : List ℕ) (gate : ℕ) (spot : Spot) → BeginsWith form u body
       → IsMisspelled form body gate spot → ⊥
   no_stop u body gate spot one wrong =
       never_stops form room u body one.rest wrong.at_byte one.has_form one.bytes wrong.stops
 
   module _ (master : List ℕ) (blocks : ℕ) (p : PlacedHistory) (body : List ℕ) (gate : ℕ) where
+    -- the names of the files behind this history
+    abbrev names : List (List ℕ)
+    names = names_after p.updates
+
     -- the number of first blocks that an update needs behind this history
     abbrev needs : Brief → ℕ
     needs u = count_of (rewrites_of (catalogue_at master p) u)
+
+    -- the history goes on with the update
+    abbrev Fits : Brief → Type 0
+    Fits u = IsSealedBriefly (with_brief (unplaced p) u)
 
     -- the first of the new extents of an update that isn't free begins at this block
     abbrev IsTakenAt : PlacedUpdate → ℕ → Type 0
@@ -141,44 +179,52 @@ module _ (form : Form) (room : HasRoom form) where
         (new_extents (rewrites_of (catalogue_at master p) u.update) u.firsts) first
 
     -- an update that fits isn't unfit
-    no_unfit : (u : Brief) (spot : Spot) → BeginsWith form u body
-        → IsSealedBriefly (with_brief (unplaced p) u) → IsUnfit form p body gate spot → ⊥
+    no_unfit : (u : SpelledBrief) (spot : Spot) → BeginsWith form u body
+        → Fits (numbered_after p.updates u) → IsUnfit form p body gate spot → ⊥
     no_unfit u spot one fit wrong =
         wrong.unfit
-        (subst (λ (v : Brief). IsSealedBriefly (with_brief (unplaced p) v))
+        (subst (λ (v : SpelledBrief). Fits (numbered_after p.updates v))
         (one_front u wrong.update body one wrong.begins) fit)
 
+    -- the update of a record, read again, fits where it fits
+    fits_again : (u : PlacedUpdate) → HasRecordForm form names u → Fits u.update
+        → Fits (numbered_after p.updates (spelled_brief names u.update))
+    fits_again u has_form fit = subst Fits (sym has_form.told) fit
+
     -- a record with its first blocks isn't miscounted
-    no_miscount : (u : PlacedUpdate) (spot : Spot) → HasRecordForm form u
-        → body ≡ record_spelling form u → HasFirsts (catalogue_at master p) u
+    no_miscount : (u : PlacedUpdate) (spot : Spot) → HasRecordForm form names u
+        → body ≡ record_spelling form names u → HasFirsts (catalogue_at master p) u
         → IsMiscounted master form p body gate spot → ⊥
     no_miscount u spot has_form bytes has wrong =
-        let same = one_front u.update wrong.update body (begins u body has_form bytes)
-        wrong.begins in
-        record_never_stops form room u body (needs wrong.update) wrong.at_byte has_form bytes
-        (has ∙ ap needs same) wrong.stops
+        let same = one_front (spelled_brief names u.update) wrong.update body
+        (begins names u body has_form bytes) wrong.begins in
+        let update : u.update ≡ numbered_after p.updates wrong.update =
+        sym has_form.told ∙ ap (λ (v : SpelledBrief). numbered_after p.updates v) same in
+        record_never_stops form room names u body (needs (numbered_after p.updates wrong.update))
+        wrong.at_byte has_form bytes (has ∙ ap needs update) wrong.stops
 
     -- ---- a bad body is none of a history that goes on
 
-    goes_on : (u : PlacedUpdate) (spot : Spot) → HasRecordForm form u
-        → body ≡ record_spelling form u → IsLaidOut master blocks p
+    goes_on : (u : PlacedUpdate) (spot : Spot) → HasRecordForm form names u
+        → body ≡ record_spelling form names u → IsLaidOut master blocks p
         → IsLaidOut master blocks (with_placed p u)
         → IsBadBody master form blocks p body gate spot → ⊥
     goes_on u spot has_form bytes laid longer wrong =
-        let front = begins u body has_form bytes in
+        let update : SpelledBrief = spelled_brief names u.update in
+        let front = begins names u body has_form bytes in
         let stop = replays_stop master p (catalogue_at master p)
         (catalogue_at master (with_placed p u)) (placed_of master p)
         (placed_of master (with_placed p u)) u laid.replayed longer.replayed in
         let fit = subst (λ (b : BriefHistory). IsSealedBriefly b) (unplaced-push p u)
         longer.replayed.stands.0 in
-        ⊎_elim (λ one. no_stop u.update body gate spot front one)
-        (λ others. ⊎_elim (λ two. no_unfit u.update spot front fit two)
+        ⊎_elim (λ one. no_stop update body gate spot front one)
+        (λ others. ⊎_elim (λ two. no_unfit update spot front (fits_again u has_form fit) two)
         (λ last. ⊎_elim (λ three. no_miscount u spot has_form bytes stop.2 three)
         (λ four. none_taken blocks _ (new_extents (rewrites_of (catalogue_at master p) u.update)
         u.firsts) four.first (last_takes_free master blocks p u longer)
         (subst (λ (v : PlacedUpdate). IsTakenAt v four.first)
-        (records_apart form room four.update u four.has_form has_form (sym four.bytes ∙ bytes))
-        four.taken))
+        (records_apart form room names four.update u four.has_form has_form
+        (sym four.bytes ∙ bytes)) four.taken))
         last) others) wrong
 
     -- ---- one place
@@ -193,15 +239,15 @@ module _ (form : Form) (room : HasRoom form) where
         → IsMiscounted master form p body gate two → one ≡ two
     two_miscounted one two a b =
         let update = one_front a.update b.update body a.begins b.begins in
-        let stops = subst (λ (u : Brief). StopsInRecord form (needs u) body a.at_byte) update
-        a.stops in
+        let stops = subst (λ (u : SpelledBrief).
+        StopsInRecord form (needs (numbered_after p.updates u)) body a.at_byte) update a.stops in
         let same : a.at_byte ≡ b.at_byte = cc (sym stops ∙ b.stops) in
         a.spot_is ∙ ap (λ (n : ℕ). in_book (gate + 5 + n)) same ∙ sym b.spot_is
 
     two_overlapping : (one two : Spot) → IsOverlapping master form blocks p body one
         → IsOverlapping master form blocks p body two → one ≡ two
     two_overlapping one two a b =
-        let update = records_apart form room a.update b.update a.has_form b.has_form
+        let update = records_apart form room names a.update b.update a.has_form b.has_form
         (sym a.bytes ∙ b.bytes) in
         let taken = subst (λ (u : PlacedUpdate). IsTakenAt u a.first) update a.taken in
         let same = one_taken blocks _ (new_extents (rewrites_of (catalogue_at master p)
@@ -215,11 +261,12 @@ module _ (form : Form) (room : HasRoom form) where
         ⊎ (IsMiscounted master form p body gate spot
         ⊎ IsOverlapping master form blocks p body spot)
 
-    behind_begins : (spot : Spot) → IsBadBehind spot → (u : Brief) × BeginsWith form u body
+    behind_begins : (spot : Spot) → IsBadBehind spot
+        → (u : SpelledBrief) × BeginsWith form u body
     behind_begins spot (inl a) = (a.update, a.begins)
     behind_begins spot (inr (inl a)) = (a.update, a.begins)
     behind_begins spot (inr (inr a)) =
-        (a.update.update, begins a.update body a.has_form a.bytes)
+        (spelled_brief names a.update.update, begins names a.update body a.has_form a.bytes)
 
     -- what is wrong with a body at whose front an update stands that fits
     abbrev IsBadRest : Spot → Type 0
@@ -229,7 +276,8 @@ module _ (form : Form) (room : HasRoom form) where
     rest_fits : (one two : Spot) → IsUnfit form p body gate one → IsBadRest two → ⊥
     rest_fits one two a (inl b) = no_unfit b.update one b.begins b.fit a
     rest_fits one two a (inr b) =
-        no_unfit b.update.update one (begins b.update body b.has_form b.bytes) b.fit a
+        no_unfit (spelled_brief names b.update.update) one
+        (begins names b.update body b.has_form b.bytes) (fits_again b.update b.has_form b.fit) a
 
     rest_place : (one two : Spot) → IsBadRest one → IsBadRest two → one ≡ two
     rest_place one two (inl a) (inl b) = two_miscounted one two a b
@@ -256,7 +304,7 @@ module _ (form : Form) (room : HasRoom form) where
 module _ (master : List ℕ) (mode : Mode) (first blocks : ℕ) where
   no_body : (step : Option ℕ) (p q : PlacedHistory) (body : List ℕ) (gate : ℕ) (spot : Spot)
       → CanBeKept master mode first blocks step p → CanBeKept master mode first blocks step q
-      → Cut step (length p.updates) q.updates p.updates body
+      → Cut step (length p.updates) no_one q.updates p.updates body
       → IsBadBody master (form_behind step (length p.updates)) blocks p body gate spot → ⊥
   no_body step p q body gate spot kp kq c wrong =
       let count : ℕ = length p.updates in
@@ -282,7 +330,7 @@ module _ (master : List ℕ) (mode : Mode) (first blocks : ℕ) where
     no_record q spot kept all wrong =
         let us = wrong.history.updates in
         no_body step wrong.history q wrong.body _ spot wrong.kept kept
-        (cut step 0 (length us) q.updates us wrong.body wrong.rest (omega arith) kept.form
+        (cut step 0 (length us) no_one q.updates us wrong.body wrong.rest (omega arith) kept.form
         wrong.kept.form (sym all ∙ wrong.split)) wrong.bad
 
     -- what is wrong with this body behind the records of this history
@@ -311,7 +359,7 @@ module _ (master : List ℕ) (mode : Mode) (first blocks : ℕ) where
         (⊎_elim
         (λ c. absurd (no_body step a.history b.history a.body _ one a.kept b.kept c a.bad))
         (λ c. absurd (no_body step b.history a.history b.body _ two b.kept a.kept c b.bad)))
-        (either step 0 n m us vs a.body b.body a.rest b.rest (omega arith) (omega arith)
+        (either step 0 n m no_one us vs a.body b.body a.rest b.rest (omega arith) (omega arith)
         a.kept.form b.kept.form (sym a.split ∙ b.split))
 
     one_of_all : (one two : Spot) → IsBad master mode first blocks records one

@@ -5,10 +5,10 @@ use Rattle.std.specs.Prelude.{Option}
 use Rattle.ov_keyed.proofs.HmacLemmas.{length-hmac}
 use Rattle.ov_record.specs.Forms.{Form}
 use Rattle.ov_record.specs.Forms.{second_form}
-use Rattle.ov_record.specs.Updates.{SealedUpdate}
 use Rattle.ov_history.specs.Briefs.{brief}
 use Rattle.ov_history.specs.Catalogue.{Catalogue, catalogue_after}
 use Rattle.ov_history.specs.Sealed.{KeepsBytes, SealedHistory, IsSealed, with_sealed}
+use Rattle.ov_history.specs.Sent.{SealedUpdate}
 use Rattle.ov_history.specs.Fading.{AgreeButGone}
 use Rattle.ov_history.specs.Texts.{BriefHistory, IsSealedBriefly, brief_of, with_brief}
 use Rattle.ov_history.specs.Placed.{IsReplayedTo, PlacedHistory, PlacedUpdate, cut, placed_after}
@@ -26,14 +26,14 @@ use Rattle.ov_journal.specs.Book.{spelled, with_body}
 use Rattle.ov_journal.proofs.Headers.{spelled_apart}
 use Rattle.ov_images.specs.Images.{Keys}
 use Rattle.ov_images.specs.Records.{AllHaveForm, HasRecordForm, bodies_of, form_behind}
-use Rattle.ov_images.specs.Records.{record_spelling}
+use Rattle.ov_images.specs.Records.{names_after, record_spelling}
 use Rattle.ov_images.specs.Extents.{IsLaidOut, blocks_in, catalogue_at, stored_in}
 use Rattle.ov_images.specs.Images.{HasRecords, Keeps, KeepsAt, header_of}
 use Rattle.ov_images.specs.Laws.{GoneFilesAreFree, HasOneMore, KeepingGoesOn, KeepsOnce, KeptIsBorn}
 use Rattle.ov_images.specs.Laws.{KeptIsSealed, KeysAreKept, PlacesAreKeptOnce}
 use Rattle.ov_images.specs.Laws.{RecordsAreKept, SameExtentsKeepTheSame, placed_as}
 use Rattle.ov_images.proofs.Headers.{born_is_store, first_of-spelled, mode_of-spelled}
-use Rattle.ov_images.proofs.Records.{bodies-push, bodies_once, form-push, length-bodies_from}
+use Rattle.ov_images.proofs.Records.{bodies-push, bodies_once, form-push, length-bodies_of}
 use Rattle.ov_images.proofs.Records.{next_is_second}
 use Rattle.ov_images.proofs.Extents.{all_end, as_said, blocks_grow, laid_out_more}
 use Rattle.ov_images.proofs.Extents.{laid_out_push, unplaced-push}
@@ -164,21 +164,25 @@ module _ (k : Keys) (p : PlacedHistory) (g : SealedHistory) (u : SealedUpdate) (
   -- the record is in the second form
   is_second : form_behind step (length p.updates) ≡ second_form
   is_second =
-      subst (λ (n : ℕ). form_behind step n ≡ second_form) (length-bodies_from step 0 p.updates)
+      subst (λ (n : ℕ). form_behind step n ≡ second_form) (length-bodies_of step p.updates)
       (subst (λ (d : Contents). form_behind d.records.step (length d.records.bodies) ≡ second_form)
       keeps.records.book (next_is_second i.book))
 
   form_next : AllHaveForm step (with_placed p next).updates
   form_next =
       form-push step p.updates next keeps.records.form
-      (subst (λ (f : Form). HasRecordForm f next) (sym is_second) more.form)
+      (subst (λ (f : Form). HasRecordForm f (names_after p.updates) next) (sym is_second)
+      more.form)
 
   book_next : contents_of c.book
       ≡ born (header_of k keeps.records.format p) step (bodies_of step (with_placed p next).updates)
   book_next =
-      more.book ∙ ap (with_body (record_spelling second_form next)) keeps.records.book
+      more.book
+      ∙ ap (with_body (record_spelling second_form (names_after p.updates) next))
+      keeps.records.book
       ∙ ap (λ (f : Form). born (header_of k keeps.records.format p) step
-      (bodies_of step p.updates ++ record_spelling f next ∷ [])) (sym is_second)
+      (bodies_of step p.updates ++ record_spelling f (names_after p.updates) next ∷ []))
+      (sym is_second)
       ∙ ap (born (header_of k keeps.records.format p) step)
       (sym (bodies-push step p.updates next))
 

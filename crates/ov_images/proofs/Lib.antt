@@ -6,6 +6,7 @@ pub mod Extents
 pub mod Gates
 pub mod Keeping
 pub mod Masters
+pub mod Names
 pub mod Order
 pub mod Records
 pub mod Rows

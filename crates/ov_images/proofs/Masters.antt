@@ -11,7 +11,7 @@ use Rattle.ov_history.specs.Placed.{PlacedHistory, PlacedUpdate, count_of, place
 use Rattle.ov_history.specs.Placed.{replaced, unplaced_all, with_unplaced}
 use Rattle.ov_history.proofs.OtherMasters.{bare, places_need_no_master, same_after, same_rewrites}
 use Rattle.ov_journal.specs.Book.{Records, contents_of}
-use Rattle.ov_images.specs.Records.{StopsInRecord}
+use Rattle.ov_images.specs.Records.{StopsInRecord, numbered_after}
 use Rattle.ov_images.specs.Extents.{AllTakeFree, IsFirstTaken, IsLaidOut, UpdateTakesFree}
 use Rattle.ov_images.specs.Extents.{UpdatesTakeFree, blocks_in, catalogue_at, extents_in_use}
 use Rattle.ov_images.specs.Extents.{extents_of, new_extents}
@@ -100,7 +100,7 @@ module _ (master other : List ℕ) where
     at_byte = bad.at_byte;
     stops =
         subst (λ (rewrites : List Rewrite). StopsInRecord form (count_of rewrites) body bad.at_byte)
-        (rewrites-other p bad.update) bad.stops;
+        (rewrites-other p (numbered_after p.updates bad.update)) bad.stops;
     spot_is = bad.spot_is;
   })))
   body-other form n p body gate spot laid (inr (inr (inr bad))) = inr (inr (inr (record {

@@ -2,25 +2,29 @@
 -- store of the first format with both, and what is behind its step record.
 use Rattle.std.proofs.Common.{◌≡◌, inl, inr, ℕ, ◌+◌, ◌-◌, ◌==◌, List, [], ◌∷◌, ◌++◌, length}
 use Rattle.std.proofs.Common.{take, Err, refl, sym, ◌∙◌, ap, subst, arith, length-append, lit<}
-use Rattle.std.specs.Prelude.{Option, Some, None}
+use Rattle.std.proofs.Common.{lit≤}
+use Rattle.std.specs.Prelude.{Option, Some, None, replicate}
 use Rattle.std.proofs.lemmas.List.{take_at, drop_at}
+use Rattle.ov_base.specs.Names.{IsName}
 use Rattle.ov_base.specs.declared.mode.Mode.TheVariants.{Delta}
 use Rattle.ov_keyed.proofs.HmacLemmas.{length-hmac}
 use Rattle.ov_tokens.specs.Keys.{check_value_of}
 use Rattle.ov_record.specs.Forms.{Form}
 use Rattle.ov_record.specs.Forms.{first_form, second_form}
 use Rattle.ov_record.specs.Reading.{brief_at}
-use Rattle.ov_record.specs.Updates.{SealedUpdate, SealedEnrol}
-use Rattle.ov_history.specs.Briefs.{BriefEnrol, BriefRemove}
+use Rattle.ov_record.specs.Briefs.{BriefRemove, BriefReplace}
+use Rattle.ov_history.specs.Briefs.{BriefEnrol}
 use Rattle.ov_history.specs.Placed.{PlacedHistory, PlacedUpdate}
 use Rattle.ov_history.specs.Sealed.{SealedHistory}
+use Rattle.ov_history.specs.Sent.{SealedUpdate, SealedEnrol}
 use Rattle.ov_disk.specs.Disk.{image}
 use Rattle.ov_journal.specs.Book.{Contents, IsFormat, Records, contents_of, is_first, records_in}
 use Rattle.ov_journal.specs.Runs.{run_after}
 use Rattle.ov_journal.specs.Steps.{gate_behind}
 use Rattle.ov_journal.proofs.Reading.{run_after-drop}
 use Rattle.ov_images.specs.Images.{Keys, KeepsAt, header_of}
-use Rattle.ov_images.specs.Records.{AllHaveForm, StopsInUpdate, bodies_of, form_behind}
+use Rattle.ov_images.specs.Records.{AllHaveForm, HasRecordForm, StopsInUpdate, bodies_of}
+use Rattle.ov_images.specs.Records.{form_behind}
 use Rattle.ov_images.specs.Extents.{IsLaidOut, blocks_in}
 use Rattle.ov_images.specs.Damage.{HasBadRecord, HasBadRecords, Spot, in_book}
 
@@ -77,6 +81,14 @@ removal_body = 6 ∷ 0 ∷ 0 ∷ 0 ∷ 0 ∷ []
 abbrev pub removal_record : List ℕ
 removal_record = 1 ∷ 0 ∷ 0 ∷ 0 ∷ 5 ∷ removal_body
 
+-- what the body of the replacement of a file 'n' by one of one byte has behind its kind byte: the
+-- name, no token, the tag, and the number of bytes
+abbrev pub behind_kind : List ℕ
+behind_kind = 1 ∷ 110 ∷ 0 ∷ 0 ∷ replicate 32 0 ++ (0 ∷ 0 ∷ 0 ∷ 1 ∷ [])
+
+abbrev pub replacement_record : List ℕ
+replacement_record = 1 ∷ 0 ∷ 0 ∷ 0 ∷ 41 ∷ 7 ∷ behind_kind
+
 -- both records, of alice and of bob
 abbrev pub both_records : List ℕ
 both_records = first_record ++ second_record
@@ -130,9 +142,20 @@ two_users = enrol alice ∷ enrol bob ∷ []
 abbrev pub three_users : List PlacedUpdate
 three_users = enrol alice ∷ enrol bob ∷ enrol carol ∷ []
 
--- in either form an enrolment has a record
-two_form : (step : Option ℕ) → AllHaveForm step two_users
-two_form step = ((refl, (tt, refl)), ((refl, (tt, refl)), tt))
+-- in each form an enrolment has a record
+pub enrol_form : (form : Form) (names : List (List ℕ)) (name : List ℕ) → IsName name
+    → HasRecordForm form names (enrol name)
+enrol_form form names name is = record { spelled = (is, (tt, refl)); told = refl }
+
+pub one_form : (step : Option ℕ) → AllHaveForm step one_user
+one_form step = (enrol_form _ _ alice refl, tt)
+
+pub two_form : (step : Option ℕ) → AllHaveForm step two_users
+two_form step = (enrol_form _ _ alice refl, (enrol_form _ _ bob refl, tt))
+
+three_form : (step : Option ℕ) → AllHaveForm step three_users
+three_form step =
+    (enrol_form _ _ alice refl, (enrol_form _ _ bob refl, (enrol_form _ _ carol refl, tt)))
 
 two_laid : (master : List ℕ) (blocks : ℕ) → IsLaidOut master blocks (placed two_users)
 two_laid master blocks = record {
@@ -182,7 +205,7 @@ module _ (k : Keys) (blobs : List ℕ) (long : length k.base_check ≡ 32) where
       known = known;
       first = lit< tt;
       step = step;
-      form = ((refl, (tt, refl)), tt);
+      form = one_form step;
       laid_out = record {
         replayed = record { stands = ((refl, tt, tt), refl); firsts = (refl, tt); places = refl };
         free = (tt, tt);
@@ -222,7 +245,7 @@ module _ (k : Keys) (blobs : List ℕ) (long : length k.base_check ≡ 32) where
       known = known;
       first = lit< tt;
       step = step;
-      form = ((refl, (tt, refl)), ((refl, (tt, refl)), ((refl, (tt, refl)), tt)));
+      form = three_form step;
       laid_out = record {
         replayed = record {
           stands = ((refl, tt, (refl, tt, (refl, tt, tt))), refl);
@@ -274,6 +297,12 @@ six_stops : (rest : List ℕ) → StopsInUpdate first_form (6 ∷ rest) 0
 unfolding brief_at
 six_stops rest =
     let at : length (6 ∷ rest) - length (6 ∷ rest) ≡ 0 = omega arith in ap (λ (n : ℕ). Err n) at
+
+-- no update of the first form begins with the byte 7
+seven_stops : (rest : List ℕ) → StopsInUpdate first_form (7 ∷ rest) 0
+unfolding brief_at
+seven_stops rest =
+    let at : length (7 ∷ rest) - length (7 ∷ rest) ≡ 0 = omega arith in ap (λ (n : ℕ). Err n) at
 
 -- ---- the rows
 
@@ -356,6 +385,44 @@ module _ (k : Keys) (blobs : List ℕ) (long : length k.base_check ≡ 32) where
         bad = inr (inl (record {
           update = BriefRemove 0;
           begins = record { has_form = (refl, lit< tt); rest = []; bytes = refl };
+          unfit = λ fit. absurd (cc fit.2.2.0);
+          spot_is = refl;
+        }));
+      })
+
+  pub replacement_under_first : IsBadAt 1 (both_records ++ replacement_record ++ 0 ∷ []) 105
+  replacement_under_first =
+      misspelled_behind k blobs long 1 (Some 3) (both_records ++ replacement_record ++ 0 ∷ [])
+      (7 ∷ behind_kind) 0 refl (seven_stops behind_kind)
+
+  -- there is no file to replace
+  pub replacement_refused : IsBadAt 2 (both_records ++ replacement_record ++ 0 ∷ []) 100
+  replacement_refused =
+      bad_book 2 k blobs (both_records ++ replacement_record ++ 0 ∷ [])
+      (record {
+        bodies = bodies_of None two_users ++ (7 ∷ behind_kind) ∷ [];
+        step = None;
+        bad = None;
+      })
+      (in_book 100) long refl
+      (λ master. record {
+        history = placed two_users;
+        kept = record {
+          mode_is = refl;
+          first_is = refl;
+          form = two_form None;
+          laid_out = two_laid master (blocks_in blobs);
+        };
+        body = 7 ∷ behind_kind;
+        rest = [];
+        split = refl;
+        bad = inr (inl (record {
+          update = BriefReplace (110 ∷ []) [] (replicate 32 0) 1;
+          begins = record {
+            has_form = (refl, refl, lit≤ tt, tt, refl, lit≤ tt);
+            rest = [];
+            bytes = refl;
+          };
           unfit = λ fit. absurd (cc fit.2.2.0);
           spot_is = refl;
         }));

@@ -5,9 +5,9 @@ use Rattle.std.specs.Prelude.{Option, Some}
 use Rattle.ov_base.specs.declared.mode.Mode.{Mode}
 use Rattle.ov_tokens.specs.Keys.{check_value_of}
 use Rattle.ov_blocks.specs.declared.extents.TheConstants.{BLOCK_BYTES}
+use Rattle.ov_record.specs.Briefs.{Brief as SpelledBrief}
 use Rattle.ov_record.specs.Forms.{Form}
 use Rattle.ov_record.specs.Stored.{HasBriefForm, brief_spelling}
-use Rattle.ov_history.specs.Briefs.{Brief}
 use Rattle.ov_history.specs.Rewrites.{rewrites_of}
 use Rattle.ov_history.specs.Texts.{IsSealedBriefly, with_brief}
 use Rattle.ov_history.specs.Placed.{HasFirsts, PlacedHistory, PlacedUpdate, count_of, placed_of}
@@ -21,7 +21,8 @@ use Rattle.ov_journal.specs.Standing.{HasMagic}
 use Rattle.ov_journal.specs.declared.header.Header.{Header}
 use Rattle.ov_images.specs.Images.{Keys}
 use Rattle.ov_images.specs.Records.{AllHaveForm, HasRecordForm, StopsInRecord, StopsInUpdate}
-use Rattle.ov_images.specs.Records.{bodies_of, form_behind, record_spelling}
+use Rattle.ov_images.specs.Records.{bodies_of, form_behind, names_after, numbered_after}
+use Rattle.ov_images.specs.Records.{record_spelling}
 use Rattle.ov_images.specs.Extents.{IsFirstTaken, IsLaidOut, blocks_in, catalogue_at}
 use Rattle.ov_images.specs.Extents.{extents_in_use, new_extents}
 
@@ -61,7 +62,7 @@ pub record IsMisspelled (form : Form) (body : List ℕ) (gate : ℕ) (spot : Spo
   pub spot_is : spot ≡ in_book (gate + 5 + at_byte)
 
 -- the body begins with the spelling of this update in this form, and some bytes are behind it
-pub record BeginsWith (form : Form) (u : Brief) (body : List ℕ) : Type 0 where
+pub record BeginsWith (form : Form) (u : SpelledBrief) (body : List ℕ) : Type 0 where
   pub has_form : HasBriefForm form u
   pub rest : List ℕ
   pub bytes : body ≡ brief_spelling form u ++ rest
@@ -70,20 +71,21 @@ pub record BeginsWith (form : Form) (u : Brief) (body : List ℕ) : Type 0 where
 -- place is that of the gate.
 pub record IsUnfit (form : Form) (p : PlacedHistory) (body : List ℕ) (gate : ℕ)
     (spot : Spot) : Type 0 where
-  pub update : Brief
+  pub update : SpelledBrief
   pub begins : BeginsWith form update body
-  pub unfit : IsSealedBriefly (with_brief (unplaced p) update) → ⊥
+  pub unfit : IsSealedBriefly (with_brief (unplaced p) (numbered_after p.updates update)) → ⊥
   pub spot_is : spot ≡ in_book gate
 
 -- The body begins with an update with which this history goes on, and isn't this update with as
 -- many first blocks as it needs. The place is that at which reading these ends.
 pub record IsMiscounted (master : List ℕ) (form : Form) (p : PlacedHistory) (body : List ℕ)
     (gate : ℕ) (spot : Spot) : Type 0 where
-  pub update : Brief
+  pub update : SpelledBrief
   pub begins : BeginsWith form update body
-  pub fit : IsSealedBriefly (with_brief (unplaced p) update)
+  pub fit : IsSealedBriefly (with_brief (unplaced p) (numbered_after p.updates update))
   pub at_byte : ℕ
-  pub stops : StopsInRecord form (count_of (rewrites_of (catalogue_at master p) update)) body
+  pub stops : StopsInRecord form
+      (count_of (rewrites_of (catalogue_at master p) (numbered_after p.updates update))) body
       at_byte
   pub spot_is : spot ≡ in_book (gate + 5 + at_byte)
 
@@ -93,8 +95,8 @@ pub record IsMiscounted (master : List ℕ) (form : Form) (p : PlacedHistory) (b
 pub record IsOverlapping (master : List ℕ) (form : Form) (blocks : ℕ) (p : PlacedHistory)
     (body : List ℕ) (spot : Spot) : Type 0 where
   pub update : PlacedUpdate
-  pub has_form : HasRecordForm form update
-  pub bytes : body ≡ record_spelling form update
+  pub has_form : HasRecordForm form (names_after p.updates) update
+  pub bytes : body ≡ record_spelling form (names_after p.updates) update
   pub fit : IsSealedBriefly (with_brief (unplaced p) update.update)
   pub firsts : HasFirsts (catalogue_at master p) update
   pub first : ℕ

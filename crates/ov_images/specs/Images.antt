@@ -2,11 +2,11 @@
 use Rattle.std.specs.Prelude.{◌≡◌, ◌⊎◌, ◌<◌, ◌^◌, ℕ, List, Option}
 use Rattle.ov_base.specs.declared.mode.Mode.{Mode}
 use Rattle.ov_tokens.specs.Keys.{check_value_of}
-use Rattle.ov_record.specs.Updates.{SealedUpdate}
 use Rattle.ov_history.specs.Plain.{PlainHistory}
 use Rattle.ov_history.specs.Masters.{Masters}
 use Rattle.ov_history.specs.FadingLaws.{IsRight}
 use Rattle.ov_history.specs.Sealed.{KeepsBytes, SealedHistory, blank, with_sealed}
+use Rattle.ov_history.specs.Sent.{SealedUpdate}
 use Rattle.ov_history.specs.Texts.{brief_of}
 use Rattle.ov_history.specs.Placed.{PlacedHistory, unplaced}
 use Rattle.ov_disk.specs.Disk.{Image}

@@ -4,11 +4,11 @@ use Rattle.ov_blocks.specs.Writes.{HasSameBytes}
 use Rattle.ov_blocks.specs.declared.extents.Extent.{Extent}
 use Rattle.ov_tokens.specs.Keys.{check_value_of}
 use Rattle.ov_record.specs.Forms.{second_form}
-use Rattle.ov_record.specs.Updates.{SealedUpdate}
 use Rattle.ov_history.specs.Briefs.{brief, text_of}
 use Rattle.ov_history.specs.Catalogue.{empty_catalogue}
 use Rattle.ov_history.specs.Rewrites.{rewrites_of, with_text}
 use Rattle.ov_history.specs.Sealed.{SealedHistory, IsSealed, with_sealed}
+use Rattle.ov_history.specs.Sent.{SealedUpdate}
 use Rattle.ov_history.specs.Fading.{AgreeButGone}
 use Rattle.ov_history.specs.Texts.{brief_of}
 use Rattle.ov_history.specs.Placed.{AllHaveFirsts, HasFirsts, HoldRewrites, PlacedHistory}
@@ -19,7 +19,7 @@ use Rattle.ov_journal.specs.Book.{contents_of, with_body}
 use Rattle.ov_journal.specs.Steps.{gate_behind}
 use Rattle.ov_journal.specs.Standing.{IsUnborn, HasMagic}
 use Rattle.ov_images.specs.Images.{Keys}
-use Rattle.ov_images.specs.Records.{HasRecordForm, bodies_of, record_spelling}
+use Rattle.ov_images.specs.Records.{HasRecordForm, bodies_of, names_after, record_spelling}
 use Rattle.ov_images.specs.Extents.{AllTakeFree, IsFirstTaken, UpdateTakesFree, blocks_in}
 use Rattle.ov_images.specs.Extents.{catalogue_at}
 use Rattle.ov_images.specs.Extents.{extents_in_use, stored_in}
@@ -105,12 +105,13 @@ placed_as u firsts = record { update = brief u; firsts = firsts }
 -- bytes, and the extents of all files that there were hold what they held.
 pub record HasOneMore (k : Keys) (p : PlacedHistory) (u : SealedUpdate) (firsts : List ℕ)
     (i c : Image) : Type 0 where
-  pub form : HasRecordForm second_form (placed_as u firsts)
+  pub form : HasRecordForm second_form (names_after p.updates) (placed_as u firsts)
   pub firsts_are : HasFirsts (catalogue_at k.surface p) (placed_as u firsts)
   pub free : UpdateTakesFree (blocks_in c.blobs) (catalogue_at k.surface p) (placed_of k.surface p)
       (placed_as u firsts)
   pub book : contents_of c.book
-      ≡ with_body (record_spelling second_form (placed_as u firsts)) (contents_of i.book)
+      ≡ with_body (record_spelling second_form (names_after p.updates) (placed_as u firsts))
+      (contents_of i.book)
   pub no_shorter : length i.blobs ≤ length c.blobs
   pub old : stored_in k.surface p c.blobs ≡ stored_in k.surface p i.blobs
   pub new : HoldRewrites k.surface c.blobs

@@ -7,10 +7,11 @@
 //! masters) and, before the first gate that isn't open, the records of the history's updates, in
 //! order; where each new extent lies in Blobs and took blocks that were free in the state before
 //! its record; and where the latest extent of each file that is there holds its stored bytes at the
-//! end. Nothing is said of files that are gone, whose blocks are free for the records after their
-//! removal: of an image that keeps a history their bytes may be any. An image where no store was
-//! begun stands for the history without updates. The definitions read a whole image and know nothing
-//! of how it was written, so they say what a store on disk is with no store in sight.
+//! end. Nothing is said of files that are gone, whose blocks are free for the records after the one
+//! that removes or replaces them: of an image that keeps a history their bytes may be any. An image
+//! where no store was begun stands for the history without updates. The definitions read a whole
+//! image and know nothing of how it was written, so they say what a store on disk is with no store in
+//! sight.
 //!
 //! Stores of two *formats* keep histories. In one of the second all records are in the second form,
 //! with lists of 128 bytes. In one of the first, records are in the first form, with lists of 32
@@ -18,13 +19,16 @@
 //! of what a Book says. So one behind the last record changes nothing of what an image keeps. A
 //! second one is damage, and so is one in a store of the second format.
 //!
+//! A record has the name of a file that is replaced, and a history its number: the records before it
+//! say which file has the name.
+//!
 //! Which records can stand behind one another needs no master; which texts the files have does. So
 //! damage is told without keys, at a place of Book or of Blobs.
 //!
 //! | file in `specs/` | says |
 //! |---|---|
 //! | `Images` | keys and header; `HasRecords`, `KeepsAt`, `Keeps`, `IsImageOf`, `Opens`, `KeepsEither` |
-//! | `Records` | which record is in which form, their bodies, and bodies that are no record |
+//! | `Records` | which record is in which form, names of files, bodies, and bodies that are no record |
 //! | `Extents` | which blocks are in use, and that each update takes free ones |
 //! | `Damage` | what is wrong with a record, a length that can't be, and the place of which area |
 //! | `Laws` | the laws |

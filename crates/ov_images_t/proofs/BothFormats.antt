@@ -3,12 +3,13 @@ use Rattle.ov_images.proofs.Creations.{long_is_read, second_is_read, short_behin
 use Rattle.ov_images.proofs.Creations.{short_is_read, short_under_second}
 use Rattle.ov_images.proofs.Rows.{first_with_bob, length-alice, length-bob, length-carol}
 use Rattle.ov_images.proofs.Rows.{length-new, length-step, longer_step, new_store, removal_refused}
-use Rattle.ov_images.proofs.Rows.{removal_under_first, second_step}
+use Rattle.ov_images.proofs.Rows.{removal_under_first, replacement_refused}
+use Rattle.ov_images.proofs.Rows.{replacement_under_first, second_step}
 use Rattle.ov_images.proofs.Rows.{step_under_second, with_alice, with_bob, with_carol, with_step}
 use Rattle.ov_images_t.specs.Formats.{FirstFormatIsKept, LongerBodyIsNoStep}
 use Rattle.ov_images_t.specs.Formats.{NewStoresAreOfTheSecond, OneStepIsLeftOut}
 use Rattle.ov_images_t.specs.Formats.{RecordsFollowTheStep, RemovalsAreOfTheSecond}
-use Rattle.ov_images_t.specs.Formats.{ShortListsAreOfTheFirst}
+use Rattle.ov_images_t.specs.Formats.{ReplacementsAreOfTheSecond, ShortListsAreOfTheFirst}
 use Rattle.ov_images_t.specs.Formats.{StepChangesNothing, StepChangesTheForm}
 
 pub new_stores_are_of_the_second : NewStoresAreOfTheSecond
@@ -40,6 +41,10 @@ longer_body_is_no_step k long blobs = longer_step k blobs long
 pub removals_are_of_the_second : RemovalsAreOfTheSecond
 removals_are_of_the_second k long =
     (λ blobs. removal_under_first k blobs long, λ blobs. removal_refused k blobs long)
+
+pub replacements_are_of_the_second : ReplacementsAreOfTheSecond
+replacements_are_of_the_second k long =
+    (λ blobs. replacement_under_first k blobs long, λ blobs. replacement_refused k blobs long)
 
 pub short_lists_are_of_the_first : ShortListsAreOfTheFirst
 short_lists_are_of_the_first k long = (

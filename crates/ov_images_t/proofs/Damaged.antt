@@ -8,13 +8,13 @@ use Rattle.ov_base.specs.Sets.{bytes_of}
 use Rattle.ov_base.proofs.SetLaws.{small-IsBelow}
 use Rattle.ov_fields.specs.Reading.{Read, ◌>>=◌, all_of, bytes_at, made, many_at, number_at}
 use Rattle.ov_fields.specs.Reading.{placed}
+use Rattle.ov_record.specs.Briefs.{Brief, BriefCreate, BriefEnrol}
 use Rattle.ov_record.specs.Forms.{set_bytes}
 use Rattle.ov_record.specs.Forms.{second_form}
 use Rattle.ov_record.specs.Reading.{brief_at, stored}
 use Rattle.ov_record.specs.Stored.{Stored}
 use Rattle.ov_record.proofs.BriefLaws.{brief_reads}
 use Rattle.ov_record.proofs.UpdateLaws.{second_has_room}
-use Rattle.ov_history.specs.Briefs.{Brief, BriefCreate, BriefEnrol}
 use Rattle.ov_journal.specs.Runs.{run_after}
 use Rattle.ov_images.specs.Images.{Keys}
 use Rattle.ov_images.specs.Records.{HasRecordForm, StopsInRecord}
@@ -57,9 +57,14 @@ end_of_blobs_is_damage k blobs long is =
       })));
     })
 
-last_form : HasRecordForm second_form (create_small 110 (2147483648 ∷ []))
-last_form =
-    ((refl, small-IsBelow (8 * set_bytes second_form) 1 (lit< tt), lit≤ tt, tt, refl, lit≤ tt), ((lit< tt, tt), refl))
+last_form : HasRecordForm second_form [] (create_small 110 (2147483648 ∷ []))
+last_form = record {
+  spelled = (
+    (refl, small-IsBelow (8 * set_bytes second_form) 1 (lit< tt), lit≤ tt, tt, refl, lit≤ tt),
+    ((lit< tt, tt), refl),
+  );
+  told = refl;
+}
 
 pub last_block_counts : LastBlockCounts
 unfolding bytes_of
@@ -99,10 +104,13 @@ blocks_in_use_are_damage k blobs long is =
       split = refl;
       bad = inr (inr (inr (record {
         update = create_small 109 (2 ∷ []);
-        has_form = (
-          (refl, small-IsBelow (8 * set_bytes second_form) 1 (lit< tt), lit≤ tt, tt, refl, lit≤ tt),
-          ((lit< tt, tt), refl),
-        );
+        has_form = record {
+          spelled = (
+            (refl, small-IsBelow (8 * set_bytes second_form) 1 (lit< tt), lit≤ tt, tt, refl, lit≤ tt),
+            ((lit< tt, tt), refl),
+          );
+          told = refl;
+        };
         bytes = refl;
         fit = (refl, tt, (refl, refl, (refl, refl, tt)));
         firsts = refl;
@@ -133,7 +141,7 @@ create_with firsts = create_body 1 (0 ∷ 0 ∷ []) firsts
 -- the creation is read from the front
 created_first : (firsts : List ℕ) → brief_at second_form (create_with firsts) ≡ Ok (created, firsts)
 unfolding bytes_of
-created_first firsts = (brief_reads second_form second_has_room).again created firsts create_form.0
+created_first firsts = (brief_reads second_form second_has_room).again created firsts create_form.spelled.0
 
 missing_stops : StopsInRecord second_form 1 (create_with []) 169
 unfolding bytes_at many_at
@@ -165,7 +173,7 @@ miscounted k blobs firsts n at_byte long are blocks stops =
       split = refl;
       bad = inr (inr (inl (record {
         update = created;
-        begins = record { has_form = create_form.0; rest = firsts; bytes = refl };
+        begins = record { has_form = create_form.spelled.0; rest = firsts; bytes = refl };
         fit = (refl, tt, (refl, refl, tt));
         at_byte = at_byte;
         stops = stops;

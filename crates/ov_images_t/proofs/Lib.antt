@@ -4,6 +4,7 @@ mod BothFormats
 mod Damaged
 mod OneFile
 mod Removed
+mod Replaced
 mod StepPlaces
 mod ThreeFiles
 mod UsedAgain

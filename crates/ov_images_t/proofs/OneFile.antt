@@ -3,6 +3,7 @@ use Rattle.std.proofs.Common.{◌≡◌, inr, ℕ, ◌≤◌, List, [], ◌∷�
 use Rattle.std.proofs.Common.{refl, sym, ◌∙◌, ap, subst, arith, lit<, lit≤, length-append}
 use Rattle.std.specs.Prelude.{◌*◌, None}
 use Rattle.std.proofs.lemmas.List.{take_at}
+use Rattle.ov_base.specs.Names.{IsName}
 use Rattle.ov_base.specs.Sets.{bytes_of}
 use Rattle.ov_base.specs.declared.mode.Mode.TheVariants.{Full}
 use Rattle.ov_base.proofs.SetLaws.{small-IsBelow}
@@ -26,11 +27,16 @@ use Rattle.ov_images_t.proofs.Blobs.{blocks-length}
 abbrev pub one_user : PlacedHistory
 one_user = history (enrol 97 ∷ [])
 
+-- whatever the names of files are, an enrolment has a record
+pub enrol_form : (names : List (List ℕ)) (letter : ℕ) → IsName (letter ∷ [])
+    → HasRecordForm second_form names (enrol letter)
+enrol_form names letter is = record { spelled = (is, (tt, refl)); told = refl }
+
 pub one_user_kept : (master : List ℕ) (n : ℕ) → CanBeKept master Full 0 n None one_user
 one_user_kept master n = record {
   mode_is = refl;
   first_is = refl;
-  form = ((refl, (tt, refl)), tt);
+  form = (enrol_form [] 97 refl, tt);
   laid_out = record {
     replayed = record { stands = ((refl, tt, tt), refl); firsts = (refl, tt); places = refl };
     free = (tt, tt);
@@ -42,12 +48,17 @@ one_user_kept master n = record {
 abbrev pub one_file : PlacedHistory
 one_file = history (enrol 97 ∷ create 1 [] 8193 (0 ∷ []) ∷ [])
 
-pub create_form : HasRecordForm second_form (create 1 [] 8193 (0 ∷ []))
-create_form =
-    ((refl, small-IsBelow (8 * set_bytes second_form) 1 (lit< tt), lit≤ tt, tt, refl, lit≤ tt), ((lit< tt, tt), refl))
+pub create_form : HasRecordForm second_form [] (create 1 [] 8193 (0 ∷ []))
+create_form = record {
+  spelled = (
+    (refl, small-IsBelow (8 * set_bytes second_form) 1 (lit< tt), lit≤ tt, tt, refl, lit≤ tt),
+    ((lit< tt, tt), refl),
+  );
+  told = refl;
+}
 
 pub one_file_form : AllHaveForm None one_file.updates
-one_file_form = ((refl, (tt, refl)), (create_form, tt))
+one_file_form = (enrol_form [] 97 refl, (create_form, tt))
 
 pub one_file_laid : (master : List ℕ) (n : ℕ) → 3 ≤ n → IsLaidOut master n one_file
 one_file_laid master n enough = record {
@@ -101,8 +112,17 @@ empty_file_has_no_block k long = (
     first = lit< tt;
     step = None;
     form = (
-      (refl, (tt, refl)),
-      (((refl, small-IsBelow (8 * set_bytes second_form) 1 (lit< tt), lit≤ tt, tt, refl, lit≤ tt), (tt, refl)), tt),
+      enrol_form [] 97 refl,
+      (
+        record {
+          spelled = (
+            (refl, small-IsBelow (8 * set_bytes second_form) 1 (lit< tt), lit≤ tt, tt, refl, lit≤ tt),
+            (tt, refl),
+          );
+          told = refl;
+        },
+        tt,
+      ),
     );
     laid_out = record {
       replayed = record {

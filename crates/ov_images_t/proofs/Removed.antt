@@ -4,9 +4,9 @@ use Rattle.std.specs.Prelude.{◌*◌, None}
 use Rattle.ov_base.specs.Sets.{bytes_of}
 use Rattle.ov_base.specs.declared.mode.Mode.TheVariants.{Full}
 use Rattle.ov_base.proofs.SetLaws.{small-IsBelow}
+use Rattle.ov_record.specs.Briefs.{BriefRemove}
 use Rattle.ov_record.specs.Forms.{set_bytes}
 use Rattle.ov_record.specs.Forms.{second_form}
-use Rattle.ov_history.specs.Briefs.{BriefRemove}
 use Rattle.ov_history.specs.Placed.{PlacedHistory}
 use Rattle.ov_images.specs.Records.{HasRecordForm}
 use Rattle.ov_images.specs.Extents.{IsLaidOut}
@@ -16,13 +16,20 @@ use Rattle.ov_images_t.specs.Stores.{block, create_small, enrol, enrol_body, his
 use Rattle.ov_images_t.specs.Stores.{remove_body, small_body}
 use Rattle.ov_images_t.proofs.Books.{contents}
 use Rattle.ov_images_t.proofs.Blobs.{bad_store, blocks-length}
+use Rattle.ov_images_t.proofs.OneFile.{enrol_form}
 
-small_form : HasRecordForm second_form (create_small 110 (0 ∷ []))
-small_form =
-    ((refl, small-IsBelow (8 * set_bytes second_form) 1 (lit< tt), lit≤ tt, tt, refl, lit≤ tt), ((lit< tt, tt), refl))
+-- whatever the names of files are, these updates have a record
+pub small_form : (names : List (List ℕ)) → HasRecordForm second_form names (create_small 110 (0 ∷ []))
+small_form names = record {
+  spelled = (
+    (refl, small-IsBelow (8 * set_bytes second_form) 1 (lit< tt), lit≤ tt, tt, refl, lit≤ tt),
+    ((lit< tt, tt), refl),
+  );
+  told = refl;
+}
 
-remove_form : HasRecordForm second_form remove
-remove_form = ((refl, lit< tt), (tt, refl))
+remove_form : (names : List (List ℕ)) → HasRecordForm second_form names remove
+remove_form names = record { spelled = ((refl, lit< tt), (tt, refl)); told = refl }
 
 -- ---- a file that is removed
 
@@ -33,7 +40,7 @@ removed_kept : (master : List ℕ) → CanBeKept master Full 0 1 None removed
 removed_kept master = record {
   mode_is = refl;
   first_is = refl;
-  form = ((refl, (tt, refl)), (small_form, (remove_form, tt)));
+  form = (enrol_form _ 97 refl, (small_form _, (remove_form _, tt)));
   laid_out = record {
     replayed = record {
       stands = ((refl, tt, (refl, refl, (refl, tt, tt))), refl);
@@ -87,7 +94,7 @@ removed_blocks_are_free k blobs long is = (
     known = inr refl;
     first = lit< tt;
     step = None;
-    form = ((refl, (tt, refl)), (small_form, (remove_form, (small_form, tt))));
+    form = (enrol_form _ 97 refl, (small_form _, (remove_form _, (small_form _, tt))));
     laid_out =
         subst (λ (n : ℕ). IsLaidOut k.surface n once_more) (sym (blocks-length blobs 4096 is))
         (once_more_laid k.surface);

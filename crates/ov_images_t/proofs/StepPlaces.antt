@@ -11,7 +11,7 @@ use Rattle.ov_images.specs.Extents.{blocks_in}
 use Rattle.ov_images.specs.Records.{bodies_of}
 use Rattle.ov_images.specs.Damage.{CanBeKept, HasBadRecords, IsBad, in_book}
 use Rattle.ov_images.proofs.Rows.{both_records, contents, five_stops, head, longer_record, placed}
-use Rattle.ov_images.proofs.Rows.{step_record, two_users}
+use Rattle.ov_images.proofs.Rows.{step_record, two_form, two_users}
 use Rattle.ov_images_t.specs.Formats.{DamageMovesBehindTheStep, DamageStaysBeforeTheStep}
 use Rattle.ov_images_t.specs.Formats.{bad_length}
 
@@ -21,7 +21,7 @@ two_kept : (master : List ℕ) (blocks : ℕ) (step : Option ℕ)
 two_kept master blocks step = record {
   mode_is = refl;
   first_is = refl;
-  form = ((refl, (tt, refl)), ((refl, (tt, refl)), tt));
+  form = two_form step;
   laid_out = record {
     replayed = record {
       stands = ((refl, tt, (refl, tt, tt)), refl);

@@ -1,5 +1,5 @@
 -- The row of two files that one update rewrites.
-use Rattle.std.proofs.Common.{inl, inr, ⊎_elim, ℕ, List, [], ◌∷◌, ◌++◌}
+use Rattle.std.proofs.Common.{inl, inr, ⊎_elim, ℕ, ◌<◌, ◌^◌, List, [], ◌∷◌, ◌++◌}
 use Rattle.std.proofs.Common.{refl, sym, subst, arith, lit<, lit≤}
 use Rattle.std.specs.Prelude.{◌*◌, None}
 use Rattle.std.specs.List.{AllByRecursion}
@@ -20,6 +20,7 @@ use Rattle.ov_images_t.specs.Stores.{enrol, enrol_body, grant_access}
 use Rattle.ov_images_t.specs.Stores.{history_in, small_body}
 use Rattle.ov_images_t.proofs.Books.{contents}
 use Rattle.ov_images_t.proofs.Blobs.{bad_store_in, blocks-length}
+use Rattle.ov_images_t.proofs.OneFile.{enrol_form}
 
 abbrev three_files : PlacedHistory
 three_files =
@@ -27,21 +28,34 @@ three_files =
     (enrol 97 ∷ enrol 98 ∷ create_small 109 (0 ∷ []) ∷ create_small 110 (1 ∷ [])
     ∷ create_small 111 (2 ∷ []) ∷ [])
 
-small_form : (letter : ℕ) (firsts : List ℕ) → IsName (letter ∷ [])
-    → AllByRecursion IsNumber firsts → HasRecordForm second_form (create_small letter firsts)
-small_form letter firsts name all =
-    ((name, small-IsBelow (8 * set_bytes second_form) 1 (lit< tt), lit≤ tt, tt, refl, lit≤ tt), (all, refl))
+-- whatever the names of files are, these updates have a record
+small_form : (names : List (List ℕ)) (letter : ℕ) (firsts : List ℕ) → IsName (letter ∷ [])
+    → AllByRecursion IsNumber firsts → HasRecordForm second_form names (create_small letter firsts)
+small_form names letter firsts name all = record {
+  spelled = (
+    (name, small-IsBelow (8 * set_bytes second_form) 1 (lit< tt), lit≤ tt, tt, refl, lit≤ tt),
+    (all, refl),
+  );
+  told = refl;
+}
+
+access_form : (names : List (List ℕ)) (second : ℕ) → second < 2 ^ 32
+    → HasRecordForm second_form names (grant_access (3 ∷ second ∷ []))
+access_form names second low = record {
+  spelled = ((lit< tt, lit< tt, refl), ((lit< tt, (low, tt)), refl));
+  told = refl;
+}
 
 three_files_form : AllHaveForm None three_files.updates
 three_files_form = (
-  (refl, (tt, refl)),
+  enrol_form _ 97 refl,
   (
-    (refl, (tt, refl)),
+    enrol_form _ 98 refl,
     (
-      small_form 109 (0 ∷ []) refl (lit< tt, tt),
+      small_form _ 109 (0 ∷ []) refl (lit< tt, tt),
       (
-        small_form 110 (1 ∷ []) refl (lit< tt, tt),
-        (small_form 111 (2 ∷ []) refl (lit< tt, tt), tt),
+        small_form _ 110 (1 ∷ []) refl (lit< tt, tt),
+        (small_form _ 111 (2 ∷ []) refl (lit< tt, tt), tt),
       ),
     ),
   ),
@@ -128,16 +142,16 @@ new_blocks_are_apart k blobs long is = (
     first = lit< tt;
     step = None;
     form = (
-      (refl, (tt, refl)),
+      enrol_form _ 97 refl,
       (
-        (refl, (tt, refl)),
+        enrol_form _ 98 refl,
         (
-          small_form 109 (0 ∷ []) refl (lit< tt, tt),
+          small_form _ 109 (0 ∷ []) refl (lit< tt, tt),
           (
-            small_form 110 (1 ∷ []) refl (lit< tt, tt),
+            small_form _ 110 (1 ∷ []) refl (lit< tt, tt),
             (
-              small_form 111 (2 ∷ []) refl (lit< tt, tt),
-              (((lit< tt, lit< tt, refl), ((lit< tt, (lit< tt, tt)), refl)), tt),
+              small_form _ 111 (2 ∷ []) refl (lit< tt, tt),
+              (access_form _ 4 (lit< tt), tt),
             ),
           ),
         ),
@@ -158,7 +172,7 @@ new_blocks_are_apart k blobs long is = (
         split = refl;
         bad = inr (inr (inr (record {
           update = grant_access (3 ∷ 3 ∷ []);
-          has_form = ((lit< tt, lit< tt, refl), ((lit< tt, (lit< tt, tt)), refl));
+          has_form = access_form _ 3 (lit< tt);
           bytes = refl;
           fit =
               (refl, tt, (refl, tt, (refl, refl, (refl, refl, (refl, refl, (refl, refl, tt))))));

@@ -1,5 +1,5 @@
 -- Rows of blocks that are used again.
-use Rattle.std.proofs.Common.{inl, inr, ⊎_elim, ℕ, List, [], ◌∷◌, ◌++◌}
+use Rattle.std.proofs.Common.{inl, inr, ⊎_elim, ℕ, ◌<◌, ◌^◌, List, [], ◌∷◌, ◌++◌}
 use Rattle.std.proofs.Common.{refl, sym, subst, arith, lit<, lit≤}
 use Rattle.std.specs.Prelude.{◌*◌, None}
 use Rattle.ov_base.specs.Sets.{bytes_of}
@@ -19,19 +19,30 @@ use Rattle.ov_images_t.specs.Stores.{history, revoke, revoke_body}
 use Rattle.ov_images_t.specs.Stores.{zero_token, zeros}
 use Rattle.ov_images_t.proofs.Books.{contents}
 use Rattle.ov_images_t.proofs.Blobs.{bad_store, blocks-length}
+use Rattle.ov_images_t.proofs.OneFile.{enrol_form}
 
 abbrev two_users : PlacedHistory
 two_users =
     history (enrol 97 ∷ enrol 98 ∷ create 3 (zero_token ∷ zero_token ∷ []) 8193 (0 ∷ []) ∷ [])
 
-shared_form : HasRecordForm second_form (create 3 (zero_token ∷ zero_token ∷ []) 8193 (0 ∷ []))
-shared_form = (
-  (refl, small-IsBelow (8 * set_bytes second_form) 3 (lit< tt), lit≤ tt, (refl, (refl, tt)), refl, lit≤ tt),
-  ((lit< tt, tt), refl),
-)
+-- whatever the names of files are, these updates have a record
+shared_form : (names : List (List ℕ))
+    → HasRecordForm second_form names (create 3 (zero_token ∷ zero_token ∷ []) 8193 (0 ∷ []))
+shared_form names = record {
+  spelled = (
+    (refl, small-IsBelow (8 * set_bytes second_form) 3 (lit< tt), lit≤ tt, (refl, (refl, tt)), refl, lit≤ tt),
+    ((lit< tt, tt), refl),
+  );
+  told = refl;
+}
+
+revoke_form : (names : List (List ℕ)) (first : ℕ) → first < 2 ^ 32
+    → HasRecordForm second_form names (revoke (first ∷ []))
+revoke_form names first low =
+    record { spelled = ((lit< tt, lit< tt), ((low, tt), refl)); told = refl }
 
 two_users_form : AllHaveForm None two_users.updates
-two_users_form = ((refl, (tt, refl)), ((refl, (tt, refl)), (shared_form, tt)))
+two_users_form = (enrol_form _ 97 refl, (enrol_form _ 98 refl, (shared_form _, tt)))
 
 abbrev shared_body : List ℕ
 shared_body = create_body 3 ((0 ∷ 2 ∷ []) ++ zeros 64) (block 0)
@@ -65,7 +76,7 @@ own_blocks_are_in_use k blobs long is =
       split = refl;
       bad = inr (inr (inr (record {
         update = revoke (1 ∷ []);
-        has_form = ((lit< tt, lit< tt), ((lit< tt, tt), refl));
+        has_form = revoke_form _ 1 (lit< tt);
         bytes = refl;
         fit = (refl, tt, (refl, tt, (refl, refl, (refl, tt, tt))));
         firsts = refl;
@@ -116,14 +127,17 @@ blocks_are_used_again k blobs long is = (
     first = lit< tt;
     step = None;
     form = (
-      (refl, (tt, refl)),
+      enrol_form _ 97 refl,
       (
-        (refl, (tt, refl)),
+        enrol_form _ 98 refl,
         (
-          shared_form,
+          shared_form _,
           (
-            ((lit< tt, lit< tt), ((lit< tt, tt), refl)),
-            (((lit< tt, lit< tt, tt), ((lit< tt, tt), refl)), tt),
+            revoke_form _ 3 (lit< tt),
+            (
+              record { spelled = ((lit< tt, lit< tt, tt), ((lit< tt, tt), refl)); told = refl },
+              tt,
+            ),
           ),
         ),
       ),

@@ -2,10 +2,10 @@
 use Rattle.std.specs.Prelude.{◌≡◌, ℕ, List, [], ◌∷◌, ◌++◌, length}
 use Rattle.ov_base.specs.declared.mode.Mode.TheVariants.{Delta}
 use Rattle.ov_tokens.specs.Keys.{check_value_of}
-use Rattle.ov_record.specs.Updates.{SealedUpdate, SealedEnrol}
 use Rattle.ov_history.specs.Briefs.{BriefEnrol}
 use Rattle.ov_history.specs.Placed.{PlacedHistory, PlacedUpdate}
 use Rattle.ov_history.specs.Sealed.{SealedHistory}
+use Rattle.ov_history.specs.Sent.{SealedUpdate, SealedEnrol}
 use Rattle.ov_disk.specs.Disk.{image}
 use Rattle.ov_journal.specs.declared.header.Header.{Header}
 use Rattle.ov_images.specs.Images.{HasRecords, Keys, KeepsAt}
@@ -62,6 +62,12 @@ longer_record = 1 ∷ 0 ∷ 0 ∷ 0 ∷ 2 ∷ 5 ∷ 0 ∷ []
 -- file
 abbrev pub removal_record : List ℕ
 removal_record = 1 ∷ 0 ∷ 0 ∷ 0 ∷ 5 ∷ 6 ∷ 0 ∷ 0 ∷ 0 ∷ 0 ∷ []
+
+-- A record of the replacement of a file 'n' by one of one byte: an open gate, the length 41, and the
+-- body of kind, name, no token, tag and number of bytes. A first block would follow.
+abbrev pub replacement_record : List ℕ
+replacement_record =
+    1 ∷ 0 ∷ 0 ∷ 0 ∷ 41 ∷ 7 ∷ 1 ∷ 110 ∷ 0 ∷ 0 ∷ zeros 32 ++ (0 ∷ 0 ∷ 0 ∷ 1 ∷ [])
 
 -- an open gate and a length that can't be: no byte
 abbrev pub bad_length : List ℕ
@@ -179,7 +185,16 @@ RemovalsAreOfTheSecond =
     → IsDamagedAt 1 k (first_book k (alice_record ++ bob_record ++ removal_record)) 105
     × IsDamagedAt 2 k (second_book k (alice_record ++ bob_record ++ removal_record)) 100
 
--- Before a step record such a body, whose gate is at place 100, is damaged where it is without one.
+-- A replacement of a file behind alice and bob, where there is none: in the first format its kind byte
+-- is wrong, and in the second it is refused, and so wrong at its gate.
+abbrev pub ReplacementsAreOfTheSecond : Type 0
+ReplacementsAreOfTheSecond =
+    (k : Keys) → length k.base_check ≡ 32
+    → IsDamagedAt 1 k (first_book k (alice_record ++ bob_record ++ replacement_record)) 105
+    × IsDamagedAt 2 k (second_book k (alice_record ++ bob_record ++ replacement_record)) 100
+
+-- Before a step record a body of 5 and one more byte, whose gate is at place 100, is damaged where it
+-- is without one.
 abbrev pub DamageStaysBeforeTheStep : Type 0
 DamageStaysBeforeTheStep =
     (k : Keys) → length k.base_check ≡ 32

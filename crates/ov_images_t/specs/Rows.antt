@@ -8,8 +8,9 @@ use Rattle.ov_images.specs.Images.{HasRecords, KeepsAt, header_of}
 use Rattle.ov_images.specs.Damage.{HasBadRecords, at_block, in_book}
 use Rattle.ov_images_t.specs.Stores.{access_body, block, create, create_body, create_small}
 use Rattle.ov_images_t.specs.Stores.{empty_body, enrol, enrol_body, grant, grant_access, grant_body}
-use Rattle.ov_images_t.specs.Stores.{history, history_in, remove, remove_body, revoke, revoke_body}
-use Rattle.ov_images_t.specs.Stores.{small_body, store, store_in, zero_token, zeros}
+use Rattle.ov_images_t.specs.Stores.{history, history_in, remove, remove_body, replace}
+use Rattle.ov_images_t.specs.Stores.{replace_body, revoke, revoke_body, small_body, store, store_in}
+use Rattle.ov_images_t.specs.Stores.{zero_token, zeros}
 
 -- Alice has a file of 8,193 bytes at block 0. Beside 12,288 bytes of Blobs, which are three blocks,
 -- the store has its records, and the file's bytes are the first 8,193. With an extent of two blocks
@@ -150,3 +151,36 @@ RemovedFilesAreGone =
     → HasBadRecords (header_of k 2 (history []))
     (store k (enrol_body 97 ∷ small_body 110 (block 0) ∷ remove_body ∷ remove_body ∷ []) blobs)
     (in_book 274)
+
+-- A file 'n' of one byte stands at block 0, beside 8,192 bytes of Blobs. It is replaced by one of one
+-- byte at block 1, and this one by another at block 0 again. Both records have the name alone. The
+-- first two files have no bytes any more, and those of the third are the first of Blobs.
+abbrev pub ReplacedBlocksAreFree : Type 0
+ReplacedBlocksAreFree =
+    (k : Keys) (blobs : List ℕ) → length k.base_check ≡ 32 → length blobs ≡ 8192
+    → let p = history
+    (enrol 97 ∷ create_small 110 (0 ∷ []) ∷ replace 0 (1 ∷ []) ∷ replace 1 (0 ∷ []) ∷ []) in
+    HasRecords k p
+    (store k
+    (enrol_body 97 ∷ small_body 110 (block 0) ∷ replace_body 110 (block 1)
+    ∷ replace_body 110 (block 0) ∷ []) blobs)
+    × (stored_in k.surface p blobs ≡ [] ∷ [] ∷ take 1 blobs ∷ [])
+
+-- A replacement at block 0 takes a block that the file to be replaced has until then.
+abbrev pub OldBlocksAreInUse : Type 0
+OldBlocksAreInUse =
+    (k : Keys) (blobs : List ℕ) → length k.base_check ≡ 32 → length blobs ≡ 8192
+    → HasBadRecords (header_of k 2 (history []))
+    (store k
+    (enrol_body 97 ∷ small_body 110 (block 0) ∷ replace_body 110 (block 0) ∷ []) blobs)
+    (at_block 0)
+
+-- A replacement of a file 'm', where there is none, is refused: its record is damage at its gate,
+-- which is at place 264.
+abbrev pub ReplacedFilesHaveNames : Type 0
+ReplacedFilesHaveNames =
+    (k : Keys) (blobs : List ℕ) → length k.base_check ≡ 32 → length blobs ≡ 8192
+    → HasBadRecords (header_of k 2 (history []))
+    (store k
+    (enrol_body 97 ∷ small_body 110 (block 0) ∷ replace_body 109 (block 1) ∷ []) blobs)
+    (in_book 264)

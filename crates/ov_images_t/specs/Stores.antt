@@ -5,6 +5,7 @@ use Rattle.ov_base.specs.declared.mode.Mode.TheVariants.{Full}
 use Rattle.ov_tokens.specs.declared.token.Token.{Token}
 use Rattle.ov_fields.specs.Spelling.{u32}
 use Rattle.ov_history.specs.Briefs.{BriefEnrol, BriefCreate, BriefGrant, BriefRevoke, BriefRemove}
+use Rattle.ov_history.specs.Briefs.{BriefReplace}
 use Rattle.ov_history.specs.Placed.{PlacedHistory, PlacedUpdate}
 use Rattle.ov_disk.specs.Disk.{Image, image}
 use Rattle.ov_journal.specs.Book.{spelled}
@@ -59,6 +60,10 @@ grant firsts = record { update = BriefGrant 1 0 None; firsts = firsts }
 abbrev pub remove : PlacedUpdate
 remove = record { update = BriefRemove 0; firsts = [] }
 
+-- the file of this number is replaced by one of one byte, with a tag of zeros
+abbrev pub replace : ℕ → List ℕ → PlacedUpdate
+replace file firsts = record { update = BriefReplace file [] (zeros 32) 1; firsts = firsts }
+
 -- ---- bytes
 
 -- the body of an enrolment: kind, length of the name, and the name
@@ -96,6 +101,12 @@ access_body firsts = 3 ∷ 0 ∷ 0 ∷ 0 ∷ 1 ∷ 0 ∷ 0 ∷ 0 ∷ 0 ∷ 1 ∷
 -- the body of the removal: kind and file
 abbrev pub remove_body : List ℕ
 remove_body = 6 ∷ 0 ∷ 0 ∷ 0 ∷ 0 ∷ []
+
+-- the body of the replacement of a file with a name of one letter: kind, name, no token, tag, number
+-- of bytes, and first blocks
+abbrev pub replace_body : ℕ → List ℕ → List ℕ
+replace_body letter firsts =
+    7 ∷ 1 ∷ letter ∷ 0 ∷ 0 ∷ zeros 32 ++ (0 ∷ 0 ∷ 0 ∷ 1 ∷ []) ++ firsts
 
 -- a first block in four bytes
 abbrev pub block : ℕ → List ℕ

@@ -3,8 +3,10 @@ ghost use Rattle.ov_images_t.specs.Rows.{BlocksAreUsedAgain, BlocksInUseAreDamag
 ghost use Rattle.ov_images_t.specs.Rows.{ChangedByteIsNoDamage, EmptyFileHasNoBlock};
 ghost use Rattle.ov_images_t.specs.Rows.{EndOfBlobsIsDamage, FileHasWholeBlocks, FirstIsLeftOver};
 ghost use Rattle.ov_images_t.specs.Rows.{FirstIsMissing, GateComesFirst, LastBlockCounts};
-ghost use Rattle.ov_images_t.specs.Rows.{NewBlocksAreApart, OwnBlocksAreInUse};
-ghost use Rattle.ov_images_t.specs.Rows.{RemovedBlocksAreFree, RemovedFilesAreGone};
+ghost use Rattle.ov_images_t.specs.Rows.{NewBlocksAreApart, OldBlocksAreInUse};
+ghost use Rattle.ov_images_t.specs.Rows.{OwnBlocksAreInUse, RemovedBlocksAreFree};
+ghost use Rattle.ov_images_t.specs.Rows.{RemovedFilesAreGone, ReplacedBlocksAreFree};
+ghost use Rattle.ov_images_t.specs.Rows.{ReplacedFilesHaveNames};
 
 /// A file of 8,193 bytes has three blocks: beside 12,288 bytes of Blobs its record is whole.
 pub fn a_file_has_whole_blocks()
@@ -54,6 +56,18 @@ pub fn removed_blocks_are_free()
 /// A second removal of a file is damage at its gate.
 pub fn removed_files_are_gone()
     ensures { RemovedFilesAreGone }
+{}
+
+/// The blocks of a file that is replaced are free for the updates behind it, and not for the one that
+/// replaces it.
+pub fn replaced_blocks_are_free()
+    ensures free { ReplacedBlocksAreFree }
+    ensures old { OldBlocksAreInUse }
+{}
+
+/// A replacement of a name that no file has is damage at its gate.
+pub fn replaced_files_have_names()
+    ensures { ReplacedFilesHaveNames }
 {}
 
 /// Two files that one update rewrites take blocks apart from one another.

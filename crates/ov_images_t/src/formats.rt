@@ -3,7 +3,7 @@ ghost use Rattle.ov_images_t.specs.Formats.{DamageMovesBehindTheStep, DamageStay
 ghost use Rattle.ov_images_t.specs.Formats.{FirstFormatIsKept, LongerBodyIsNoStep};
 ghost use Rattle.ov_images_t.specs.Formats.{NewStoresAreOfTheSecond, OneStepIsLeftOut};
 ghost use Rattle.ov_images_t.specs.Formats.{RecordsFollowTheStep, RemovalsAreOfTheSecond};
-ghost use Rattle.ov_images_t.specs.Formats.{ShortListsAreOfTheFirst};
+ghost use Rattle.ov_images_t.specs.Formats.{ReplacementsAreOfTheSecond, ShortListsAreOfTheFirst};
 ghost use Rattle.ov_images_t.specs.Formats.{StepChangesNothing, StepChangesTheForm};
 
 /// A new store has the magic `OVERENC2`: the worked books of 79, 91 and 101 bytes keep nobody,
@@ -38,6 +38,12 @@ pub fn a_longer_body_is_no_step_record()
 /// second it is a removal, which is refused where there is no such file.
 pub fn a_removal_is_of_the_second_format()
     ensures { RemovalsAreOfTheSecond }
+{}
+
+/// In a record of the first format no update is a replacement: its kind byte is damage. In one of the
+/// second it is a replacement, which is refused where no file has the name.
+pub fn a_replacement_is_of_the_second_format()
+    ensures { ReplacementsAreOfTheSecond }
 {}
 
 /// A step record moves the places of damage behind it by its bytes, and none before it.

@@ -1,11 +1,11 @@
 -- What others make while a call asks.
 use Rattle.std.proofs.Common.{◌≡◌, ◌∙◌, ◌+◌, List, [], ◌∷◌, ◌++◌, length, Bool, true, false}
 use Rattle.std.proofs.Common.{Ok, refl, sym, ap, subst, arith}
-use Rattle.std.proofs.lemmas.List.{append_assoc, length-append}
+use Rattle.std.proofs.lemmas.List.{length-append}
 use Rattle.ov_record.specs.Updates.{SealedUpdate}
-use Rattle.ov_history.specs.Catalogue.{empty_catalogue}
 use Rattle.ov_protocol.specs.Serving.{Service, later, served}
-use Rattle.ov_protocol.proofs.GoingOn.{epochs_all}
+use Rattle.ov_protocol.proofs.Following.{later-append}
+use Rattle.ov_protocol.proofs.GoingOn.{epoch_later}
 use Rattle.ov_protocol.proofs.Leaving.{later-nil}
 use Rattle.ov_listing.specs.Telling.{MayBeMade, Told}
 
@@ -17,11 +17,6 @@ pub both_none : (a b : List SealedUpdate) → a ++ b ≡ [] → (a ≡ []) × (b
 both_none a b none =
     let sum : length a + length b ≡ 0 = sym (length-append a b) ∙ ap length none in
     (none_left a (omega arith), none_left b (omega arith))
-
-pub later-later : (v : Service) (a b : List SealedUpdate) → later (later v a) b ≡ later v (a ++ b)
-later-later v a b =
-    ap (λ (us : List SealedUpdate). record v { history = record v.history { updates = us } })
-    (append_assoc v.history.updates a b)
 
 pub same_left : (v : Service) (made : List SealedUpdate) → made ≡ [] → later v made ≡ v
 same_left v made none = ap (later v) none ∙ later-nil v
@@ -35,17 +30,11 @@ pub may_none : (alone : Bool) → MayBeMade alone []
 may_none true = refl
 may_none false = tt
 
-epoch_at : (v : Service) → (served v).catalogue.epoch ≡ v.history.first + length v.history.updates
-epoch_at v = epochs_all v.surface (empty_catalogue v.history.mode v.history.first) v.history.updates
-
 -- what goes on from a history and has its epoch is that history
 pub still : (v : Service) (others : List SealedUpdate)
     → (served (later v others)).catalogue.epoch ≡ (served v).catalogue.epoch → others ≡ []
 still v others same =
-    let one = epoch_at v in
-    let two = epoch_at (later v others) in
-    let all = length-append v.history.updates others in
-    none_left others (omega arith)
+    let sum = epoch_later v others in none_left others (omega (arith, same, sum))
 
 -- what is served then is this history with what others made of it, and where they made nothing
 -- that holds
@@ -72,7 +61,7 @@ behind alone v Mid Then A B (a, may_a, mid, holds) next =
     let (b, may_b, then, more) = next (later v a) mid in (
       a ++ b,
       may_both alone a b may_a may_b,
-      subst Then (later-later v a b) then,
+      subst Then (later-append v a b) then,
       λ none. let (no_a, no_b) = both_none a b none in
           (holds no_a, subst B (same_left v a no_a) (more no_b)),
     )
@@ -94,6 +83,6 @@ told_behind alone v Mid Then A IsRight value (a, may_a, mid, holds) next =
     let (b, may_b, then, right) = next (later v a) mid in (
       a ++ b,
       may_both alone a b may_a may_b,
-      subst Then (later-later v a b) then,
-      subst (IsRight value) (later-later v a b) right,
+      subst Then (later-append v a b) then,
+      subst (IsRight value) (later-append v a b) right,
     )

@@ -4,6 +4,7 @@ use Rattle.std.proofs.Common.{refl, sym, ap, subst}
 use Rattle.ov_history.specs.History.{Matrix}
 use Rattle.ov_history.proofs.Showing.{history_is_shown}
 use Rattle.ov_protocol.specs.Serving.{Service, later, served}
+use Rattle.ov_protocol.proofs.Following.{later-append}
 use Rattle.ov_wire.specs.declared.answer.Welcome.{Welcome}
 use Rattle.ov_listing.specs.Listings.{IsListingAt, files_wanted}
 use Rattle.ov_listing.specs.Questions.{AreFilesAt, AreNamesAt, IsTryAt, IsWelcomeAt, matrix_at}
@@ -11,8 +12,7 @@ use Rattle.ov_listing.specs.Telling.{Told}
 use Rattle.ov_listing.specs.declared.listing.Listing.{Listing}
 use Rattle.ov_listing.specs.declared.listing.Wanted.{Wanted}
 use Rattle.ov_listing.specs.declared.part.Part.TheVariants.{Users}
-use Rattle.ov_listing.proofs.Meanwhile.{Meanwhile, behind, both_none, later-later}
-use Rattle.ov_listing.proofs.Meanwhile.{same_left, still}
+use Rattle.ov_listing.proofs.Meanwhile.{Meanwhile, behind, both_none, same_left, still}
 
 -- what was told by one catalogue is the listing of its history
 listing_at : (w : Service) (wanted : Wanted) (listing : Listing)
@@ -53,7 +53,7 @@ module _ (alone : Bool) (v : Service) (One Two Three Then : Service → Type 0) 
       let (b, may_b, three, holds) = between (later v a) one in
       let (c, may_c, then, again) = last (later (later v a) b) three in
       let u = later v a in
-      let all : later (later u b) c ≡ later u (b ++ c) = later-later u b c in
+      let all : later (later u b) c ≡ later u (b ++ c) = later-append u b c in
       let end : after.epoch ≡ (served (later u (b ++ c))).catalogue.epoch =
       ap (λ (x : Welcome). x.epoch) again ∙ ap (λ (x : Service). (served x).catalogue.epoch) all in
       let none : b ++ c ≡ [] =

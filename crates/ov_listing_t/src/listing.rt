@@ -9,7 +9,9 @@ use ov_listing::{ListingFault, Question, answer};
 use ov_peer::{FixedPeer, Peer};
 use ov_server::{LocalPeer, Server};
 use ov_store::Store;
-use rows::{Asked, Row, anew, questions, questions_anew, rows, updates};
+use rows::{
+    Asked, Row, anew, questions, questions_anew, questions_replaced, replaced, rows, updates,
+};
 use std::alloc::Global;
 use std::process::Abort;
 use std::test::Fail;
@@ -104,15 +106,18 @@ fn a_served_store_is_listed(rt: HostRuntime) -> Result<(), Fail> {
     expect_store(&rt, alloc, &mut peer)
 }
 
-/// Makes sure of the answers of a store in which a file was removed and created anew.
+/// Makes sure of the answers of a store in which a file was removed and created anew, and then the
+/// other was replaced.
 fn expect_anew<P: Peer>(rt: &impl Abort, alloc: Global, peer: &mut P) -> Result<(), Fail> {
     update(peer, alloc, updates())?;
     update(peer, alloc, anew())?;
-    expect_answers(rt, alloc, peer, questions_anew())
+    expect_answers(rt, alloc, peer, questions_anew())?;
+    update(peer, alloc, replaced())?;
+    expect_answers(rt, alloc, peer, questions_replaced())
 }
 
 #[test]
-fn a_listing_goes_on_behind_a_gone_file(rt: HostRuntime) -> Result<(), Fail> {
+fn a_listing_goes_on_behind_gone_files(rt: HostRuntime) -> Result<(), Fail> {
     let alloc = rt.alloc();
     let mut peer = server_over(alloc, MemDisk::new(alloc), [0x22; 32])?;
     expect_anew(&rt, alloc, &mut peer)

@@ -59,6 +59,7 @@ command_counts h (commands.Create file names bytes) is = update_counts h _ _
 command_counts h (commands.Grant user file) is = update_counts h _ _
 command_counts h (commands.Revoke user file) is = update_counts h _ _
 command_counts h (commands.Remove file) is = update_counts h _ _
+command_counts h (commands.Replace file bytes) is = update_counts h _ _
 command_counts h (commands.Read user file) is =
     let m = matrix_of (history_of h) in
     reply_counts (bytes_reply h user file (file_number m file))

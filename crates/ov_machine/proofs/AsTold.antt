@@ -4,7 +4,6 @@ use Rattle.std.proofs.Common.{◌≡◌, ◌∙◌, inl, inr, ℕ, ◌+◌, List
 use Rattle.std.specs.Prelude.{◌⊎◌, IfOk, IfSome, IsSome, Option, Some, None}
 use Rattle.ov_base.specs.declared.refusal.Refusal.{Refusal}
 use Rattle.ov_disk.specs.Tells.{DiskTells}
-use Rattle.ov_record.specs.Updates.{SealedUpdate}
 use Rattle.ov_script.specs.declared.command.Command.{Command}
 use Rattle.ov_script.specs.declared.reply.Reply.{Reply}
 use Rattle.ov_script.specs.declared.reply.Reply.TheVariants.{Accepted, Refused}
@@ -17,8 +16,8 @@ use Rattle.ov_history.specs.Plain.{PlainHistory, PlainUpdate, history_of, measur
 use Rattle.ov_history.specs.Refusals.{IsLegal, refusal_of}
 use Rattle.ov_history.specs.Sealed.{KeepsBytes, catalogue_of, stored_of}
 use Rattle.ov_history.specs.Sealing.{sealed, sealed_update}
+use Rattle.ov_history.specs.Sent.{numbered}
 use Rattle.ov_history.proofs.Keeping.{kept_shows, kept_stands_for}
-use Rattle.ov_history.proofs.Sealing.{sealing_goes_on}
 use Rattle.ov_model.specs.Step.{after, reply_to, step, update_step}
 use Rattle.ov_model.proofs.Legality.{legal-after}
 use Rattle.ov_tokens.specs.Keys.{check_value_of}
@@ -37,13 +36,14 @@ use Rattle.ov_owner.specs.Talks.{IsAskFault}
 use Rattle.ov_owner.specs.declared.fault.OwnerFault.{OwnerFault}
 use Rattle.ov_owner.specs.declared.fault.OwnerFault.TheVariants as faults
 use Rattle.ov_owner.proofs.Doing.{Does, does}
-use Rattle.ov_owner.proofs.Telling.{under}
+use Rattle.ov_owner.proofs.Telling.{names_after, under}
 use Rattle.ov_machine.specs.Machine.{Kept, KeptOn, StandsAsTold, StandsFor, opened_of}
 use Rattle.ov_machine.specs.Replying.{change_reply}
 use Rattle.ov_machine.specs.Seats.{Stays}
 use Rattle.ov_machine.specs.Steps.{AnswersAsTold}
 use Rattle.ov_machine.proofs.Changed.{Changes, IsFailed, IsMade, IsSentTo, cut, refused, sent}
 use Rattle.ov_machine.proofs.Errands.{IsHonest}
+use Rattle.ov_machine.proofs.Following.{spelling_goes_on}
 use Rattle.ov_machine.proofs.Stays.{and_told, if_told, shows_same}
 
 -- ---- what is kept
@@ -163,7 +163,8 @@ module _ {D : Type 0} (tells : DiskTells D) (old new : KeptOn D) (p : PlainHisto
         (serves_as_told old p stands)
 
     told_so : (x.epoch ≡ (catalogue_of k.surface (sealed k p)).epoch)
-        × (x.update ≡ sealed_update k (layers_of (history_of p)) plain)
+        × (numbered (names_after p) x.update
+        ≡ sealed_update k (layers_of (history_of p)) plain)
         × (refusal_of (history_of p) (measured plain) ≡ None)
     told_so =
         does_it.makes.told (check_value_of k.base) p x.told x.epoch x.update legal
@@ -174,8 +175,7 @@ module _ {D : Type 0} (tells : DiskTells D) (old new : KeptOn D) (p : PlainHisto
 
     pub sealed_is : followed (sealed k p) (x.update ∷ []) ≡ sealed k (after p command)
     sealed_is =
-        ap (λ (u : SealedUpdate). followed (sealed k p) (u ∷ [])) told_so.1
-        ∙ sym (sealing_goes_on k p plain)
+        spelling_goes_on k p plain x.update told_so.1
         ∙ ap (λ (r : Reply × PlainHistory). sealed k r.1) (sym step_is)
 
     pub reply_is : Accepted (x.epoch + 1) ≡ reply_to p command

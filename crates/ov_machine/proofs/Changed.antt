@@ -7,7 +7,6 @@ use Rattle.ov_disk.specs.Tells.{DiskTells}
 use Rattle.ov_record.specs.Spelling.{HasForm, spelling}
 use Rattle.ov_record.specs.Updates.{SealedUpdate}
 use Rattle.ov_record.specs.Forms.{second_form}
-use Rattle.ov_history.specs.Briefs.{brief}
 use Rattle.ov_history.specs.Catalogue.{Catalogue}
 use Rattle.ov_history.specs.Sealed.{refusal_shown}
 use Rattle.ov_wire.specs.declared.request.Request.{Request}
@@ -18,6 +17,7 @@ use Rattle.ov_wire.specs.AnswerReading.{answer_of}
 use Rattle.ov_wire.specs.AnswerBytes.{answer_bytes}
 use Rattle.ov_wire.specs.Requests.{request_bytes}
 use Rattle.ov_protocol.specs.Answers.{Answers, made_by}
+use Rattle.ov_protocol.specs.Serving.{brief_in}
 use Rattle.ov_protocol.specs.Updating.{AnswersSealed, AnswersSpelled, AnswersUpdate, owner_tag, spelled_by}
 use Rattle.ov_peer.specs.Asks.{Ask, Leads}
 use Rattle.ov_server.specs.Answering.{AnswersOrFails, IsAnswered, IsFaulted, serving_of}
@@ -42,7 +42,7 @@ taken : (c : Catalogue) (epoch : ℕ) (u : SealedUpdate) (a : Answer) → IsMake
 taken c epoch u (answers.Accepted n) ready (none, parts, next) form =
     (n, refl, next ∙ ap (λ x. x + 1) (sym ready.at_epoch), form)
 taken c epoch u (answers.Refused why) ready some form =
-    let none : refusal_shown c (brief u) ≡ None = ready.free in absurd (cc (none, some))
+    let none : refusal_shown c (brief_in c u) ≡ None = ready.free in absurd (cc (none, some))
 taken c epoch u (answers.BadRequest place) ready (none, lacks, at_place) form =
     absurd (lacks ready.parts)
 taken c epoch u a ready is form = absurd is

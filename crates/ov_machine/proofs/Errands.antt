@@ -1,4 +1,4 @@
--- The five errands of an owner, at any store.
+-- The six errands of an owner, at any store.
 use Rattle.std.proofs.Common.{◌≡◌, ◌∙◌, ℕ, Bool, true, false, not, List, length, None, Result, Ok, Err, refl, sym, ap, subst, inl, inr}
 use Rattle.std.specs.Prelude.{◌⊎◌, is_some}
 use Rattle.std.proofs.lemmas.List.{length-map}
@@ -8,10 +8,10 @@ use Rattle.ov_tokens.specs.declared.token.Token.{Token}
 use Rattle.ov_tokens.specs.declared.label.Kind.TheVariants.{Derive}
 use Rattle.ov_graph.specs.Seals.{edge_token}
 use Rattle.ov_record.specs.Updates.{SealedUpdate}
-use Rattle.ov_history.specs.Asking.{refusal_at}
-use Rattle.ov_history.specs.Briefs.{brief}
+use Rattle.ov_history.specs.Asking.{file_named, refusal_at}
 use Rattle.ov_history.specs.Catalogue.{Catalogue, outline}
-use Rattle.ov_history.specs.History.{Created}
+use Rattle.ov_history.specs.History.{Created, Replaced}
+use Rattle.ov_history.specs.Layers.{list_in}
 use Rattle.ov_history.specs.Lists.{set_named}
 use Rattle.ov_history.specs.Masters.{access_key}
 use Rattle.ov_history.specs.Sealed.{HasParts, refusal_shown}
@@ -26,21 +26,21 @@ use Rattle.ov_wire.specs.declared.request.Question.{Question}
 use Rattle.ov_wire.specs.declared.request.Question.TheVariants as questions
 use Rattle.ov_wire.specs.AnswerForm.{HasAnswerForm}
 use Rattle.ov_wire.specs.AnswersTo.{IsAnswer}
-use Rattle.ov_protocol.specs.Serving.{Serving}
+use Rattle.ov_protocol.specs.Serving.{Serving, brief_in}
 use Rattle.ov_protocol.specs.Answers.{Answers}
-use Rattle.ov_protocol.specs.Asking.{AnswersAsk, AnswersCover, known_at, numbers_for, plan_for, refusal_to}
+use Rattle.ov_protocol.specs.Asking.{AnswersAsk, AnswersCover, AnswersReplan, known_at, numbers_for, plan_for, refusal_to}
 use Rattle.ov_peer.specs.Disks.{MayNeedDisk}
-use Rattle.ov_owner.specs.Errands.{Errand, created, creating, enrolling, granting, known_of, plan_of, removing, revoking, sealed_by}
+use Rattle.ov_owner.specs.Errands.{Errand, created, creating, enrolling, granting, known_of, plan_of, removing, replaced, replacing, revoking, sealed_by}
 use Rattle.ov_owner.specs.Steps.{IsErrandFor}
 use Rattle.ov_owner.specs.declared.fault.OwnerFault.{OwnerFault}
 use Rattle.ov_owner.specs.declared.fault.OwnerFault.TheVariants as faults
-use Rattle.ov_owner.proofs.Fitting.{ask_fits, cover_fits}
+use Rattle.ov_owner.proofs.Fitting.{ask_fits, cover_fits, replan_fits}
 
 -- the update is one that a store with this catalogue makes, and is made at its epoch
 pub record IsMakeable (c : Catalogue) (epoch : ℕ) (u : SealedUpdate) : Type 0 where
   pub at_epoch : epoch ≡ c.epoch
-  pub free : refusal_shown c (brief u) ≡ None
-  pub parts : HasParts (outline c) (brief u)
+  pub free : refusal_shown c (brief_in c u) ≡ None
+  pub parts : HasParts (outline c) (brief_in c u)
 
 -- something is sealed of the answer that is made at the store, or the command is refused
 abbrev pub IsTold : Catalogue → Result (ℕ × SealedUpdate) OwnerFault → Type 0
@@ -144,6 +144,40 @@ create_honest base file names bytes = record {
   tells = λ s a. create_tells base file names bytes s.catalogue a;
 }
 
+-- a replacement has the parts of its plan, and its text has the length of the new bytes
+replanned : (c : Catalogue) (base file bytes : List ℕ)
+    → refusal_at c (Replaced (file_named c file) (length bytes)) ≡ None
+    → IsMakeable c c.epoch
+    (replaced base file bytes (plan_for c (list_in (outline c) (file_named c file))))
+replanned c base file bytes none =
+    let plan = plan_for c (list_in (outline c) (file_named c file)) in record {
+      at_epoch = refl;
+      free = ap (λ size. refusal_at c (Replaced (file_named c file) size))
+          (length-xor_pad (access_key base plan.node) 0x42 plan.file 0 bytes) ∙ none;
+      parts = length-map plan.from (λ from. edge_token Derive base from plan.node);
+    }
+
+replace_tells : (base file bytes : List ℕ) (c : Catalogue) (a : Answer)
+    → AnswersReplan c (file_named c file) (length bytes) a
+    → IsTold c (sealed_by (λ (p : Plan). (p.epoch, replaced base file bytes p)) (plan_of a))
+replace_tells base file bytes c (answers.Plan plan) (none, is) =
+    let list = list_in (outline c) (file_named c file) in
+    inr (
+      c.epoch,
+      replaced base file bytes (plan_for c list),
+      ap (λ (x : Plan). Ok (x.epoch, replaced base file bytes x)) is,
+      replanned c base file bytes none,
+    )
+replace_tells base file bytes c (answers.Refused why) is = inl (why, refl)
+replace_tells base file bytes c a is = absurd is
+
+replace_honest : (base file bytes : List ℕ) → IsHonest (replacing base file bytes)
+replace_honest base file bytes = record {
+  quiet = λ none. none;
+  fits = λ s. replan_fits s.catalogue file (length bytes) (file_named s.catalogue file);
+  tells = λ s a. replace_tells base file bytes s.catalogue a;
+}
+
 -- each errand of an owner is such
 pub honest : (base : List ℕ) (command : Command) (e : Errand) → IsErrandFor base command e
     → IsHonest e
@@ -153,4 +187,6 @@ honest base (commands.Create file names bytes) e is =
 honest base (commands.Grant user file) e is = subst IsHonest (sym is) (grant_honest base user file)
 honest base (commands.Revoke user file) e is = subst IsHonest (sym is) (revoke_honest user file)
 honest base (commands.Remove file) e is = subst IsHonest (sym is) (remove_honest file)
+honest base (commands.Replace file bytes) e is =
+    subst IsHonest (sym is) (replace_honest base file bytes)
 honest base command e is = absurd is

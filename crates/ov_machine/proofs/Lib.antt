@@ -5,6 +5,7 @@ pub mod DoneReads
 pub mod Ending
 pub mod Errands
 pub mod Fetching
+pub mod Following
 pub mod KeptLoans
 pub mod Lent
 pub mod LentQuestions

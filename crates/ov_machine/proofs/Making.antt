@@ -22,12 +22,12 @@ use Rattle.ov_protocol.specs.Answers.{Answers}
 use Rattle.ov_protocol.specs.Replies.{Replies}
 use Rattle.ov_peer.specs.Asks.{Ask}
 use Rattle.ov_owner.specs.Alone.{AnsweredAlone}
-use Rattle.ov_owner.specs.Errands.{Errand, creating, enrolling, granting, removing, revoking}
+use Rattle.ov_owner.specs.Errands.{Errand, creating, enrolling, granting, removing, replacing, revoking}
 use Rattle.ov_owner.specs.Steps.{IsErrandFor}
 use Rattle.ov_owner.specs.Talks.{Closes, Goes, IsDue, Stage, Talks, start, update_request}
 use Rattle.ov_owner.specs.declared.fault.OwnerFault.{OwnerFault}
 use Rattle.ov_owner.specs.declared.fault.OwnerFault.TheVariants as faults
-use Rattle.ov_owner.proofs.Doing.{Does, create_does, enrol_does, grant_does, remove_does, revoke_does}
+use Rattle.ov_owner.proofs.Doing.{Does, create_does, enrol_does, grant_does, remove_does, replace_does, revoke_does}
 use Rattle.ov_owner.proofs.Leaving.{IsReady}
 use Rattle.ov_transcript.specs.Transcripts.{Begins, Transcribed, frames, says_refused, service_of}
 use Rattle.ov_transcript.proofs.Cutting.{AreTwoAsks, IsRefusedAsk, one_or_two}
@@ -186,5 +186,10 @@ module _ (k : Masters) (p : PlainHistory) (legal : IsLegal (history_of p)) (asks
       comes_so k (commands.Remove file) (removing file) (remove_does k file) p last_served
       (comes_of k (commands.Remove file) (removing file) (remove_does k file) p legal
       (honest k.base (commands.Remove file) (removing file) refl) (λ why. refl) asks o result w last_served put
+      (subst (λ (x : Errand). Talks k.surface x asks o result) is talks) alone on others begins same)
+  whole_is_made (commands.Replace file bytes) e is talks alone on (others, begins, same) =
+      comes_so k (commands.Replace file bytes) (replacing k.base file bytes) (replace_does k file bytes) p last_served
+      (comes_of k (commands.Replace file bytes) (replacing k.base file bytes) (replace_does k file bytes) p legal
+      (honest k.base (commands.Replace file bytes) (replacing k.base file bytes) refl) (λ why. refl) asks o result w last_served put
       (subst (λ (x : Errand). Talks k.surface x asks o result) is talks) alone on others begins same)
   whole_is_made command e is talks alone on whole = absurd is

@@ -17,16 +17,15 @@ use Rattle.ov_history.specs.Refusals.{IsLegal}
 use Rattle.ov_history.specs.Fading.{faded_of}
 use Rattle.ov_history.specs.Kept.{AreKept}
 use Rattle.ov_history.specs.Sealed.{KeepsBytes, SealedHistory, StandsFor as SealedFor}
-use Rattle.ov_history.specs.Sealed.{stored_all}
 use Rattle.ov_history.specs.Sealing.{IsSealedAs, sealed}
 use Rattle.ov_history.proofs.PlainLaws.{measured_all-append}
 use Rattle.ov_model.specs.Step.{after, step}
-use Rattle.ov_history.proofs.Agreeing.{agreement_goes_on, right_is_sealed, right_keeps, right_shows}
+use Rattle.ov_history.proofs.Agreeing.{right_is_sealed, right_keeps, right_shows}
 use Rattle.ov_model.proofs.Legality.{legal-after}
 use Rattle.ov_wire.specs.Requests.{request_bytes}
 use Rattle.ov_wire.specs.RequestReading.{request_of}
 use Rattle.ov_protocol.specs.Replies.{updates_asked}
-use Rattle.ov_protocol.specs.Serving.{Service, Serving, followed}
+use Rattle.ov_protocol.specs.Serving.{Service, Serving, followed, stored_followed}
 use Rattle.ov_protocol.specs.Updating.{spelled_by}
 use Rattle.ov_protocol.proofs.Untold.{told_still}
 use Rattle.ov_protocol.proofs.Reading.{request_back}
@@ -48,6 +47,7 @@ use Rattle.ov_machine.specs.declared.fault.StepFault.TheVariants.{Disk, Memory, 
 use Rattle.ov_machine.proofs.AsTold.{all_told, as_far_as_told, refused_so, reply_is, sealed_is, serves_as_told, service_at, shows_as_told, stands_as_told, stands_then}
 use Rattle.ov_machine.proofs.Changed.{Changes, IsFailed, IsMade, IsSentTo, cut, refused, sent}
 use Rattle.ov_machine.proofs.Errands.{IsHonest}
+use Rattle.ov_machine.proofs.Following.{right_follows}
 use Rattle.ov_machine.proofs.Making.{ComesTo}
 use Rattle.ov_machine.proofs.Stays.{are_told, fails_same, holds_each, holds_still, if_told}
 use Rattle.ov_machine.proofs.Stays.{quiet_then, serves_still, shows_same}
@@ -152,7 +152,7 @@ module _ {D : Type 0} (tells : DiskTells D) (old new : KeptOn D) (p : PlainHisto
     right_then : (holds : Holds tells k p old.disk)
         → IsSealedAs k (after p command) (followed holds.kept (x.update ∷ []))
     right_then holds =
-        agreement_goes_on holds.kept (sealed k p) x.update holds.right
+        right_follows k p holds.kept x.update holds.right
         ∙ ap (λ (g : SealedHistory). faded_of g) after_is
 
     -- what the request asks for is the update
@@ -202,7 +202,7 @@ module _ {D : Type 0} (tells : DiskTells D) (old new : KeptOn D) (p : PlainHisto
       tells_on : IsSome t.stored
       tells_on =
           ap (λ (y : Serving). is_some y.stored) made.answered.frame.next
-          ∙ told_still (λ bytes. stored_all mid.keys.surface mid.catalogue bytes
+          ∙ told_still (λ bytes. stored_followed mid.keys.surface mid.catalogue bytes
           made.answered.frame.made) mid.stored serves_there.1
 
       stands_so : StandsFor new.kept (after p command)

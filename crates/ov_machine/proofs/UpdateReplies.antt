@@ -13,8 +13,8 @@ use Rattle.ov_history.specs.Plain.{PlainHistory, history_of, with_plain}
 use Rattle.ov_history.specs.Refusals.{IsLegal}
 use Rattle.ov_history.specs.Sealed.{catalogue_of}
 use Rattle.ov_history.specs.Sealing.{sealed, sealed_update}
+use Rattle.ov_history.specs.Sent.{spelled}
 use Rattle.ov_history.proofs.Keeping.{kept_shows, kept_stands_for}
-use Rattle.ov_history.proofs.Sealing.{sealing_goes_on}
 use Rattle.ov_model.specs.Step.{after, step, update_step}
 use Rattle.ov_wire.specs.declared.request.Request.{Request}
 use Rattle.ov_wire.specs.declared.answer.Answer.{Answer}
@@ -37,12 +37,14 @@ use Rattle.ov_owner.specs.declared.fault.OwnerFault.{OwnerFault}
 use Rattle.ov_owner.specs.declared.fault.OwnerFault.TheVariants as faults
 use Rattle.ov_owner.proofs.Doing.{Does}
 use Rattle.ov_owner.proofs.Fitting.{reads_back}
-use Rattle.ov_owner.proofs.Leaving.{IsReady, nothing_due}
+use Rattle.ov_owner.proofs.Leaving.{IsReady, is_spelling, nothing_due}
 use Rattle.ov_owner.proofs.Stepping.{read_back}
+use Rattle.ov_owner.proofs.Telling.{names_after}
 use Rattle.ov_transcript.specs.Transcripts.{frames, service_of}
 use Rattle.ov_transcript.proofs.Refusing.{still_served}
 use Rattle.ov_machine.proofs.Changed.{update_taken}
 use Rattle.ov_machine.proofs.Errands.{IsHonest, IsMakeable}
+use Rattle.ov_machine.proofs.Following.{spelling_goes_on}
 use Rattle.ov_machine.proofs.PutOn.{IsPutOn}
 use Rattle.ov_machine.proofs.Quiet.{says}
 
@@ -66,7 +68,7 @@ module _ (k : Masters) (command : Command) (e : Errand) (d : Does k command e) (
   abbrev pub second : Request
   second =
       update_request k.surface (epoch_of (history_of p))
-      (sealed_update k (layers_of (history_of p)) (d.plain p))
+      (spelled (names_after p) (sealed_update k (layers_of (history_of p)) (d.plain p)))
 
   -- the first reply is the one answer there, and makes nothing
   module _ (form : HasRequestForm e.first) (told : Answer)
@@ -95,7 +97,8 @@ module _ (k : Masters) (command : Command) (e : Errand) (d : Does k command e) (
     pub same_update : second ≡ request
     same_update =
         let at_epoch = ready.at_epoch ∙ (kept_shows k p (catalogue_of k.surface (sealed k p)) (legal, refl)).epoch in
-        λ i. update_request k.surface (sym at_epoch i) (sym ready.is_sealed i)
+        let is = is_spelling k command e d (check_value_of k.base) p legal epoch u ready in
+        λ i. update_request k.surface (sym at_epoch i) (is i)
 
     pub step_is : step p command ≡ (replies.Accepted (epoch_of (history_of p) + 1), with_plain p (d.plain p))
     step_is = d.as_update p ∙ ap (update_step p (d.plain p)) ready.free
@@ -104,8 +107,7 @@ module _ (k : Masters) (command : Command) (e : Errand) (d : Does k command e) (
         → (later here made).history ≡ sealed k (after p command)
     made_history made is =
         ap (followed (sealed k p)) is
-        ∙ ap (λ (x : SealedUpdate). followed (sealed k p) (x ∷ [])) ready.is_sealed
-        ∙ sym (sealing_goes_on k p (d.plain p))
+        ∙ spelling_goes_on k p (d.plain p) u ready.is_sealed
         ∙ ap (λ (r : Reply × PlainHistory). sealed k r.1) (sym step_is)
 
     -- A reply to the update ends the call. It says that the update was made, in five bytes; or it is

@@ -1,6 +1,7 @@
 -- What the program keeps of a history, and what it does to it.
-use Rattle.std.specs.Prelude.{◌≡◌, ◌≢◌, ℕ, List, Bool, Option, None, IfSome, IsSomeAnd}
+use Rattle.std.specs.Prelude.{◌≡◌, ◌≢◌, ◌≤◌, ℕ, List, length, Bool, Option, None, IfSome, IsSomeAnd}
 use Rattle.std.specs.Prelude.{Result, Ok, Err, OnOk}
+use Rattle.ov_base.specs.declared.limits.TheConstants.{MAX_FILE_BYTES}
 use Rattle.ov_disk.specs.Calls.{IsDiskCall}
 use Rattle.ov_disk.specs.Disk.{Image}
 use Rattle.ov_disk.specs.Moments.{LeavesOnly}
@@ -10,21 +11,24 @@ use Rattle.ov_keyfile.specs.KeyFile.{IsKeyFile}
 use Rattle.ov_keyfile.specs.declared.masters.Masters.{Masters as KeyMasters}
 use Rattle.ov_record.specs.Updates.{SealedUpdate}
 use Rattle.ov_script.specs.declared.command.Command.{Command}
-use Rattle.ov_script.specs.declared.command.Command.TheVariants.{Enrol, Create, Grant, Revoke, Remove}
+use Rattle.ov_script.specs.declared.command.Command.TheVariants.{Enrol, Create, Grant, Revoke, Remove, Replace}
 use Rattle.ov_script.specs.declared.command.Command.TheVariants.{Read, List as ListNames}
 use Rattle.ov_script.specs.declared.command.Command.TheVariants.{Epoch as AskEpoch}
 use Rattle.ov_script.specs.declared.reply.Reply.{Reply}
-use Rattle.ov_history.specs.Briefs.{brief}
 use Rattle.ov_history.specs.Catalogue.{Catalogue}
+use Rattle.ov_history.specs.History.{matrix_of}
 use Rattle.ov_history.specs.Kept.{AreKept, IsKept}
 use Rattle.ov_history.specs.Layers.{layers_of}
+use Rattle.ov_history.specs.Lists.{file_names}
 use Rattle.ov_history.specs.Masters.{Masters}
 use Rattle.ov_history.specs.Plain.{PlainHistory, PlainUpdate, history_of, measured}
 use Rattle.ov_history.specs.Refusals.{refusal_of}
 use Rattle.ov_history.specs.Sealed.{refusal_shown}
 use Rattle.ov_history.specs.Sealing.{sealed_update}
+use Rattle.ov_history.specs.Sent.{numbered}
 use Rattle.ov_model.specs.Step.{reply_to, after, step, update}
 use Rattle.ov_owner.specs.Errands.{IsCreation}
+use Rattle.ov_protocol.specs.Serving.{brief_in}
 use Rattle.ov_store.specs.Opened.{Opened}
 use Rattle.ov_machine.specs.Disks.{Holds, KeepsStep}
 use Rattle.ov_machine.specs.declared.fault.BadTag.{BadTag}
@@ -74,14 +78,15 @@ abbrev pub StandsAsTold : Kept → PlainHistory → Type 0
 StandsAsTold kept p =
     IsKept kept.masters p kept.catalogue × IfSome kept.stored (AreKept kept.masters p)
 
--- a command that may come: the bytes of a creation are a file's, and its list is one that an owner
--- takes
+-- a command that may come: the bytes of a creation or a replacement are a file's, and the list of a
+-- creation is one that an owner takes
 abbrev pub IsCommand : Command → Type 0
 IsCommand (Enrol user) = Unit {0}
 IsCommand (Create file list bytes) = IsCreation list bytes
 IsCommand (Grant user file) = Unit {0}
 IsCommand (Revoke user file) = Unit {0}
 IsCommand (Remove file) = Unit {0}
+IsCommand (Replace file bytes) = length bytes ≤ MAX_FILE_BYTES
 IsCommand (Read user file) = Unit {0}
 IsCommand (ListNames file) = Unit {0}
 IsCommand AskEpoch = Unit {0}
@@ -102,16 +107,17 @@ Replies old command reply =
     → (reply ≡ reply_to p command) × (after p command ≡ p)
 
 -- The command asks at this history for a plain update. What is kept refuses the sent one as the
--- history refuses the plain one, and where it doesn't, the sent one is the plain one as its owner
+-- history refuses the plain one, and where it doesn't, the sent one spells the plain one as its owner
 -- seals it.
 pub record IsSentAt (old : Kept) (p : PlainHistory) (command : Command) (sent : SealedUpdate)
     : Type 0 where
   pub plain : PlainUpdate
   pub asked : step p command ≡ update p plain
-  pub refused : refusal_shown old.catalogue (brief sent)
+  pub refused : refusal_shown old.catalogue (brief_in old.catalogue sent)
       ≡ refusal_of (history_of p) (measured plain)
   pub sealed : refusal_of (history_of p) (measured plain) ≡ None
-      → sent ≡ sealed_update old.masters (layers_of (history_of p)) plain
+      → numbered (file_names (matrix_of (history_of p)).files) sent
+      ≡ sealed_update old.masters (layers_of (history_of p)) plain
 
 -- at whatever history is kept, the sent update is the one that the command asks for
 abbrev pub Sends : Kept → Command → SealedUpdate → Type 0

@@ -60,6 +60,10 @@ fn change_of(command: &Command) -> Option<Change<'_>>
             list,
             bytes: bytes.as_slice(),
         }),
+        Command::Replace { file, bytes } => Some(Change::Replace {
+            file,
+            bytes: bytes.as_slice(),
+        }),
         Command::Grant { user, file } => Some(Change::Grant { user, file }),
         Command::Revoke { user, file } => Some(Change::Revoke { user, file }),
         Command::Remove { file } => Some(Change::Remove { file }),

@@ -85,7 +85,8 @@ impl<D: Disk> Machine<D> {
             }
             | Command::Grant { user: _, file: _ }
             | Command::Revoke { user: _, file: _ }
-            | Command::Remove { file: _ } => unreachable!(),
+            | Command::Remove { file: _ }
+            | Command::Replace { file: _, bytes: _ } => unreachable!(),
         }
     }
 }

@@ -123,6 +123,13 @@ creation_alike =
     (then_alike _ _ (wire_reading.tokens_at MAX_USERS) (counted_at MAX_USERS token_at)
     (then_alike name_at name_at (bytes_at SET_BYTES) (set_at SET_BYTES) (same name_at) set_alike) tokens_alike) (same (bytes_at 32))) (same (sized_at MAX_FILE_BYTES))
 
+replacement_alike : AreAlike wire_reading.replacement_at (record_reading.replacement_at second_form)
+replacement_alike =
+    then_alike _ _ (sized_at MAX_FILE_BYTES) (sized_at MAX_FILE_BYTES)
+    (then_alike _ _ (bytes_at 32) (bytes_at 32)
+    (then_alike name_at name_at (wire_reading.tokens_at MAX_USERS) (counted_at MAX_USERS token_at) (same name_at) tokens_alike) (same (bytes_at 32)))
+    (same (sized_at MAX_FILE_BYTES))
+
 grant_alike : AreAlike wire_reading.grant_at record_reading.grant_at
 grant_alike = then_alike _ _ (optional_at (bytes_at 32)) (optional_at token_at) (same wire_reading.revocation_at) token_alike
 
@@ -140,7 +147,10 @@ updates_alike (suc (suc (suc (suc zero))) ∷ bytes) =
 updates_alike (suc (suc (suc (suc (suc zero)))) ∷ bytes) = refl
 updates_alike (suc (suc (suc (suc (suc (suc zero))))) ∷ bytes) =
     rest-made wire_reading.Removal (number_at w32 bytes) ∙ sym (rest-made SealedRemove (number_at w32 bytes))
-updates_alike (suc (suc (suc (suc (suc (suc (suc kind)))))) ∷ bytes) = refl
+updates_alike (suc (suc (suc (suc (suc (suc (suc zero)))))) ∷ bytes) =
+    rest-made wire_reading.replacement (wire_reading.replacement_at bytes) ∙ replacement_alike bytes
+    ∙ sym (rest-made record_reading.replacement (record_reading.replacement_at second_form bytes))
+updates_alike (suc (suc (suc (suc (suc (suc (suc (suc kind))))))) ∷ bytes) = refl
 
 -- the span depends on what is left alone
 abbrev span_to : List ℕ → Rest → Read (List ℕ)

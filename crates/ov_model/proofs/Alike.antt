@@ -5,7 +5,7 @@ use Rattle.ov_base.specs.declared.refusal.Refusal.{Refusal}
 use Rattle.ov_base.specs.declared.refusal.Refusal.TheVariants.{NoFile, NoPath, NoUser}
 use Rattle.ov_script.specs.Lines.{reply_line}
 use Rattle.ov_script.specs.declared.command.Command.TheVariants.{Enrol, Create, Grant, Revoke}
-use Rattle.ov_script.specs.declared.command.Command.TheVariants.{Remove, Read, List as ListNames}
+use Rattle.ov_script.specs.declared.command.Command.TheVariants.{Remove, Replace, Read, List as ListNames}
 use Rattle.ov_script.specs.declared.command.Command.TheVariants.{Epoch as AskEpoch}
 use Rattle.ov_script.specs.declared.reply.Reply.{Reply}
 use Rattle.ov_script.specs.declared.reply.Reply.TheVariants.{Accepted, Bytes, Epoch as EpochIs}
@@ -17,7 +17,7 @@ use Rattle.ov_history.specs.Layers.{layers_of}
 use Rattle.ov_history.specs.Lists.{file_number, is_file, is_listed, is_user, set_named, user_number}
 use Rattle.ov_history.specs.Masters.{Masters}
 use Rattle.ov_history.specs.Plain.{PlainCreate, PlainEnrol, PlainGrant, PlainHistory, PlainRemove}
-use Rattle.ov_history.specs.Plain.{PlainRevoke, PlainUpdate, history_of, measured}
+use Rattle.ov_history.specs.Plain.{PlainReplace, PlainRevoke, PlainUpdate, history_of, measured}
 use Rattle.ov_history.specs.Refusals.{first_of_tests, list_refusal, read_refusal, refusal_of}
 use Rattle.ov_history.specs.Sealed.{SealedHistory, with_sealed}
 use Rattle.ov_history.specs.Sealing.{IsSealedAs, sealed, sealed_update}
@@ -136,6 +136,9 @@ right_histories_step_alike k p q g next (Revoke user file) one two =
     (replied_alike k p q g one two named, goes_alike k p q g one two named next)
 right_histories_step_alike k p q g next (Remove file) one two =
     let named : Matrix → PlainUpdate = λ m. PlainRemove (file_number m file) in
+    (replied_alike k p q g one two named, goes_alike k p q g one two named next)
+right_histories_step_alike k p q g next (Replace file bytes) one two =
+    let named : Matrix → PlainUpdate = λ m. PlainReplace (file_number m file) bytes in
     (replied_alike k p q g one two named, goes_alike k p q g one two named next)
 right_histories_step_alike k p q g next (Read user file) one two =
     (read_alike k p q g one two user file, λ right. right ∙ agree k p q g one two)

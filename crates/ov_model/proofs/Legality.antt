@@ -2,9 +2,9 @@
 use Rattle.std.proofs.Common.{◌≡◌, List, [], ◌∷◌, refl, sym, ◌∙◌, subst, Option, Some, None}
 use Rattle.ov_base.specs.declared.refusal.Refusal.{Refusal}
 use Rattle.ov_script.specs.declared.command.Command.{Command}
-use Rattle.ov_script.specs.declared.command.Command.TheVariants.{Enrol, Create, Grant, Revoke, Remove, Read, List as ListNames, Epoch as AskEpoch}
+use Rattle.ov_script.specs.declared.command.Command.TheVariants.{Enrol, Create, Grant, Revoke, Remove, Replace, Read, List as ListNames, Epoch as AskEpoch}
 use Rattle.ov_history.specs.History.{History, matrix_of}
-use Rattle.ov_history.specs.Plain.{PlainUpdate, PlainEnrol, PlainCreate, PlainGrant, PlainRevoke, PlainRemove, PlainHistory, history_of, measured}
+use Rattle.ov_history.specs.Plain.{PlainUpdate, PlainEnrol, PlainCreate, PlainGrant, PlainRevoke, PlainRemove, PlainReplace, PlainHistory, history_of, measured}
 use Rattle.ov_history.specs.Lists.{user_number, file_number, set_named}
 use Rattle.ov_history.specs.Refusals.{IsLegal, refusal_of}
 use Rattle.ov_history.proofs.Keeping.{legal-push}
@@ -37,6 +37,9 @@ legal-after h (Revoke user file) legal =
     legal-update h u (refusal_of (history_of h) (measured u)) refl legal
 legal-after h (Remove file) legal =
     let u : PlainUpdate = PlainRemove (file_number (matrix_of (history_of h)) file) in
+    legal-update h u (refusal_of (history_of h) (measured u)) refl legal
+legal-after h (Replace file bytes) legal =
+    let u : PlainUpdate = PlainReplace (file_number (matrix_of (history_of h)) file) bytes in
     legal-update h u (refusal_of (history_of h) (measured u)) refl legal
 legal-after h (Read user file) legal = (legal, refl)
 legal-after h (ListNames file) legal = (legal, refl)

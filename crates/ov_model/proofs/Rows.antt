@@ -4,7 +4,7 @@ use Rattle.std.specs.Prelude.{codes}
 use Rattle.std.specs.Fmt.{digits}
 use Rattle.ov_base.specs.declared.mode.Mode.TheVariants.{Full, Delta}
 use Rattle.ov_script.specs.declared.command.Command.{Command}
-use Rattle.ov_script.specs.declared.command.Command.TheVariants.{Enrol, Create, Grant, Revoke, Remove, Read, List as ListNames, Epoch as AskEpoch}
+use Rattle.ov_script.specs.declared.command.Command.TheVariants.{Enrol, Create, Grant, Revoke, Remove, Replace, Read, List as ListNames, Epoch as AskEpoch}
 use Rattle.ov_history.specs.History.{epoch_of}
 use Rattle.ov_history.specs.Plain.{empty_plain, history_of}
 use Rattle.ov_model.specs.Lines.{lines}
@@ -96,3 +96,26 @@ removed_in_full = refl
 removed_in_delta : lines (empty_plain Delta 0) removal ≡ removal_lines
 unfolding digits
 removed_in_delta = refl
+
+-- a file that is replaced, which all in its list read, and which is then removed
+abbrev replacement : List Command
+replacement =
+    Enrol (codes "a") ∷ Enrol (codes "b") ∷ Create (codes "f") (codes "a" ∷ []) (codes "x1")
+    ∷ Grant (codes "b") (codes "f") ∷ Replace (codes "f") (codes "abc")
+    ∷ Replace (codes "g") (codes "abc") ∷ Read (codes "b") (codes "f") ∷ Remove (codes "f")
+    ∷ Read (codes "a") (codes "f") ∷ Create (codes "f") (codes "b" ∷ []) [] ∷ AskEpoch ∷ []
+
+abbrev replacement_lines : List ℕ
+replacement_lines =
+    line (codes "ok 1") ++ line (codes "ok 2") ++ line (codes "ok 3") ++ line (codes "ok 4")
+    ++ line (codes "ok 5") ++ line (codes "refused 3 NoFile") ++ line (codes "data b f 3")
+    ++ line (codes "abc") ++ line (codes "ok 6") ++ line (codes "refused 3 NoFile")
+    ++ line (codes "ok 7") ++ line (codes "epoch 7")
+
+replaced_in_full : lines (empty_plain Full 0) replacement ≡ replacement_lines
+unfolding digits
+replaced_in_full = refl
+
+replaced_in_delta : lines (empty_plain Delta 0) replacement ≡ replacement_lines
+unfolding digits
+replaced_in_delta = refl

@@ -6,10 +6,10 @@ use Rattle.ov_base.proofs.SetBytes.{length-bytes_of}
 use Rattle.ov_base.specs.declared.limits.TheConstants.{SET_BYTES}
 use Rattle.ov_tokens.specs.declared.token.Token.{Token}
 use Rattle.ov_fields.specs.Spelling.{u16, name_field, token_field, sized, IsToken}
-use Rattle.ov_record.specs.Updates.{SealedUpdate, SealedEnrol, SealedCreate, SealedGrant, SealedRevoke, SealedRemove}
+use Rattle.ov_record.specs.Updates.{SealedUpdate, SealedEnrol, SealedCreate, SealedGrant, SealedRevoke, SealedRemove, SealedReplace}
 use Rattle.ov_record.specs.Spelling.{spelling, HasForm}
 use Rattle.ov_record.specs.Forms.{second_form}
-use Rattle.ov_wire.specs.Updates.{Enrolment, Creation, Grant, Revocation, Removal, IsSpelling}
+use Rattle.ov_wire.specs.Updates.{Enrolment, Creation, Grant, Revocation, Removal, Replacement, IsSpelling}
 
 tokens_len : (tokens : List Token) → AllByRecursion IsToken tokens → length (flat_map token_field tokens) ≡ 32 * length tokens
 tokens_len [] all = refl
@@ -35,3 +35,11 @@ is_spelling (SealedGrant user file None) fits = record { fields = Grant user fil
 is_spelling (SealedGrant user file (Some token)) fits = record { fields = Grant user file (Some token.bytes); form = fits; spelled = refl }
 is_spelling (SealedRevoke user file) fits = record { fields = Revocation user file; form = fits; spelled = refl }
 is_spelling (SealedRemove file) fits = record { fields = Removal file; form = fits.1; spelled = refl }
+is_spelling (SealedReplace name tokens tag bytes) fits =
+    let len = tokens_len tokens fits.3 in
+    let count : length (flat_map token_field tokens) / 32 ≡ length tokens = blocks (length (flat_map token_field tokens)) (length tokens) len in
+    record {
+      fields = Replacement name (flat_map token_field tokens) tag bytes;
+      form = (fits.1, (omega (arith, len, count), omega (arith, count, fits.2)), fits.4, fits.5);
+      spelled = ap (λ (n : ℕ). 7 ∷ name_field name ++ (u16 n ++ flat_map token_field tokens) ++ tag ++ sized bytes) (sym count);
+    }

@@ -2,10 +2,10 @@
 use Rattle.std.proofs.Common.{◌≡◌, ℕ, ◌+◌, List, [], ◌∷◌, ◌++◌, length, refl, sym, arith, ◌∙◌, Option, Some, None}
 use Rattle.ov_base.specs.declared.refusal.Refusal.{Refusal}
 use Rattle.ov_script.specs.declared.command.Command.{Command}
-use Rattle.ov_script.specs.declared.command.Command.TheVariants.{Enrol, Create, Grant, Revoke, Remove, Read, List as ListNames, Epoch as AskEpoch}
+use Rattle.ov_script.specs.declared.command.Command.TheVariants.{Enrol, Create, Grant, Revoke, Remove, Replace, Read, List as ListNames, Epoch as AskEpoch}
 use Rattle.ov_script.specs.declared.reply.Reply.TheVariants.{Accepted, Bytes, List as Listed, Refused}
 use Rattle.ov_history.specs.History.{Matrix, matrix_of, epoch_of}
-use Rattle.ov_history.specs.Plain.{PlainUpdate, PlainEnrol, PlainCreate, PlainGrant, PlainRevoke, PlainRemove, PlainHistory, history_of, measured, measured_all, with_plain}
+use Rattle.ov_history.specs.Plain.{PlainUpdate, PlainEnrol, PlainCreate, PlainGrant, PlainRevoke, PlainRemove, PlainReplace, PlainHistory, history_of, measured, measured_all, with_plain}
 use Rattle.ov_history.specs.Lists.{user_number, file_number, set_named}
 use Rattle.ov_history.specs.Refusals.{refusal_of, read_refusal, list_refusal}
 use Rattle.ov_model.specs.Step.{update_step, reply_or, reply_to, after}
@@ -50,6 +50,8 @@ a_refusal_changes_nothing h (Revoke user file) why e =
     let u : PlainUpdate = PlainRevoke (user_number (matrix_of (history_of h)) user) (file_number (matrix_of (history_of h)) file) in refused h u (refusal_of (history_of h) (measured u)) why e
 a_refusal_changes_nothing h (Remove file) why e =
     let u : PlainUpdate = PlainRemove (file_number (matrix_of (history_of h)) file) in refused h u (refusal_of (history_of h) (measured u)) why e
+a_refusal_changes_nothing h (Replace file bytes) why e =
+    let u : PlainUpdate = PlainReplace (file_number (matrix_of (history_of h)) file) bytes in refused h u (refusal_of (history_of h) (measured u)) why e
 a_refusal_changes_nothing h (Read user file) why e = refl
 a_refusal_changes_nothing h (ListNames file) why e = refl
 a_refusal_changes_nothing h AskEpoch why e = refl
@@ -65,6 +67,8 @@ an_update_raises_the_epoch h (Revoke user file) epoch e =
     let u : PlainUpdate = PlainRevoke (user_number (matrix_of (history_of h)) user) (file_number (matrix_of (history_of h)) file) in accepted h u (refusal_of (history_of h) (measured u)) epoch e
 an_update_raises_the_epoch h (Remove file) epoch e =
     let u : PlainUpdate = PlainRemove (file_number (matrix_of (history_of h)) file) in accepted h u (refusal_of (history_of h) (measured u)) epoch e
+an_update_raises_the_epoch h (Replace file bytes) epoch e =
+    let u : PlainUpdate = PlainReplace (file_number (matrix_of (history_of h)) file) bytes in accepted h u (refusal_of (history_of h) (measured u)) epoch e
 an_update_raises_the_epoch h (Read user file) epoch e =
     let m : Matrix = matrix_of (history_of h) in
     absurd (not_bytes user file _ (read_refusal m (user_number m user) (file_number m file)) epoch e)
@@ -87,6 +91,8 @@ first-after h (Revoke user file) =
     let u : PlainUpdate = PlainRevoke (user_number (matrix_of (history_of h)) user) (file_number (matrix_of (history_of h)) file) in first-update h u (refusal_of (history_of h) (measured u))
 first-after h (Remove file) =
     let u : PlainUpdate = PlainRemove (file_number (matrix_of (history_of h)) file) in first-update h u (refusal_of (history_of h) (measured u))
+first-after h (Replace file bytes) =
+    let u : PlainUpdate = PlainReplace (file_number (matrix_of (history_of h)) file) bytes in first-update h u (refusal_of (history_of h) (measured u))
 first-after h (Read user file) = refl
 first-after h (ListNames file) = refl
 first-after h AskEpoch = refl

@@ -2,11 +2,11 @@
 use Rattle.std.specs.Prelude.{ℕ, ◌+◌, List, [], ◌∷◌, Option, Some, None}
 use Rattle.ov_base.specs.declared.refusal.Refusal.{Refusal}
 use Rattle.ov_script.specs.declared.command.Command.{Command}
-use Rattle.ov_script.specs.declared.command.Command.TheVariants.{Enrol, Create, Grant, Revoke, Remove, Read, List as ListNames, Epoch as AskEpoch}
+use Rattle.ov_script.specs.declared.command.Command.TheVariants.{Enrol, Create, Grant, Revoke, Remove, Replace, Read, List as ListNames, Epoch as AskEpoch}
 use Rattle.ov_script.specs.declared.reply.Reply.{Reply}
 use Rattle.ov_script.specs.declared.reply.Reply.TheVariants.{Accepted, Bytes, List as Listed, Epoch as EpochIs, Refused}
 use Rattle.ov_history.specs.History.{Matrix, matrix_of, epoch_of}
-use Rattle.ov_history.specs.Plain.{PlainUpdate, PlainEnrol, PlainCreate, PlainGrant, PlainRevoke, PlainRemove, PlainHistory, bytes_of, history_of, measured, with_plain}
+use Rattle.ov_history.specs.Plain.{PlainUpdate, PlainEnrol, PlainCreate, PlainGrant, PlainRevoke, PlainRemove, PlainReplace, PlainHistory, bytes_of, history_of, measured, with_plain}
 use Rattle.ov_history.specs.Lists.{user_number, file_number, file_at, names_in, set_named}
 use Rattle.ov_history.specs.Refusals.{refusal_of, read_refusal, list_refusal}
 
@@ -40,6 +40,7 @@ step_at m h (Create file list bytes) = update h (PlainCreate file (set_named m.u
 step_at m h (Grant user file) = update h (PlainGrant (user_number m user) (file_number m file))
 step_at m h (Revoke user file) = update h (PlainRevoke (user_number m user) (file_number m file))
 step_at m h (Remove file) = update h (PlainRemove (file_number m file))
+step_at m h (Replace file bytes) = update h (PlainReplace (file_number m file) bytes)
 step_at m h (Read user file) = (
   reply_or (bytes_reply h user file (file_number m file))
       (read_refusal m (user_number m user) (file_number m file)),

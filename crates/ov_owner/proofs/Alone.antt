@@ -115,7 +115,7 @@ pub key_plain : (user : List ℕ) → HasRequestForm (requests.Ask (questions.Ke
 key_plain user form = record {
   form = form;
   quiet = λ x. x;
-  fits = λ s. ask_fits s.catalogue (questions.Key user);
+  fits = λ s. ask_fits s.catalogue (questions.Key user) tt;
 }
 
 -- the call was cut off

@@ -10,22 +10,23 @@ use Rattle.ov_history.specs.Catalogue.{Catalogue}
 use Rattle.ov_history.specs.History.{Matrix, matrix_of}
 use Rattle.ov_history.specs.Lists.{file_number, set_named, user_number}
 use Rattle.ov_history.specs.Masters.{Masters}
-use Rattle.ov_history.specs.Plain.{PlainCreate, PlainEnrol, PlainGrant, PlainHistory, PlainRemove, PlainRevoke, PlainUpdate, history_of, measured}
+use Rattle.ov_history.specs.Plain.{PlainCreate, PlainEnrol, PlainGrant, PlainHistory, PlainRemove, PlainReplace, PlainRevoke, PlainUpdate, history_of, measured}
 use Rattle.ov_history.specs.Sealed.{catalogue_of}
 use Rattle.ov_history.specs.Sealing.{sealed}
+use Rattle.ov_history.specs.Sent.{SealedUpdate as NumberedUpdate, numbered}
 use Rattle.ov_wire.specs.declared.answer.Known.{Known}
 use Rattle.ov_wire.specs.declared.answer.Plan.{Plan}
 use Rattle.ov_wire.specs.declared.answer.Answer.{Answer}
 use Rattle.ov_wire.specs.declared.answer.Answer.TheVariants as answers
 use Rattle.ov_wire.specs.declared.request.Question.{Question}
 use Rattle.ov_wire.specs.declared.request.Question.TheVariants as questions
-use Rattle.ov_protocol.specs.Asking.{AnswersAsk, AnswersCover, known_at, numbers_for, refusal_to}
-use Rattle.ov_owner.specs.Errands.{Errand, created, creating, enrolling, granting, known_of, removing, revoking, sealed_by}
+use Rattle.ov_protocol.specs.Asking.{AnswersAsk, AnswersCover, AnswersReplan, known_at, numbers_for, refusal_to}
+use Rattle.ov_owner.specs.Errands.{Errand, created, creating, enrolling, granting, known_of, removing, replaced, replacing, revoking, sealed_by}
 use Rattle.ov_owner.specs.Steps.{IsErrandFor}
 use Rattle.ov_owner.specs.declared.fault.OwnerFault.TheVariants as faults
-use Rattle.ov_owner.proofs.Telling.{Makes, created_as, granted_as, known_by, known_refused, plan_by, plan_refused, refused_as, sealed_as}
+use Rattle.ov_owner.proofs.Telling.{Makes, created_as, granted_as, known_by, known_refused, names_after, plan_by, plan_refused, refused_as, replaced_as, sealed_as}
 
--- ---- the five errands
+-- ---- the six errands
 
 abbrev pub enrol_named : List ℕ → Matrix → PlainUpdate
 enrol_named user m = PlainEnrol user
@@ -41,6 +42,9 @@ revoke_named user file m = PlainRevoke (user_number m user) (file_number m file)
 
 abbrev pub remove_named : List ℕ → Matrix → PlainUpdate
 remove_named file m = PlainRemove (file_number m file)
+
+abbrev pub replace_named : List ℕ → List ℕ → Matrix → PlainUpdate
+replace_named file bytes m = PlainReplace (file_number m file) bytes
 
 abbrev pub named_at : (Matrix → PlainUpdate) → PlainHistory → PlainUpdate
 named_at named p = named (matrix_of (history_of p))
@@ -66,15 +70,16 @@ asked_refused c question a seal why answered is =
 abbrev first : ℕ × SealedUpdate → ℕ
 first told = told.0
 
-abbrev second : ℕ × SealedUpdate → SealedUpdate
-second told = told.1
+-- the update that is told, in a store whose files have these names by number
+abbrev second : List (List ℕ) → ℕ × SealedUpdate → NumberedUpdate
+second names told = numbered names told.1
 
 pub enrolling_makes : (k : Masters) (user : List ℕ) → Makes k (enrolling user) (named_at (enrol_named user))
 enrolling_makes k user = record {
   told = λ base_check p a epoch u legal answered is.
       let (same, none) = asked_known (catalogue_of k.surface (sealed k p)) (questions.Enrol user) a _ (epoch, u) answered is in (
         ap first same,
-        ap second same,
+        ap (second (names_after p)) same,
         sym (refused_as k p legal (λ m. measured (PlainEnrol user))) ∙ none,
       );
   refused = λ base_check p a why legal answered is.
@@ -91,7 +96,8 @@ granting_makes k user file = record {
       let c = catalogue_of k.surface (sealed k p) in
       let (same, none) = asked_known c (questions.Grant user file) a _ (epoch, u) answered is in (
         ap first same,
-        ap second same ∙ granted_as k p legal (user_named c user) (file_named c file)
+        ap (second (names_after p)) same
+            ∙ granted_as k p legal (names_after p) (user_named c user) (file_named c file)
             ∙ sealed_as k p legal (grant_named user file),
         sym (refused_as k p legal (λ m. measured (grant_named user file m))) ∙ none,
       );
@@ -110,7 +116,7 @@ revoking_makes k user file = record {
       let c = catalogue_of k.surface (sealed k p) in
       let (same, none) = asked_known c (questions.Revoke user file) a _ (epoch, u) answered is in (
         ap first same,
-        ap second same ∙ sealed_as k p legal (revoke_named user file),
+        ap (second (names_after p)) same ∙ sealed_as k p legal (revoke_named user file),
         sym (refused_as k p legal (λ m. measured (revoke_named user file m))) ∙ none,
       );
   refused = λ base_check p a why legal answered is.
@@ -127,7 +133,7 @@ removing_makes k file = record {
       let c = catalogue_of k.surface (sealed k p) in
       let (same, none) = asked_known c (questions.Remove file) a _ (epoch, u) answered is in (
         ap first same,
-        ap second same ∙ sealed_as k p legal (remove_named file),
+        ap (second (names_after p)) same ∙ sealed_as k p legal (remove_named file),
         sym (refused_as k p legal (λ m. measured (remove_named file m))) ∙ none,
       );
   refused = λ base_check p a why legal answered is.
@@ -148,7 +154,9 @@ creating_makes k file names bytes = record {
       let so : AnswersCover c file (length bytes) list (answers.Plan plan) =
       subst (AnswersCover c file (length bytes) list) as_plan answered in (
         ap first same ∙ ap (λ (x : Plan). x.epoch) so.1,
-        ap second same ∙ ap (created k.base file bytes) so.1 ∙ created_as k p legal file list bytes
+        ap (second (names_after p)) same
+            ∙ ap (λ (x : Plan). numbered (names_after p) (created k.base file bytes x)) so.1
+            ∙ created_as k p legal (names_after p) file list bytes
             ∙ sealed_as k p legal (create_named file names bytes),
         sym (refused_as k p legal (λ m. measured (create_named file names bytes m))) ∙ so.0,
       );
@@ -159,6 +167,33 @@ creating_makes k file names bytes = record {
       let so : AnswersCover c file (length bytes) list (answers.Refused why) =
       subst (AnswersCover c file (length bytes) list) same answered in
       (same, sym (refused_as k p legal (λ m. measured (create_named file names bytes m))) ∙ so);
+  no_disk = refl;
+  no_update = refl;
+}
+
+pub replacing_makes : (k : Masters) (file bytes : List ℕ)
+    → Makes k (replacing k.base file bytes) (named_at (replace_named file bytes))
+replacing_makes k file bytes = record {
+  told = λ base_check p a epoch u legal answered is.
+      let c = catalogue_of k.surface (sealed k p) in
+      let n = file_named c file in
+      let (plan, as_plan, same) = plan_by a _ (epoch, u) is in
+      let so : AnswersReplan c n (length bytes) (answers.Plan plan) =
+      subst (AnswersReplan c n (length bytes)) as_plan answered in (
+        ap first same ∙ ap (λ (x : Plan). x.epoch) so.1,
+        ap (second (names_after p)) same
+            ∙ ap (λ (x : Plan). numbered (names_after p) (replaced k.base file bytes x)) so.1
+            ∙ replaced_as k p legal file bytes
+            ∙ sealed_as k p legal (replace_named file bytes),
+        sym (refused_as k p legal (λ m. measured (replace_named file bytes m))) ∙ so.0,
+      );
+  refused = λ base_check p a why legal answered is.
+      let c = catalogue_of k.surface (sealed k p) in
+      let n = file_named c file in
+      let same = plan_refused a _ why is in
+      let so : AnswersReplan c n (length bytes) (answers.Refused why) =
+      subst (AnswersReplan c n (length bytes)) same answered in
+      (same, sym (refused_as k p legal (λ m. measured (replace_named file bytes m))) ∙ so);
   no_disk = refl;
   no_update = refl;
 }
@@ -209,6 +244,14 @@ remove_does k file = record {
   as_update = λ p. refl;
 }
 
+abbrev pub replace_does : (k : Masters) (file bytes : List ℕ)
+    → Does k (commands.Replace file bytes) (replacing k.base file bytes)
+replace_does k file bytes = record {
+  plain = named_at (replace_named file bytes);
+  makes = replacing_makes k file bytes;
+  as_update = λ p. refl;
+}
+
 pub does : (k : Masters) (command : Command) (e : Errand) → IsErrandFor k.base command e
     → Does k command e
 does k (commands.Enrol user) e is = subst (Does k (commands.Enrol user)) (sym is) (enrol_does k user)
@@ -219,4 +262,6 @@ does k (commands.Grant user file) e is =
 does k (commands.Revoke user file) e is =
     subst (Does k (commands.Revoke user file)) (sym is) (revoke_does k user file)
 does k (commands.Remove file) e is = subst (Does k (commands.Remove file)) (sym is) (remove_does k file)
+does k (commands.Replace file bytes) e is =
+    subst (Does k (commands.Replace file bytes)) (sym is) (replace_does k file bytes)
 does k command e is = absurd is

@@ -76,6 +76,8 @@ errand_other (commands.Remove file) base e a is =
     subst (λ (x : Errand). IsOtherSealed (x.sealed a)) (sym is) (known_other _ a)
 errand_other (commands.Create file names bytes) base e a is =
     subst (λ (x : Errand). IsOtherSealed (x.sealed a)) (sym is) (plan_other _ a)
+errand_other (commands.Replace file bytes) base e a is =
+    subst (λ (x : Errand). IsOtherSealed (x.sealed a)) (sym is) (plan_other _ a)
 errand_other command base e a is = absurd is
 
 sends_other : (b : Bool) (tries : List ℕ) (epoch : ℕ) (u : SealedUpdate)

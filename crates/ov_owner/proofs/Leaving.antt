@@ -9,8 +9,9 @@ use Rattle.ov_history.specs.Layers.{layers_of}
 use Rattle.ov_history.specs.Masters.{Masters}
 use Rattle.ov_history.specs.Plain.{PlainHistory, history_of, measured, with_plain}
 use Rattle.ov_history.specs.Refusals.{IsLegal, refusal_of}
-use Rattle.ov_history.specs.Sealed.{SealedHistory, catalogue_of, with_sealed}
+use Rattle.ov_history.specs.Sealed.{SealedHistory, catalogue_of, file_names_of, with_sealed, with_spelled}
 use Rattle.ov_history.specs.Sealing.{IsSealedAs, sealed, sealed_update}
+use Rattle.ov_history.specs.Sent.{SealedUpdate as NumberedUpdate, numbered, spelled}
 use Rattle.ov_model.specs.Step.{step, update_step}
 use Rattle.ov_history.proofs.Agreeing.{right_goes_on}
 use Rattle.ov_wire.specs.declared.answer.Answer.{Answer}
@@ -24,10 +25,10 @@ use Rattle.ov_owner.specs.Laws.{OneUpdateAtMost}
 use Rattle.ov_owner.specs.Steps.{IsErrandFor}
 use Rattle.ov_owner.specs.Talks.{Asks, Ends, IsAfter, IsDue, Moves, Sends, Stage, Talks, update_request}
 use Rattle.ov_owner.specs.declared.fault.OwnerFault.{OwnerFault}
-use Rattle.ov_owner.proofs.Agreeing.{answers_alike}
+use Rattle.ov_owner.proofs.Agreeing.{answers_alike, right_names}
 use Rattle.ov_owner.proofs.Doing.{Does, does}
 use Rattle.ov_owner.proofs.Making.{Stands, first_due, leaves_so, none_due, one_ask as any_ask, update_due}
-use Rattle.ov_owner.proofs.Telling.{under}
+use Rattle.ov_owner.proofs.Telling.{names_after, spelled_as, under}
 
 -- ---- any history
 
@@ -52,8 +53,14 @@ module _ (k : Masters) (command : Command) (e : Errand) (d : Does k command e) (
   -- the update was sealed of an answer at this history, which doesn't refuse it
   pub record IsReady (epoch : ℕ) (u : SealedUpdate) : Type 0 where
     pub at_epoch : epoch ≡ (catalogue_of k.surface (sealed k p)).epoch
-    pub is_sealed : u ≡ sealed_update k (layers_of (history_of p)) (d.plain p)
+    pub is_sealed : numbered (names_after p) u
+        ≡ sealed_update k (layers_of (history_of p)) (d.plain p)
     pub free : refusal_of (history_of p) (measured (d.plain p)) ≡ None
+
+  -- the update is the spelling of what the owner seals at this history
+  pub is_spelling : (epoch : ℕ) (u : SealedUpdate) → IsReady epoch u
+      → spelled (names_after p) (sealed_update k (layers_of (history_of p)) (d.plain p)) ≡ u
+  is_spelling epoch u ready = spelled_as k p legal (d.plain p) u ready.is_sealed ready.free
 
   -- what is left is right by that history, or by that with the command's update
   abbrev Left : Service → Type 0
@@ -87,9 +94,13 @@ module _ (k : Masters) (command : Command) (e : Errand) (d : Does k command e) (
     ready_left epoch u ready =
         let next : step p command ≡ (replies.Accepted (epoch_of (history_of p) + 1), with_plain p (d.plain p)) =
         d.as_update p ∙ ap (update_step p (d.plain p)) ready.free in
-        inr (subst (λ (x : Reply × PlainHistory). IsSealedAs k x.1 (with_sealed s u)) (sym next)
-        (subst (λ (v : SealedUpdate). IsSealedAs k (with_plain p (d.plain p)) (with_sealed s v))
-        (sym ready.is_sealed) (right_goes_on k p (d.plain p) s right)))
+        let numbered_here : numbered (file_names_of s) u
+        ≡ sealed_update k (layers_of (history_of p)) (d.plain p) =
+        ap (λ (names : List (List ℕ)). numbered names u) (right_names k p s right)
+        ∙ ready.is_sealed in
+        inr (subst (λ (x : Reply × PlainHistory). IsSealedAs k x.1 (with_spelled s u)) (sym next)
+        (subst (λ (v : NumberedUpdate). IsSealedAs k (with_plain p (d.plain p)) (with_sealed s v))
+        (sym numbered_here) (right_goes_on k p (d.plain p) s right)))
 
     -- what is served at a stage
     abbrev pub Serves : Stage → SealedHistory → Type 0

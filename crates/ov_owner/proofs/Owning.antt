@@ -24,6 +24,7 @@ errand_for base (changes.Create file list bytes) = refl
 errand_for base (changes.Grant user file) = refl
 errand_for base (changes.Revoke user file) = refl
 errand_for base (changes.Remove file) = refl
+errand_for base (changes.Replace file bytes) = refl
 
 module _ {P : Type 0} (peer : PeerTells P) (k : Masters) (command : Command) (e : Errand)
     (is : IsErrandFor k.base command e) (p q : P) (v : Service) (is_served : peer.serves p v)

@@ -7,7 +7,8 @@ use Rattle.ov_record.specs.Updates.{SealedUpdate}
 use Rattle.ov_record.specs.Forms.{second_form}
 use Rattle.ov_script.specs.declared.command.Command.{Command}
 use Rattle.ov_script.specs.declared.command.Command.TheVariants as commands
-use Rattle.ov_history.specs.Briefs.{brief}
+use Rattle.ov_history.specs.Asking.{file_named}
+use Rattle.ov_history.specs.Briefs.{Brief}
 use Rattle.ov_history.specs.Catalogue.{Catalogue, outline}
 use Rattle.ov_history.specs.Masters.{Masters}
 use Rattle.ov_history.specs.Plain.{PlainHistory, history_of}
@@ -15,6 +16,7 @@ use Rattle.ov_history.specs.Refusals.{IsLegal}
 use Rattle.ov_history.specs.Sealed.{HasParts, SealedHistory, catalogue_of, refusal_shown}
 use Rattle.ov_history.specs.Sealing.{IsSealedAs, sealed}
 use Rattle.ov_history.proofs.Keeping.{kept_refusals}
+use Rattle.ov_history.proofs.Sealing.{sealed_is_sealed}
 use Rattle.ov_wire.specs.declared.request.Question.TheVariants as questions
 use Rattle.ov_wire.specs.declared.request.Request.{Request}
 use Rattle.ov_wire.specs.declared.answer.Answer.{Answer}
@@ -24,7 +26,7 @@ use Rattle.ov_wire.specs.AnswerForm.{HasAnswerForm}
 use Rattle.ov_wire.specs.AnswerReading.{answer_of}
 use Rattle.ov_wire.specs.AnswersTo.{IsAnswer}
 use Rattle.ov_wire.specs.Requests.{HasRequestForm, request_bytes}
-use Rattle.ov_protocol.specs.Serving.{Service, followed, served}
+use Rattle.ov_protocol.specs.Serving.{Service, brief_in, followed, served}
 use Rattle.ov_protocol.specs.Answers.{Answers}
 use Rattle.ov_protocol.specs.Replies.{AnswersRead}
 use Rattle.ov_protocol.specs.Updating.{AnswersSealed, AnswersSpelled, AnswersUpdate, owner_tag}
@@ -34,16 +36,16 @@ use Rattle.ov_peer.specs.Tells.{IsReplyAt}
 use Rattle.ov_peer.specs.Disks.{MayNeedDisk}
 use Rattle.ov_peer.proofs.Needing.{needs_disk}
 use Rattle.ov_owner.specs.Alone.{AnsweredAlone, AskedAlone}
-use Rattle.ov_owner.specs.Errands.{Errand, creating, enrolling, granting, removing, revoking}
+use Rattle.ov_owner.specs.Errands.{Errand, creating, enrolling, granting, removing, replacing, revoking}
 use Rattle.ov_owner.specs.Laws.{IsProper, TalksAreProper}
 use Rattle.ov_owner.specs.Talks.{Asks, Closes, Ends, Goes, IsAfter, Moves, Sends, Stage, Talks, after as stage_after, after_first, sends_if, start, update_request}
 use Rattle.ov_owner.specs.declared.fault.OwnerFault.{OwnerFault}
 use Rattle.ov_owner.proofs.Agreeing.{answers_alike}
-use Rattle.ov_owner.proofs.Doing.{Does, create_does, enrol_does, grant_does, remove_does, revoke_does}
+use Rattle.ov_owner.proofs.Doing.{Does, create_does, enrol_does, grant_does, remove_does, replace_does, revoke_does}
 use Rattle.ov_owner.proofs.Leaving.{IsReady, Serves, is_first, is_update, nothing_due, one_ask}
 use Rattle.ov_owner.proofs.Stepping.{read_back}
-use Rattle.ov_owner.proofs.Telling.{under}
-use Rattle.ov_owner.proofs.Fitting.{IsProperTold, ask_fits, ask_proper, cover_fits, cover_proper, reads_back}
+use Rattle.ov_owner.proofs.Telling.{brief_as, under}
+use Rattle.ov_owner.proofs.Fitting.{IsProperTold, ask_fits, ask_proper, cover_fits, cover_proper, needs_no_node, reads_back, replan_fits, replan_proper}
 
 -- ---- a talk
 
@@ -79,12 +81,14 @@ module _ (k : Masters) (command : Command) (e : Errand) (d : Does k command e) (
       (n, refl, next ∙ ap (λ x. x + 1) (sym now), form)
   taken epoch u (answers.Refused why) ready some form now =
       let refusals = kept_refusals k p c (d.plain p) (legal, refl) in
-      let none : refusal_shown c (brief u) ≡ None =
-      ap (λ (x : SealedUpdate). refusal_shown c (brief x)) ready.is_sealed ∙ refusals.0 ∙ ready.free in
+      let none : refusal_shown c (brief_in c u) ≡ None =
+      ap (λ (b : Brief). refusal_shown c b) (brief_as k p legal (d.plain p) u ready.is_sealed)
+      ∙ refusals.0 ∙ ready.free in
       absurd (cc (none, some))
   taken epoch u (answers.BadRequest place) ready (none, lacks, at_place) form now =
       let refusals = kept_refusals k p c (d.plain p) (legal, refl) in
-      absurd (lacks (subst (λ (x : SealedUpdate). HasParts (outline c) (brief x)) (sym ready.is_sealed) refusals.1))
+      absurd (lacks (subst (λ (b : Brief). HasParts (outline c) b)
+      (sym (brief_as k p legal (d.plain p) u ready.is_sealed)) refusals.1))
   taken epoch u a ready is form now = absurd is
 
   update_taken : (epoch : ℕ) (u : SealedUpdate) (a : Answer) → Ready epoch u → HasForm second_form u
@@ -230,7 +234,7 @@ pub talks_are_proper : TalksAreProper
 talks_are_proper k (commands.Enrol user) e asks unanswered result v last p is talks same legal right alone =
     let c = catalogue_of k.surface (sealed k p) in
     talk_proper k (commands.Enrol user) (enrolling user) (enrol_does k user) v.base_check p legal
-    (ask_fits c (questions.Enrol user)) (λ a. ask_proper c (questions.Enrol user) a _) (λ disk. disk)
+    (ask_fits c (questions.Enrol user) tt) (λ a. ask_proper c (questions.Enrol user) a _) (λ disk. disk)
     v.history right asks unanswered result last
     (subst (λ (x : Errand). Talks k.surface x asks unanswered result) is talks)
     (subst (λ (s : List ℕ). AskedAlone (under s v.base_check v.history) asks unanswered last) same alone)
@@ -246,7 +250,7 @@ talks_are_proper k (commands.Create file names bytes) e asks unanswered result v
 talks_are_proper k (commands.Grant user file) e asks unanswered result v last p is talks same legal right alone =
     let c = catalogue_of k.surface (sealed k p) in
     talk_proper k (commands.Grant user file) (granting k.base user file) (grant_does k user file) v.base_check p legal
-    (ask_fits c (questions.Grant user file)) (λ a. ask_proper c (questions.Grant user file) a _)
+    (ask_fits c (questions.Grant user file) tt) (λ a. ask_proper c (questions.Grant user file) a _)
     (λ disk. disk)
     v.history right asks unanswered result last
     (subst (λ (x : Errand). Talks k.surface x asks unanswered result) is talks)
@@ -254,7 +258,7 @@ talks_are_proper k (commands.Grant user file) e asks unanswered result v last p 
 talks_are_proper k (commands.Revoke user file) e asks unanswered result v last p is talks same legal right alone =
     let c = catalogue_of k.surface (sealed k p) in
     talk_proper k (commands.Revoke user file) (revoking user file) (revoke_does k user file) v.base_check p legal
-    (ask_fits c (questions.Revoke user file)) (λ a. ask_proper c (questions.Revoke user file) a _)
+    (ask_fits c (questions.Revoke user file) tt) (λ a. ask_proper c (questions.Revoke user file) a _)
     (λ disk. disk)
     v.history right asks unanswered result last
     (subst (λ (x : Errand). Talks k.surface x asks unanswered result) is talks)
@@ -262,7 +266,18 @@ talks_are_proper k (commands.Revoke user file) e asks unanswered result v last p
 talks_are_proper k (commands.Remove file) e asks unanswered result v last p is talks same legal right alone =
     let c = catalogue_of k.surface (sealed k p) in
     talk_proper k (commands.Remove file) (removing file) (remove_does k file) v.base_check p legal
-    (ask_fits c (questions.Remove file)) (λ a. ask_proper c (questions.Remove file) a _)
+    (ask_fits c (questions.Remove file)
+    (needs_no_node k.surface c (sealed k p) (questions.Remove file) (sealed_is_sealed k p legal, refl)))
+    (λ a. ask_proper c (questions.Remove file) a _)
+    (λ disk. disk)
+    v.history right asks unanswered result last
+    (subst (λ (x : Errand). Talks k.surface x asks unanswered result) is talks)
+    (subst (λ (s : List ℕ). AskedAlone (under s v.base_check v.history) asks unanswered last) same alone)
+talks_are_proper k (commands.Replace file bytes) e asks unanswered result v last p is talks same legal right alone =
+    let c = catalogue_of k.surface (sealed k p) in
+    talk_proper k (commands.Replace file bytes) (replacing k.base file bytes) (replace_does k file bytes)
+    v.base_check p legal
+    (replan_fits c file (length bytes) (file_named c file)) (λ a. replan_proper c _ (length bytes) a _)
     (λ disk. disk)
     v.history right asks unanswered result last
     (subst (λ (x : Errand). Talks k.surface x asks unanswered result) is talks)

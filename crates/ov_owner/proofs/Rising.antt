@@ -54,6 +54,8 @@ errand_other base (commands.Revoke user file) e is a =
     subst (λ (x : Errand). IsOther (x.sealed a)) (sym is) (known_other a _)
 errand_other base (commands.Remove file) e is a =
     subst (λ (x : Errand). IsOther (x.sealed a)) (sym is) (known_other a _)
+errand_other base (commands.Replace file bytes) e is a =
+    subst (λ (x : Errand). IsOther (x.sealed a)) (sym is) (plan_other a _)
 errand_other base command e is a = absurd is
 
 abbrev AllRise : List ℕ → Type 0

@@ -1,6 +1,7 @@
 -- The frames of a call to a server that nobody else updates are short.
 use Rattle.std.proofs.Common.{◌≡◌, ℕ, ◌+◌, ◌*◌, ◌≤◌, ◌∙◌, List, [], ◌∷◌, ◌++◌, length, length-append, Option, Result, Ok, Err, refl, ap, subst, sym, inl, inr, arith}
 use Rattle.std.specs.Prelude.{nat_lt, Bool, true, false}
+use Rattle.ov_base.specs.Sets.{size}
 use Rattle.ov_base.specs.declared.limits.TheConstants.{SET_BYTES}
 use Rattle.ov_fields.specs.Fronts.{AreAllBytes}
 use Rattle.ov_fields.specs.Spelling.{u32}
@@ -10,8 +11,9 @@ use Rattle.ov_record.specs.Updates.{SealedUpdate}
 use Rattle.ov_record.specs.Forms.{second_form}
 use Rattle.ov_script.specs.declared.command.Command.{Command}
 use Rattle.ov_script.specs.declared.command.Command.TheVariants as commands
-use Rattle.ov_history.specs.Catalogue.{Catalogue}
-use Rattle.ov_history.specs.Layers.{layers_of}
+use Rattle.ov_history.specs.Asking.{file_named}
+use Rattle.ov_history.specs.Catalogue.{Catalogue, outline}
+use Rattle.ov_history.specs.Layers.{layers_of, list_in}
 use Rattle.ov_history.specs.Lists.{file_number, set_named, user_number}
 use Rattle.ov_history.specs.History.{matrix_of}
 use Rattle.ov_history.specs.Masters.{Masters}
@@ -19,6 +21,7 @@ use Rattle.ov_history.specs.Plain.{PlainEnrol, PlainGrant, PlainHistory, PlainRe
 use Rattle.ov_history.specs.Refusals.{IsLegal}
 use Rattle.ov_history.specs.Sealed.{SealedHistory, catalogue_of}
 use Rattle.ov_history.specs.Sealing.{IsSealedAs, sealed, sealed_update}
+use Rattle.ov_history.specs.Sent.{spelled}
 use Rattle.ov_history.proofs.Agreeing.{right_shows}
 use Rattle.ov_wire.specs.declared.request.Question.TheVariants as questions
 use Rattle.ov_wire.specs.declared.request.Request.{Request}
@@ -37,15 +40,15 @@ use Rattle.ov_peer.specs.Tells.{IsReplyAt}
 use Rattle.ov_peer.specs.Exchanges.{IsAnswerAt}
 use Rattle.ov_peer.proofs.Telling.{answer_at}
 use Rattle.ov_owner.specs.Alone.{AnsweredAlone, AskedAlone}
-use Rattle.ov_owner.specs.Errands.{Errand, creating, enrolling, granting, removing, revoking}
-use Rattle.ov_owner.specs.Laws.{TalksAreShort, frame_bytes}
+use Rattle.ov_owner.specs.Errands.{Errand, creating, enrolling, granting, removing, replacing, revoking}
+use Rattle.ov_owner.specs.Laws.{TalksAreShort, frame_bytes, list_size}
 use Rattle.ov_owner.specs.Talks.{Asks, Ends, Goes, IsAfter, Moves, Sends, Stage, Talks, after as stage_after, after_first, after_update, sends_if, start, update_request}
 use Rattle.ov_owner.specs.declared.fault.OwnerFault.{OwnerFault}
 use Rattle.ov_owner.proofs.Agreeing.{answers_alike}
-use Rattle.ov_owner.proofs.Leaving.{Serves, is_first, is_update, nothing_due, one_ask}
-use Rattle.ov_owner.proofs.Sizes.{ask_answer_short, cover_answer_short, cover_short, creation_short, list_few, question_short, short_update, spelled_answer_short}
-use Rattle.ov_owner.proofs.Doing.{Does, create_does, enrol_does, grant_does, remove_does, revoke_does}
-use Rattle.ov_owner.proofs.Telling.{under}
+use Rattle.ov_owner.proofs.Leaving.{Serves, is_first, is_spelling, is_update, nothing_due, one_ask}
+use Rattle.ov_owner.proofs.Sizes.{ask_answer_short, cover_answer_short, cover_short, creation_short, list_few, question_short, replacement_short, replan_answer_short, replan_short, short_update, spelled_answer_short}
+use Rattle.ov_owner.proofs.Doing.{Does, create_does, enrol_does, grant_does, remove_does, replace_does, revoke_does}
+use Rattle.ov_owner.proofs.Telling.{list_here, list_shown, names_after, under}
 
 -- a reply to a request that was sent is an answer to it, or says that the disk failed
 reply_short : (v : Service) (request : Request) (reply : List ℕ) (made : List SealedUpdate) (most : ℕ)
@@ -80,7 +83,7 @@ module _ (k : Masters) (command : Command) (e : Errand) (d : Does k command e) (
     (first_short : HasRequestForm e.first → length (request_bytes e.first) ≤ first)
     (told_short : (a : Answer) → Answers (served (under k.surface base_check (sealed k p))) e.first a
     → length (answer_bytes a) ≤ told)
-    (sent_short : let u = sealed_update k (layers_of (history_of p)) (d.plain p) in
+    (sent_short : let u = spelled (names_after p) (sealed_update k (layers_of (history_of p)) (d.plain p)) in
     HasForm second_form u → length (spelling second_form u) ≤ sent)
     (s : SealedHistory) (right : IsSealedAs k p s) where
   abbrev At : Stage → SealedHistory → Type 0
@@ -182,9 +185,10 @@ module _ (k : Masters) (command : Command) (e : Errand) (d : Does k command e) (
       subst (λ (x : List ℕ). IsReplyAt (here g) x a.reply made) frame replied in
       let one : length a.request ≡ 37 + length (spelling second_form u) =
       ap length frame ∙ update_length k.surface epoch u moves.asked.form.1 in
+      let as_sealed = is_spelling k command e d base_check p legal epoch u ready in
       let two : length (spelling second_form u) ≤ sent =
-      subst (λ (x : SealedUpdate). length (spelling second_form x) ≤ sent) (sym ready.is_sealed)
-      (sent_short (subst (HasForm second_form) ready.is_sealed moves.asked.form.0)) in
+      subst (λ (x : SealedUpdate). length (spelling second_form x) ≤ sent) as_sealed
+      (sent_short (subst (HasForm second_form) (sym as_sealed) moves.asked.form.0)) in
       let three : length a.reply ≤ 5 =
       reply_short (here g) request a.reply made 5 moves.asked.form.1 (omega arith)
       (λ x is. update_answer_short k.surface (catalogue_of k.surface g) epoch (spelling second_form u)
@@ -228,7 +232,7 @@ by_sizes : (k : Masters) (command : Command) (e : Errand) (d : Does k command e)
     → 1 ≤ told → (HasRequestForm e.first → length (request_bytes e.first) ≤ first)
     → ((a : Answer) → Answers (served (under k.surface v.base_check (sealed k p))) e.first a
     → length (answer_bytes a) ≤ told)
-    → (let u = sealed_update k (layers_of (history_of p)) (d.plain p) in
+    → (let u = spelled (names_after p) (sealed_update k (layers_of (history_of p)) (d.plain p)) in
     HasForm second_form u → length (spelling second_form u) ≤ sent)
     → frame_bytes asks ≤ first + told + sent + 58
 by_sizes k command e d asks unanswered result v last p first told sent talks same legal right
@@ -244,7 +248,7 @@ talks_are_short k (commands.Enrol user) e asks unanswered result v last p is tal
     asks unanswered result v last p 132 26 66
     (subst (λ (x : Errand). Talks k.surface x asks unanswered result) is talks) same legal right alone (omega arith)
     (question_short (questions.Enrol user)) (ask_answer_short c (questions.Enrol user))
-    (λ form. short_update (sealed_update k (layers_of (history_of p)) (PlainEnrol user)) form (λ name list tokens tag bytes wrong. cc wrong)) in
+    (λ form. short_update (spelled (names_after p) (sealed_update k (layers_of (history_of p)) (PlainEnrol user))) form refl) in
     omega (arith, n)
 talks_are_short k (commands.Create file names bytes) e asks unanswered result v last p is talks same legal right alone =
     let c = catalogue_of k.surface (sealed k p) in
@@ -258,7 +262,7 @@ talks_are_short k (commands.Create file names bytes) e asks unanswered result v 
     (subst (λ (x : Errand). Talks k.surface x asks unanswered result) is talks) same legal right alone (omega arith)
     (cover_short file (length bytes) names)
     (λ a is. cover_answer_short c file (length bytes) (set_named c.users names) (length names) a is shown)
-    (creation_short k (layers_of (history_of p)) file (set_named m.users names) (length names) bytes list) in
+    (creation_short k (layers_of (history_of p)) (names_after p) file (set_named m.users names) (length names) bytes list) in
     omega (arith, n)
 talks_are_short k (commands.Grant user file) e asks unanswered result v last p is talks same legal right alone =
     let m = matrix_of (history_of p) in
@@ -267,7 +271,7 @@ talks_are_short k (commands.Grant user file) e asks unanswered result v last p i
     asks unanswered result v last p 132 26 66
     (subst (λ (x : Errand). Talks k.surface x asks unanswered result) is talks) same legal right alone (omega arith)
     (question_short (questions.Grant user file)) (ask_answer_short c (questions.Grant user file))
-    (λ form. short_update (sealed_update k (layers_of (history_of p)) (PlainGrant (user_number m user) (file_number m file))) form (λ name list tokens tag bytes wrong. cc wrong)) in
+    (λ form. short_update (spelled (names_after p) (sealed_update k (layers_of (history_of p)) (PlainGrant (user_number m user) (file_number m file)))) form refl) in
     omega (arith, n)
 talks_are_short k (commands.Revoke user file) e asks unanswered result v last p is talks same legal right alone =
     let m = matrix_of (history_of p) in
@@ -276,7 +280,7 @@ talks_are_short k (commands.Revoke user file) e asks unanswered result v last p 
     asks unanswered result v last p 132 26 66
     (subst (λ (x : Errand). Talks k.surface x asks unanswered result) is talks) same legal right alone (omega arith)
     (question_short (questions.Revoke user file)) (ask_answer_short c (questions.Revoke user file))
-    (λ form. short_update (sealed_update k (layers_of (history_of p)) (PlainRevoke (user_number m user) (file_number m file))) form (λ name list tokens tag bytes wrong. cc wrong)) in
+    (λ form. short_update (spelled (names_after p) (sealed_update k (layers_of (history_of p)) (PlainRevoke (user_number m user) (file_number m file)))) form refl) in
     omega (arith, n)
 talks_are_short k (commands.Remove file) e asks unanswered result v last p is talks same legal right alone =
     let m = matrix_of (history_of p) in
@@ -285,6 +289,23 @@ talks_are_short k (commands.Remove file) e asks unanswered result v last p is ta
     asks unanswered result v last p 132 26 66
     (subst (λ (x : Errand). Talks k.surface x asks unanswered result) is talks) same legal right alone (omega arith)
     (question_short (questions.Remove file)) (ask_answer_short c (questions.Remove file))
-    (λ form. short_update (sealed_update k (layers_of (history_of p)) (PlainRemove (file_number m file))) form (λ name list tokens tag bytes wrong. cc wrong)) in
+    (λ form. short_update (spelled (names_after p) (sealed_update k (layers_of (history_of p)) (PlainRemove (file_number m file)))) form refl) in
+    omega (arith, n)
+talks_are_short k (commands.Replace file bytes) e asks unanswered result v last p is talks same legal right alone =
+    let h = history_of p in
+    let c = catalogue_of k.surface (sealed k p) in
+    let number = file_number (matrix_of h) file in
+    let most = list_size p file in
+    let few : size (list_in (layers_of h) number) ≤ most =
+    omega (arith, ap size (list_here k p legal file)) in
+    let few_shown : size (list_in (outline c) (file_named c file)) ≤ most =
+    omega (arith, ap size (list_shown k p legal file)) in
+    let n = by_sizes k (commands.Replace file bytes) (replacing k.base file bytes)
+    (replace_does k file bytes)
+    asks unanswered result v last p 70 (16 + SET_BYTES + 4 * most) (104 + 32 * most + length bytes)
+    (subst (λ (x : Errand). Talks k.surface x asks unanswered result) is talks) same legal right alone (omega arith)
+    (replan_short file (length bytes))
+    (λ a is. replan_answer_short c (file_named c file) (length bytes) most a is few_shown)
+    (replacement_short k (layers_of h) (names_after p) number most bytes few) in
     omega (arith, n)
 talks_are_short k command e asks unanswered result v last p is talks same legal right alone = absurd is

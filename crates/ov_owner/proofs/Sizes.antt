@@ -1,5 +1,6 @@
 -- How many bytes requests, answers and updates have.
 use Rattle.std.proofs.Common.{◌≡◌, ℕ, ◌+◌, ◌*◌, ◌≤◌, List, [], ◌∷◌, ◌++◌, length, length-append, Option, Some, None, Result, Ok, Err, refl, ap, arith}
+use Rattle.std.specs.Prelude.{slice_index_or}
 use Rattle.std.specs.List.{AllByRecursion, flat_map}
 use Rattle.std.proofs.lemmas.List.{length-map}
 use Rattle.ov_base.specs.Names.{IsName}
@@ -16,17 +17,19 @@ use Rattle.ov_graph.specs.Contents.{plan_of}
 use Rattle.ov_graph.proofs.GraphLaws.{plan-few}
 use Rattle.ov_base_layer.specs.Seals.{cover_tokens}
 use Rattle.ov_record.specs.Spelling.{HasForm, spelling}
-use Rattle.ov_record.specs.Updates.{SealedCreate, SealedEnrol, SealedGrant, SealedRemove, SealedRevoke, SealedUpdate}
+use Rattle.ov_record.specs.Briefs.{text_of}
+use Rattle.ov_record.specs.Updates.{SealedCreate, SealedEnrol, SealedGrant, SealedRemove, SealedReplace, SealedRevoke, SealedUpdate}
 use Rattle.ov_record.specs.Forms.{second_form}
 use Rattle.ov_surface.specs.Coats.{base_text}
 use Rattle.ov_surface.specs.Tags.{tag_of_file}
-use Rattle.ov_history.specs.Catalogue.{Catalogue}
-use Rattle.ov_history.specs.Layers.{Layers, node_for}
+use Rattle.ov_history.specs.Catalogue.{Catalogue, outline}
+use Rattle.ov_history.specs.Layers.{Layers, list_in, node_for}
 use Rattle.ov_history.specs.Lists.{set_named, set_with}
 use Rattle.ov_history.specs.Masters.{Masters, access_key}
 use Rattle.ov_history.specs.Places.{place_of}
-use Rattle.ov_history.specs.Plain.{PlainCreate}
+use Rattle.ov_history.specs.Plain.{PlainCreate, PlainReplace}
 use Rattle.ov_history.specs.Sealing.{sealed_update}
+use Rattle.ov_history.specs.Sent.{spelled}
 use Rattle.ov_wire.specs.declared.request.Question.{Question}
 use Rattle.ov_wire.specs.declared.request.Question.TheVariants as questions
 use Rattle.ov_wire.specs.declared.request.Request.TheVariants as requests
@@ -35,7 +38,7 @@ use Rattle.ov_wire.specs.declared.answer.Answer.{Answer}
 use Rattle.ov_wire.specs.declared.answer.Answer.TheVariants as answers
 use Rattle.ov_wire.specs.AnswerBytes.{answer_bytes}
 use Rattle.ov_wire.specs.Requests.{HasRequestForm, request_bytes}
-use Rattle.ov_protocol.specs.Asking.{AnswersAsk, AnswersCover}
+use Rattle.ov_protocol.specs.Asking.{AnswersAsk, AnswersCover, AnswersReplan}
 use Rattle.ov_protocol.specs.Updating.{AnswersSealed, AnswersSpelled}
 
 -- ---- fields
@@ -92,6 +95,12 @@ cover_short file len names form =
     let all = names_short names form.is_request.3.0 in
     omega (arith, one, all, length-append (name_field file ++ u32 len) (counted name_field names), length-append (name_field file) (u32 len))
 
+pub replan_short : (file : List ℕ) (len : ℕ) → HasRequestForm (requests.Replan file len)
+    → length (request_bytes (requests.Replan file len)) ≤ 70
+replan_short file len form =
+    let one = name_short file form.is_request.0 in
+    omega (arith, one, length-append (name_field file) (u32 len))
+
 plan_short : (plan : Plan) → length (answer_bytes (answers.Plan plan)) ≡ 16 + SET_BYTES + 4 * length plan.from
 plan_short plan =
     let set = bytes_of SET_BYTES plan.list in
@@ -109,6 +118,16 @@ cover_answer_short c file len list most (answers.Plan plan) (none, is) few =
 cover_answer_short c file len list most (answers.Refused why) is few = omega arith
 cover_answer_short c file len list most a is few = absurd is
 
+pub replan_answer_short : (c : Catalogue) (file len most : ℕ) (a : Answer)
+    → AnswersReplan c file len a → size (list_in (outline c) file) ≤ most
+    → length (answer_bytes a) ≤ 16 + SET_BYTES + 4 * most
+replan_answer_short c file len most (answers.Plan plan) (none, is) few =
+    let list = list_in (outline c) file in
+    let from : length plan.from ≡ length (plan_of c.base.sets list).from = ap (λ (x : Plan). length x.from) is in
+    omega (arith, plan_short plan, from, plan-few c.base.sets list)
+replan_answer_short c file len most (answers.Refused why) is few = omega arith
+replan_answer_short c file len most a is few = absurd is
+
 -- ---- updates, and their answers
 
 grant_short : (user file : ℕ) (token : Option _) → HasForm second_form (SealedGrant user file token)
@@ -116,14 +135,15 @@ grant_short : (user file : ℕ) (token : Option _) → HasForm second_form (Seal
 grant_short user file None form = omega arith
 grant_short user file (Some token) form = let is : length token.bytes ≡ 32 = form.2 in omega arith
 
-pub short_update : (u : SealedUpdate) → HasForm second_form u
-    → ((name : List ℕ) (list : ℕ) (tokens : List _) (tag bytes : List ℕ) → u ≡ SealedCreate name list tokens tag bytes → ⊥)
+-- an update without the bytes of a file
+pub short_update : (u : SealedUpdate) → HasForm second_form u → text_of u ≡ None
     → length (spelling second_form u) ≤ 66
-short_update (SealedEnrol name) form other = omega (arith, name_short name form)
-short_update (SealedCreate name list tokens tag bytes) form other = absurd (other name list tokens tag bytes refl)
-short_update (SealedGrant user file token) form other = grant_short user file token form
-short_update (SealedRevoke user file) form other = omega arith
-short_update (SealedRemove file) form other = omega arith
+short_update (SealedEnrol name) form none = omega (arith, name_short name form)
+short_update (SealedCreate name list tokens tag bytes) form none = absurd (cc none)
+short_update (SealedGrant user file token) form none = grant_short user file token form
+short_update (SealedRevoke user file) form none = omega arith
+short_update (SealedRemove file) form none = omega arith
+short_update (SealedReplace name tokens tag bytes) form none = absurd (cc none)
 
 creation_length : (name : List ℕ) (list : ℕ) (tokens : List _) (tag bytes : List ℕ)
     → HasForm second_form (SealedCreate name list tokens tag bytes)
@@ -138,16 +158,47 @@ creation_length name list tokens tag bytes form =
     let d = length-append (name_field name ++ bytes_of SET_BYTES list ++ counted token_field tokens ++ tag) (sized bytes) in
     omega (arith, one, all, a, b, c, d, length-bytes_of SET_BYTES list, form.4)
 
-pub creation_short : (k : Masters) (y : Layers) (file : List ℕ) (list most : ℕ) (bytes : List ℕ)
+pub creation_short : (k : Masters) (y : Layers) (names : List (List ℕ)) (file : List ℕ)
+    (list most : ℕ) (bytes : List ℕ)
     → size list ≤ most
-    → HasForm second_form (sealed_update k y (PlainCreate file list bytes))
-    → length (spelling second_form (sealed_update k y (PlainCreate file list bytes))) ≤ 104 + SET_BYTES + 32 * most + length bytes
-creation_short k y file list most bytes few form =
+    → HasForm second_form (spelled names (sealed_update k y (PlainCreate file list bytes)))
+    → length (spelling second_form (spelled names (sealed_update k y (PlainCreate file list bytes)))) ≤ 104 + SET_BYTES + 32 * most + length bytes
+creation_short k y names file list most bytes few form =
     let access = access_key k.base (node_for y.base list) in
     let number = length y.files in
     let tokens = cover_tokens Derive k.base (plan_of y.base list) in
     let text = base_text access number bytes in
     let all = creation_length file list tokens (tag_of_file access number bytes) text form in
+    let edges : length tokens ≡ length (plan_of y.base list).from = length-map (plan_of y.base list).from _ in
+    let same : length text ≡ length bytes = length-xor_pad access 0x42 number 0 bytes in
+    let starts = plan-few y.base list in
+    omega arith
+
+replacement_length : (name : List ℕ) (tokens : List _) (tag bytes : List ℕ)
+    → HasForm second_form (SealedReplace name tokens tag bytes)
+    → length (spelling second_form (SealedReplace name tokens tag bytes))
+    ≤ 104 + 32 * length tokens + length bytes
+replacement_length name tokens tag bytes form =
+    let one = name_short name form.1 in
+    let all = (many_reads token_reads (length tokens)).short tokens (form.3, refl) in
+    let a = length-append (name_field name) (counted token_field tokens) in
+    let b = length-append (name_field name ++ counted token_field tokens) tag in
+    let c = length-append (name_field name ++ counted token_field tokens ++ tag) (sized bytes) in
+    omega (arith, one, all, a, b, c, form.4)
+
+-- the name of a replacement is that of its file among these names
+pub replacement_short : (k : Masters) (y : Layers) (names : List (List ℕ)) (file most : ℕ)
+    (bytes : List ℕ)
+    → size (list_in y file) ≤ most
+    → HasForm second_form (spelled names (sealed_update k y (PlainReplace file bytes)))
+    → length (spelling second_form (spelled names (sealed_update k y (PlainReplace file bytes)))) ≤ 104 + 32 * most + length bytes
+replacement_short k y names file most bytes few form =
+    let list = list_in y file in
+    let access = access_key k.base (node_for y.base list) in
+    let number = length y.files in
+    let tokens = cover_tokens Derive k.base (plan_of y.base list) in
+    let text = base_text access number bytes in
+    let all = replacement_length (slice_index_or names file []) tokens (tag_of_file access number bytes) text form in
     let edges : length tokens ≡ length (plan_of y.base list).from = length-map (plan_of y.base list).from _ in
     let same : length text ≡ length bytes = length-xor_pad access 0x42 number 0 bytes in
     let starts = plan-few y.base list in

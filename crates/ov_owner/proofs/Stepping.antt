@@ -12,29 +12,31 @@ use Rattle.ov_record.specs.Forms.{second_form}
 use Rattle.ov_script.specs.declared.command.Command.{Command}
 use Rattle.ov_script.specs.declared.reply.Reply.{Reply}
 use Rattle.ov_script.specs.declared.reply.Reply.TheVariants as replies
-use Rattle.ov_history.specs.Briefs.{brief}
+use Rattle.ov_history.specs.Briefs.{Brief}
 use Rattle.ov_history.specs.Catalogue.{Catalogue}
 use Rattle.ov_history.specs.History.{epoch_of}
 use Rattle.ov_history.specs.Layers.{layers_of}
 use Rattle.ov_history.specs.Masters.{Masters}
 use Rattle.ov_history.specs.Plain.{PlainHistory, history_of, measured, with_plain}
 use Rattle.ov_history.specs.Refusals.{IsLegal, refusal_of}
-use Rattle.ov_history.specs.Sealed.{SealedHistory, catalogue_of, refusal_shown, with_sealed}
+use Rattle.ov_history.specs.Sealed.{SealedHistory, catalogue_of, file_names_of, refusal_shown, with_sealed}
 use Rattle.ov_history.specs.Sealing.{IsSealedAs, sealed, sealed_update}
+use Rattle.ov_history.specs.Sent.{SealedUpdate as NumberedUpdate, numbered}
 use Rattle.ov_history.proofs.Keeping.{kept_refusals, kept_shows}
 use Rattle.ov_model.specs.Step.{step, update_step}
 use Rattle.ov_history.proofs.Agreeing.{right_goes_on, right_shows}
 use Rattle.ov_wire.specs.declared.answer.Answer.TheVariants as answers
-use Rattle.ov_protocol.specs.Serving.{Service, followed, served}
+use Rattle.ov_protocol.specs.Serving.{Service, brief_in, followed, served}
 use Rattle.ov_protocol.specs.Answers.{Answers, made_by}
 use Rattle.ov_protocol.specs.Updating.{AnswersSpelled, spelled_by}
 use Rattle.ov_owner.specs.Errands.{Errand}
 use Rattle.ov_owner.specs.Steps.{IsStep}
 use Rattle.ov_owner.specs.Talks.{update_request}
 use Rattle.ov_peer.proofs.Following.{followed-nil}
+use Rattle.ov_owner.proofs.Agreeing.{right_names}
 use Rattle.ov_owner.proofs.Histories.{same_epoch}
 use Rattle.ov_owner.proofs.Doing.{Does}
-use Rattle.ov_owner.proofs.Telling.{under}
+use Rattle.ov_owner.proofs.Telling.{brief_as, names_after, under}
 
 -- an update's spelling is read as it
 pub read_back : (u : SealedUpdate) → HasForm second_form u → update_of second_form (spelling second_form u) ≡ Ok u
@@ -89,7 +91,8 @@ module _ (k : Masters) (command : Command) (e : Errand) (d : Does k command e) (
     pub between : List SealedUpdate
     pub same : g ≡ followed asked between
     pub at_epoch : epoch ≡ (catalogue_of k.surface (sealed k p)).epoch
-    pub is_sealed : u ≡ sealed_update k (layers_of (history_of p)) (d.plain p)
+    pub is_sealed : numbered (names_after p) u
+        ≡ sealed_update k (layers_of (history_of p)) (d.plain p)
 
   -- where the server is at the epoch of the update, it is at the history where it was sealed
   still_there : (g : SealedHistory) (others : List SealedUpdate) (epoch : ℕ) (u : SealedUpdate)
@@ -121,6 +124,29 @@ module _ (k : Masters) (command : Command) (e : Errand) (d : Does k command e) (
   right_there g others epoch u t now =
       subst (IsSealedAs k t.p) (sym (still_there g others epoch u t now)) t.right
 
+  -- there it is the update by number that was sealed
+  numbered_there : (g : SealedHistory) (others : List SealedUpdate) (epoch : ℕ) (u : SealedUpdate)
+      (t : IsSealedAt g epoch u)
+      → epoch ≡ (catalogue_of k.surface (followed g others)).epoch
+      → numbered (file_names_of (followed g others)) u
+      ≡ sealed_update k (layers_of (history_of t.p)) (d.plain t.p)
+  numbered_there g others epoch u t now =
+      ap (λ (names : List (List ℕ)). numbered names u)
+      (right_names k t.p (followed g others) (right_there g others epoch u t now))
+      ∙ t.is_sealed
+
+  -- and is refused as the plain update is
+  refused_there : (g : SealedHistory) (epoch : ℕ) (u : SealedUpdate) (t : IsSealedAt g epoch u)
+      → let c = catalogue_of k.surface (sealed k t.p) in
+      refusal_of (history_of t.p) (measured (d.plain t.p))
+      ≡ refusal_shown c (brief_in c u)
+  refused_there g epoch u t =
+      let c = catalogue_of k.surface (sealed k t.p) in
+      let refusals = kept_refusals k t.p c (d.plain t.p) (t.legal, refl) in
+      sym refusals.0
+      ∙ ap (λ (b : Brief). refusal_shown c b)
+      (sym (brief_as k t.p t.legal (d.plain t.p) u t.is_sealed))
+
   pub update_accepted : (g : SealedHistory) (others made : List SealedUpdate) (epoch n : ℕ)
       (u : SealedUpdate)
       → IsSealedAt g epoch u → HasForm second_form u
@@ -129,7 +155,7 @@ module _ (k : Masters) (command : Command) (e : Errand) (d : Does k command e) (
       → IsStep k command (replies.Accepted n) (followed g others) (followed (followed g others) made)
   update_accepted g others made epoch n u t form (tagged, now, taken) makes_it =
       let here : SealedHistory = followed g others in
-      let sent : SealedUpdate = sealed_update k (layers_of (history_of t.p)) (d.plain t.p) in
+      let sent : NumberedUpdate = sealed_update k (layers_of (history_of t.p)) (d.plain t.p) in
       let right = right_there g others epoch u t now in
       let read = read_back u form in
       let c = catalogue_of k.surface (sealed k t.p) in
@@ -137,13 +163,12 @@ module _ (k : Masters) (command : Command) (e : Errand) (d : Does k command e) (
       subst (λ (x : Catalogue). AnswersSpelled x (Ok u) (answers.Accepted n))
       (shows_there g others epoch u t now)
       (subst (λ (r : Result SealedUpdate ℕ). AnswersSpelled (catalogue_of k.surface here) r (answers.Accepted n)) read taken) in
-      let refusals = kept_refusals k t.p c (d.plain t.p) (t.legal, refl) in
       let shows = kept_shows k t.p c (t.legal, refl) in
       let left : with_sealed here sent ≡ followed here made =
-      ap (with_sealed here) (sym t.is_sealed)
+      ap (with_sealed here) (sym (numbered_there g others epoch u t now))
       ∙ sym (ap (λ (us : List SealedUpdate). followed here us) (makes_it ∙ ap spelled_by read)) in
       accepted_step t.p n here (followed here made) t.legal right
-      (sym refusals.0 ∙ ap (λ (x : SealedUpdate). refusal_shown c (brief x)) (sym t.is_sealed) ∙ none)
+      (refused_there g epoch u t ∙ none)
       (next ∙ ap (λ x. x + 1) shows.epoch)
       (subst (IsSealedAs k (with_plain t.p (d.plain t.p))) left
       (right_goes_on k t.p (d.plain t.p) here right))
@@ -162,7 +187,6 @@ module _ (k : Masters) (command : Command) (e : Errand) (d : Does k command e) (
       subst (λ (x : Catalogue). AnswersSpelled x (Ok u) (answers.Refused why))
       (shows_there g others epoch u t now)
       (subst (λ (r : Result SealedUpdate ℕ). AnswersSpelled (catalogue_of k.surface (followed g others)) r (answers.Refused why)) read taken) in
-      let refusals = kept_refusals k t.p c (d.plain t.p) (t.legal, refl) in
       refused_step t.p why (followed g others) (followed (followed g others) made) t.legal right
-      (sym refusals.0 ∙ ap (λ (x : SealedUpdate). refusal_shown c (brief x)) (sym t.is_sealed) ∙ some)
+      (refused_there g epoch u t ∙ some)
       (ap (λ (us : List SealedUpdate). followed (followed g others) us) makes_it ∙ followed-nil (followed g others))

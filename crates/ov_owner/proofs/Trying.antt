@@ -85,6 +85,7 @@ told_never_links base (changes.Create file names bytes) a is = plan_never_links 
 told_never_links base (changes.Grant user file) a is = known_never_links a _ is
 told_never_links base (changes.Revoke user file) a is = known_never_links a _ is
 told_never_links base (changes.Remove file) a is = known_never_links a _ is
+told_never_links base (changes.Replace file bytes) a is = plan_never_links a _ is
 
 pub seal_never_links : (base : List ℕ) (change : Change) (a : Answer) (fault : OwnerFault)
     → (fault ≡ faults.Memory) ⊎ ((errand_of base change).sealed a ≡ Err fault) → fault ≡ faults.Link → ⊥

@@ -9,7 +9,7 @@ use Rattle.ov_surface.specs.Coats.{base_text}
 use Rattle.ov_surface.specs.Tags.{tag_of_file}
 use Rattle.ov_fields.specs.Spelling.{name_field}
 use Rattle.ov_record.specs.Updates.{SealedUpdate, SealedEnrol, SealedCreate, SealedGrant}
-use Rattle.ov_record.specs.Updates.{SealedRevoke, SealedRemove}
+use Rattle.ov_record.specs.Updates.{SealedRevoke, SealedRemove, SealedReplace}
 use Rattle.ov_history.specs.Masters.{access_key}
 use Rattle.ov_history.specs.Sealing.{token_unless}
 use Rattle.ov_wire.specs.declared.request.Question.TheVariants as questions
@@ -53,7 +53,7 @@ abbrev pub sealed_by : {T : Type 0} → (T → ℕ × SealedUpdate) → Result T
 sealed_by seal (Ok told) = Ok (seal told)
 sealed_by seal (Err fault) = Err fault
 
--- ---- the five commands
+-- ---- the six commands
 
 -- the errand that enrols a user
 abbrev pub enrolling : List ℕ → Errand
@@ -107,6 +107,21 @@ abbrev pub removing : List ℕ → Errand
 removing file = record {
   first = requests.Ask (questions.Remove file);
   sealed = λ answer. sealed_by (λ (k : Known). (k.epoch, SealedRemove k.file)) (known_of answer);
+}
+
+-- a replacement under the base master, by the plan of the list that its file has
+abbrev pub replaced : List ℕ → List ℕ → List ℕ → Plan → SealedUpdate
+replaced base file bytes plan =
+    SealedReplace file (cover_tokens Derive base (cover_in plan))
+    (tag_of_file (access_key base plan.node) plan.file bytes)
+    (base_text (access_key base plan.node) plan.file bytes)
+
+-- the errand that replaces a file by one of these bytes
+abbrev pub replacing : List ℕ → List ℕ → List ℕ → Errand
+replacing base file bytes = record {
+  first = requests.Replan file (length bytes);
+  sealed = λ answer.
+      sealed_by (λ (p : Plan). (p.epoch, replaced base file bytes p)) (plan_of answer);
 }
 
 -- what a caller sees to before a creation: the bytes are a file's, and the names are few and have

@@ -1,8 +1,11 @@
 -- The laws of an owner's talks.
 use Rattle.std.specs.Prelude.{◌≡◌, ℕ, ◌+◌, ◌*◌, ◌≤◌, List, [], ◌∷◌, length, Option, Result}
 use Rattle.std.specs.Prelude.{Err}
+use Rattle.ov_base.specs.Sets.{size}
 use Rattle.ov_script.specs.declared.command.Command.{Command}
-use Rattle.ov_script.specs.declared.command.Command.TheVariants.{Create}
+use Rattle.ov_script.specs.declared.command.Command.TheVariants.{Create, Replace}
+use Rattle.ov_history.specs.History.{file_at, matrix_of}
+use Rattle.ov_history.specs.Lists.{file_number}
 use Rattle.ov_history.specs.Masters.{Masters}
 use Rattle.ov_history.specs.Plain.{PlainHistory, history_of}
 use Rattle.ov_history.specs.Refusals.{IsLegal}
@@ -55,21 +58,28 @@ abbrev pub frame_bytes : List Ask → ℕ
 frame_bytes [] = 0
 frame_bytes (a ∷ asks) = length (framed a.request) + length (framed a.reply) + frame_bytes asks
 
--- how many bytes the frames of a call have at most: only a creation's are as many as its list and
--- its file make them
-abbrev pub most_bytes : Command → ℕ
-most_bytes (Create file names bytes) = 512 + 101 * length names + length bytes
-most_bytes command = 512
+-- how many users are in the list of the file of this name after the history
+abbrev pub list_size : PlainHistory → List ℕ → ℕ
+list_size p file =
+    let m = matrix_of (history_of p) in size (file_at m (file_number m file)).list
 
--- Of a server under the owner's surface master that nobody else updates meanwhile, the frames of a
--- call have no more bytes than the command allows, whatever files the server has.
+-- how many bytes the frames of a call have at most at a history: only a creation's and a
+-- replacement's are as many as the list and the new file make them
+abbrev pub most_bytes : PlainHistory → Command → ℕ
+most_bytes p (Create file names bytes) = 512 + 101 * length names + length bytes
+most_bytes p (Replace file bytes) = 384 + 36 * list_size p file + length bytes
+most_bytes p command = 512
+
+-- Of a server under the owner's surface master that nobody else updates meanwhile, and whose
+-- history is right by a plain one, the frames of a call have no more bytes than the command allows
+-- at this, whatever bytes its files have.
 abbrev pub TalksAreShort : Type 0
 TalksAreShort =
     (k : Masters) (command : Command) (e : Errand) (asks : List Ask) (unanswered : Option (List ℕ))
     (result : Result ℕ OwnerFault) (v last : Service) (p : PlainHistory)
     → IsErrandFor k.base command e → Talks k.surface e asks unanswered result
     → v.surface ≡ k.surface → IsLegal (history_of p) → IsSealedAs k p v.history
-    → AskedAlone v asks unanswered last → frame_bytes asks ≤ most_bytes command
+    → AskedAlone v asks unanswered last → frame_bytes asks ≤ most_bytes p command
 
 -- the result is neither a wrong reply, nor a wrong tag, nor tries that were all stale
 abbrev pub IsProper : Result ℕ OwnerFault → Type 0

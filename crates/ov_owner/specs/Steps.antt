@@ -1,7 +1,8 @@
 -- What a result of an owner is at the histories by which its asks were answered.
 use Rattle.std.specs.Prelude.{◌≡◌, ℕ, List, [], ◌∷◌, Result, Ok, Err}
 use Rattle.ov_script.specs.declared.command.Command.{Command}
-use Rattle.ov_script.specs.declared.command.Command.TheVariants.{Enrol, Create, Grant, Revoke, Remove}
+use Rattle.ov_script.specs.declared.command.Command.TheVariants.{Enrol, Create, Grant, Revoke}
+use Rattle.ov_script.specs.declared.command.Command.TheVariants.{Remove, Replace}
 use Rattle.ov_script.specs.declared.reply.Reply.{Reply}
 use Rattle.ov_script.specs.declared.reply.Reply.TheVariants as replies
 use Rattle.ov_history.specs.Masters.{Masters}
@@ -12,7 +13,8 @@ use Rattle.ov_history.specs.Sealing.{IsSealedAs}
 use Rattle.ov_model.specs.Step.{after, reply_to}
 use Rattle.ov_protocol.specs.Serving.{Service}
 use Rattle.ov_peer.specs.Asks.{Along, AreRight, Ask}
-use Rattle.ov_owner.specs.Errands.{Errand, creating, enrolling, granting, removing, revoking}
+use Rattle.ov_owner.specs.Errands.{Errand, creating, enrolling, granting, removing, replacing}
+use Rattle.ov_owner.specs.Errands.{revoking}
 use Rattle.ov_owner.specs.declared.fault.OwnerFault.{OwnerFault}
 use Rattle.ov_owner.specs.declared.fault.OwnerFault.TheVariants as faults
 
@@ -23,6 +25,7 @@ IsErrandFor base (Create file names bytes) e = e ≡ creating base file names by
 IsErrandFor base (Grant user file) e = e ≡ granting base user file
 IsErrandFor base (Revoke user file) e = e ≡ revoking user file
 IsErrandFor base (Remove file) e = e ≡ removing file
+IsErrandFor base (Replace file bytes) e = e ≡ replacing base file bytes
 IsErrandFor base command e = ⊥
 
 -- The machine replies so to the command at a legal history by which the one that answered an ask is

@@ -35,6 +35,11 @@ pub enum Change<'a> {
     Remove {
         file: &'a Name,
     },
+    /// To put a file of these bytes in the file's place, for the users of its list.
+    Replace {
+        file: &'a Name,
+        bytes: &'a [u8],
+    },
 }
 
 /// What is asked first.
@@ -67,6 +72,10 @@ pub fn first_request(alloc: Global, change: &Change<'_>) -> Result<Request, Memo
         }),
         Change::Remove { file } => Ok(Request::Ask {
             question: Question::Remove { file: file.copy() },
+        }),
+        Change::Replace { file, bytes } => Ok(Request::Replan {
+            file: file.copy(),
+            length: bytes.len() as u32,
         }),
     }
 }

@@ -20,7 +20,8 @@ pub fn one_update_at_most()
 {}
 
 /// The frames of a call to a store that nobody else updates are few and short, whatever the store's
-/// files: no file is fetched or sent again, but the one that is created.
+/// files: no file is fetched or sent again, and none is sent but the one that is created, or that
+/// replaces another.
 pub fn talks_are_short()
     ensures { TalksAreShort }
 {}

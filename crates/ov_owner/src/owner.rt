@@ -1,14 +1,16 @@
 //! The owner, who holds both masters and changes the store.
-ghost use Rattle.std.specs.Prelude.{◌≡◌};
+ghost use Rattle.std.specs.Prelude.{◌≡◌, ◌≤◌, length};
+ghost use Rattle.ov_base.specs.declared.limits.TheConstants.{MAX_FILE_BYTES};
 ghost use Rattle.ov_protocol.specs.Serving.{Service};
 ghost use Rattle.ov_script.specs.declared.command.Command.TheVariants.{Create, Enrol};
-ghost use Rattle.ov_script.specs.declared.command.Command.TheVariants.{Grant, Remove, Revoke};
+ghost use Rattle.ov_script.specs.declared.command.Command.TheVariants.{Grant, Remove, Replace};
+ghost use Rattle.ov_script.specs.declared.command.Command.TheVariants.{Revoke};
 ghost use Rattle.ov_owner.specs.Alone.{MakesOneOrNone};
 ghost use Rattle.ov_owner.specs.Calls.{Runs};
 ghost use Rattle.ov_owner.specs.Causes.{HasOwnerCause};
 ghost use Rattle.ov_owner.specs.Completeness.{IsCompleteCall, SaysUpdate};
 ghost use Rattle.ov_owner.specs.Errands.{IsCreation, creating, enrolling, granting, removing};
-ghost use Rattle.ov_owner.specs.Errands.{revoking};
+ghost use Rattle.ov_owner.specs.Errands.{replacing, revoking};
 ghost use Rattle.ov_owner.specs.Steps.{IsOwnersReply};
 ghost use Rattle.ov_owner.specs.Changes.{HasChangeLimits, command_of, errand_of};
 
@@ -50,8 +52,9 @@ impl Owner {
     /// Makes a change. Gives the new epoch.
     ///
     /// However it ends, out of memory too, a peer that nobody else updates serves what it served
-    /// before or that with this one change, whatever history that is (`alone`). Over such a
-    /// peer, whose history is right under the owner's masters, it ends as the machine does, unless it is cut off (`complete`).
+    /// before or that with this one change, whatever history that is (`alone`). Over such a peer,
+    /// whose history is right under the owner's masters, it ends as the machine does, unless it is
+    /// cut off (`complete`).
     pub fn change<P: Peer>(
         &self,
         alloc: Global,
@@ -177,5 +180,29 @@ impl Owner {
         ensures cause { HasOwnerCause (P.tells.faults peer.old) (P.tells.faults peer.new) result }
     {
         self.change(alloc, peer, &Change::Remove { file })
+    }
+    /// Replaces a file: takes it away, and puts one of its name and with these bytes in its place,
+    /// for the users who are in its list now. Gives the new epoch.
+    pub fn replace<P: Peer>(
+        &self,
+        alloc: Global,
+        peer: &mut P,
+        file: &Name,
+        bytes: &[u8],
+    ) -> Result<u32, OwnerFault>
+        requires { length bytes.now ≤ MAX_FILE_BYTES }
+        ensures runs { Runs P.tells self.now.surface
+            (replacing self.now.base file.now bytes.now) peer.old peer.new result }
+        ensures told { (v : Service) → P.tells.serves peer.old v → v.surface ≡ self.now.surface
+            → IsOwnersReply self.now (Replace file.now bytes.now) v
+            (P.tells.serves peer.new) result }
+        ensures alone { MakesOneOrNone P.tells (replacing self.now.base file.now bytes.now)
+            peer.old peer.new }
+        ensures complete { IsCompleteCall P.tells self.now peer.old peer.new
+            (SaysUpdate self.now (Replace file.now bytes.now)) result }
+        ensures same { P.tells.borrow peer.new ≡ P.tells.borrow peer.old }
+        ensures cause { HasOwnerCause (P.tells.faults peer.old) (P.tells.faults peer.new) result }
+    {
+        self.change(alloc, peer, &Change::Replace { file, bytes })
     }
 }

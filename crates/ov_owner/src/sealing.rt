@@ -6,7 +6,7 @@ ghost use Rattle.ov_record.specs.Updates.{sealed_update};
 ghost use Rattle.ov_record.specs.Forms.{second_form};
 ghost use Rattle.ov_surface.specs.Coats.{base_text};
 ghost use Rattle.ov_wire.specs.AnswersTo.{IsAnswer};
-ghost use Rattle.ov_owner.specs.Errands.{created, granted, known_of, plan_of};
+ghost use Rattle.ov_owner.specs.Errands.{created, granted, known_of, plan_of, replaced};
 ghost use Rattle.ov_owner.specs.Changes.{HasChangeLimits, errand_of};
 ghost use Rattle.ov_owner.specs.Helpers.{Seals};
 
@@ -101,6 +101,38 @@ fn seal_creation(
     })
 }
 
+/// A replacement, by the plan of the list that its file has: sealed as a new file is, and without a
+/// list of its own.
+fn seal_replacement(
+    alloc: Global,
+    base: &Master,
+    file: &Name,
+    bytes: &[u8],
+    plan: Plan,
+) -> Result<Update<SET_WORDS>, Memory>
+    requires bytes { length bytes.now ≤ MAX_FILE_BYTES }
+    requires edges { length plan.from ≤ MAX_USERS }
+    ensures update { IfOk result (λ update.
+        sealed_update update ≡ replaced base.now.bytes file.now bytes.now plan) }
+    ensures limits { IfOk result (λ update. IsWithinLimits second_form (sealed_update update)) }
+{
+    let Plan {
+        file: number,
+        node,
+        fresh,
+        from,
+        ..
+    } = plan;
+    let access = access_key(&Base::key_of(base, node));
+    let tokens = seal_cover(alloc, base, &Cover { node, fresh, from })?;
+    Ok(Update::Replace {
+        name: file.copy(),
+        tokens,
+        tag: file_tag(&access, number, bytes),
+        bytes: base_coated(alloc, &access, number, bytes)?,
+    })
+}
+
 /// A grant, by the numbers that were told, with an access token where one is wanted. It takes no
 /// memory.
 fn seal_grant(base: &Master, known: &Known) -> Update<SET_WORDS>
@@ -118,6 +150,13 @@ fn seal_grant(base: &Master, known: &Known) -> Update<SET_WORDS>
     }
 }
 
+/// The update, to be made at this epoch.
+fn made_at(epoch: u32, update: Update<SET_WORDS>) -> Sealed
+    ensures { result ≡ record { epoch = epoch; update = update } }
+{
+    Sealed { epoch, update }
+}
+
 /// What is sealed of an answer to a change's first request.
 pub fn seal(
     alloc: Global,
@@ -133,30 +172,32 @@ pub fn seal(
     match change {
         Change::Enrol { user } => {
             let epoch = known_of(answer)?.epoch;
-            let update = Update::Enrol { name: user.copy() };
-            Ok(Sealed { epoch, update })
+            Ok(made_at(epoch, Update::Enrol { name: user.copy() }))
         }
         Change::Create { file, bytes, .. } => {
             let plan = plan_of(answer)?;
             let epoch = plan.epoch;
             let update = seal_creation(alloc, base, file, bytes, plan)?;
-            Ok(Sealed { epoch, update })
+            Ok(made_at(epoch, update))
         }
         Change::Grant { .. } => {
             let known = known_of(answer)?;
-            let (epoch, update) = (known.epoch, seal_grant(base, &known));
-            Ok(Sealed { epoch, update })
+            Ok(made_at(known.epoch, seal_grant(base, &known)))
         }
         Change::Revoke { .. } => {
             let known = known_of(answer)?;
-            let (epoch, user, file) = (known.epoch, known.user, known.file);
-            let update = Update::Revoke { user, file };
-            Ok(Sealed { epoch, update })
+            let (user, file) = (known.user, known.file);
+            Ok(made_at(known.epoch, Update::Revoke { user, file }))
         }
         Change::Remove { .. } => {
             let Known { epoch, file, .. } = known_of(answer)?;
-            let update = Update::Remove { file };
-            Ok(Sealed { epoch, update })
+            Ok(made_at(epoch, Update::Remove { file }))
+        }
+        Change::Replace { file, bytes } => {
+            let plan = plan_of(answer)?;
+            let epoch = plan.epoch;
+            let update = seal_replacement(alloc, base, file, bytes, plan)?;
+            Ok(made_at(epoch, update))
         }
     }
 }

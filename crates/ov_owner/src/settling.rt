@@ -17,8 +17,8 @@ use ov_peer::{Peer, exchange};
 use ov_tokens::{Master, SurfaceMaster};
 use std::alloc::Global;
 
-/// Asks a change's first request, and seals the update of the answer. No epoch may come that is lower
-/// than `least`, which was told before.
+/// Asks a change's first request, and seals the update of the answer. No epoch may come that is
+/// lower than `least`, which was told before.
 fn ask<P: Peer>(
     alloc: Global,
     peer: &mut P,

@@ -10,7 +10,7 @@ use std::test::Fail;
 
 mod frames;
 
-use frames::{CREATION, GRANT, REMOVAL, REVOCATION};
+use frames::{CREATION, GRANT, REMOVAL, REPLACEMENT, REVOCATION};
 
 fn owner() -> Owner {
     let base = Key { bytes: [0x11; 32] };
@@ -63,6 +63,12 @@ fn revoke<P: Peer>(alloc: Global, peer: &mut P) -> Result<Result<u32, OwnerFault
 fn remove<P: Peer>(alloc: Global, peer: &mut P) -> Result<Result<u32, OwnerFault>, Fail> {
     let file = name(b"f1")?;
     Ok(owner().remove(alloc, peer, &file))
+}
+
+/// Replaces `f2` with the text `abc`.
+fn replace<P: Peer>(alloc: Global, peer: &mut P) -> Result<Result<u32, OwnerFault>, Fail> {
+    let file = name(b"f2")?;
+    Ok(owner().replace(alloc, peer, &file, b"abc"))
 }
 
 /// Asks for the list of `f1`.
@@ -274,8 +280,35 @@ fn a_removal_is_told_no_user(rt: HostRuntime) -> Result<(), Fail> {
 fn a_removal_is_refused(rt: HostRuntime) -> Result<(), Fail> {
     let refused = Err(OwnerFault::Refused(Refusal::NoFile));
     assert_eq!(rt; removed(rt.alloc(), &[0x88, 3])?, refused);
-    // It is never Taken, so that the owner takes no such reply.
+    // It is never Taken, and needs no node, so that the owner takes no such reply.
     assert_eq!(rt; is_bad_reply(removed(rt.alloc(), &[0x88, 1])?), true);
+    assert_eq!(rt; is_bad_reply(removed(rt.alloc(), &[0x88, 10])?), true);
+    Ok(())
+}
+
+#[test]
+fn a_replacement_is_sent_as_another_program_does(rt: HostRuntime) -> Result<(), Fail> {
+    let mut peer = tracing(rt.alloc(), REPLACEMENT)?;
+    assert_eq!(rt; replace(rt.alloc(), &mut peer)?, Ok(10));
+    assert_eq!(rt; peer.sink.written(), REPLACEMENT);
+    Ok(())
+}
+
+/// What comes of a replacement whose first ask is replied to so.
+fn replaced(alloc: Global, told: &[u8]) -> Result<Result<u32, OwnerFault>, Fail> {
+    replace(alloc, &mut replying(alloc, &[told, ACCEPTED_8])?)
+}
+
+#[test]
+fn a_replacement_is_refused(rt: HostRuntime) -> Result<(), Fail> {
+    let refused = Err(OwnerFault::Refused(Refusal::NoFile));
+    assert_eq!(rt; replaced(rt.alloc(), &[0x88, 3])?, refused);
+    let refused = Err(OwnerFault::Refused(Refusal::BytesFull));
+    assert_eq!(rt; replaced(rt.alloc(), &[0x88, 9])?, refused);
+    // The name of the file is there, so that it is never Taken.
+    assert_eq!(rt; is_bad_reply(replaced(rt.alloc(), &[0x88, 1])?), true);
+    // What is told is a plan, and no numbers as for a removal.
+    assert_eq!(rt; is_bad_reply(replaced(rt.alloc(), TOLD_FILE)?), true);
     Ok(())
 }
 

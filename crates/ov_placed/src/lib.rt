@@ -17,14 +17,17 @@
 //!                        │                                        │
 //!                        └─ first blocks ──► new extents: each held, while the old ones are still held
 //!                                                                 │
-//!   extent of a removed file given up, first blocks put, old extents given up, change committed
+//!   extent of a file that is gone given up, first blocks put, old extents given up, change committed
 //!
 //! prepare   update ── Brief::of ──► brief ── spell_update, State::prepare ──► change, front, text
-//!                                     └── number of a file that is removed
+//!                                     └── number of a file that is removed or replaced
 //! update    change, front, text, number ── ov_updating::update ──► new bytes and record on the disk
 //!                                                                 │
-//!                             file added or taken away, first blocks put, change committed
+//!                             file added, file taken away, first blocks put, change committed
 //! ```
+//!
+//! A record has the *name* of a file that is replaced. Its number is looked up in the catalogue before
+//! the change is committed: after it the name is that of the new file.
 //!
 //! **What a contract sees** is one value, `PlacedStore` (`specs/Contents`): the catalogue and its
 //! room, the first blocks by file number, and what is held.

@@ -1,7 +1,8 @@
 //! Updates that are prepared and not yet made.
 ghost use Rattle.std.specs.Prelude.{◌≡◌, ◌*◌, true, false, IfErr, IfOk};
-ghost use Rattle.ov_history.specs.Briefs.{brief};
-ghost use Rattle.ov_record.specs.Briefs.{plain_brief};
+ghost use Rattle.ov_history.specs.Catalogue.{file_names_shown};
+ghost use Rattle.ov_history.specs.Sent.{numbered};
+ghost use Rattle.ov_record.specs.Briefs.{brief, plain_brief};
 ghost use Rattle.ov_record.specs.Forms.{second_form};
 ghost use Rattle.ov_record.specs.Stored.{IsBriefWithinLimits};
 ghost use Rattle.ov_record.specs.Updates.{sealed_update};
@@ -21,7 +22,8 @@ use ov_updating::spell_update;
 use std::alloc::Global;
 
 /// All of an update that its catalogue and its record need: the change of the catalogue, the spelling
-/// with which its record begins, the bytes of a new file, and the number of a file that is removed.
+/// with which its record begins, the bytes of a new file, and the number of a file that is removed or
+/// replaced.
 #[derive(Drop)]
 pub struct Prepared<const W: usize> {
     pub(crate) change: Change<W>,
@@ -39,6 +41,7 @@ fn has_few_tokens(update: &Brief<WIDTH>) -> bool
 {
     match update {
         Brief::Create { tokens, .. } => tokens.as_slice().len() <= MAX_USERS as usize,
+        Brief::Replace { tokens, .. } => tokens.as_slice().len() <= MAX_USERS as usize,
         _ => true,
     }
 }
@@ -68,15 +71,16 @@ impl CataloguePlaces {
     ) -> Result<Prepared<WIDTH>, PrepareFault>
         requires { IsFitting (brief (sealed_update update)) }
         ensures same { HoldsTheSame self.old self.new }
-        ensures prepared { IfOk result (IsPrepared (64 * WIDTH) surface.now.bytes
-            self.old.catalogue (sealed_update update)) }
+        ensures prepared { let c = self.old.catalogue in
+            IfOk result (IsPrepared (64 * WIDTH) surface.now.bytes c
+            (numbered (file_names_shown c) (sealed_update update))) }
         ensures room { IfOk result (λ prepared. HasRoomFor self.new.room prepared.change) }
         ensures fault { IfErr result
             (IsFaultOf WIDTH self.old.catalogue (brief (sealed_update update))) }
     {
         let (brief, text) = Brief::of(update);
         let (brief, front) = spell(alloc, brief)?;
-        let removed = removed_by(&brief);
+        let removed = removed_by(&self.catalogue, &brief);
         let change = self.catalogue.prepare(alloc, surface, brief)?;
         match front {
             Some(front) => Ok(Prepared {

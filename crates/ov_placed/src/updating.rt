@@ -6,11 +6,11 @@ ghost use Rattle.ov_disk.specs.Disk.{Only, Told};
 ghost use Rattle.ov_history.specs.Briefs.{brief, text_of};
 ghost use Rattle.ov_history.specs.Places.{change_at};
 ghost use Rattle.ov_history.specs.Placed.{first_if, left_if, replaced, takes_place, with_unplaced};
+ghost use Rattle.ov_history.specs.Sent.{SealedUpdate};
 ghost use Rattle.ov_journal.specs.Log.{Stands};
 ghost use Rattle.ov_journal.specs.declared.fault.CheckFault.TheVariants.{Disk as DiskFailed, Memory as NoMemory};
 ghost use Rattle.ov_moves.specs.Placing.{LiesIn};
 ghost use Rattle.ov_moves.specs.Runs.{LeavesAtMost};
-ghost use Rattle.ov_record.specs.Updates.{SealedUpdate};
 ghost use Rattle.ov_state.specs.Changes.{AreOfFiles, HasRoomFor};
 ghost use Rattle.ov_state.specs.Entries.{plain_rewrites};
 ghost use Rattle.ov_updating.specs.Files.{firsts_of, removed_by};
@@ -18,9 +18,8 @@ ghost use Rattle.ov_placed.specs.Contents.{HoldsTheSame};
 ghost use Rattle.ov_placed.specs.Updating.{HasLogAfter, IsPrepared, KeepsOrGoesOn, MakesUpdate, bytes_of};
 
 use crate::catalogue::CataloguePlaces;
-use crate::exchanging::make_room;
+use crate::exchanging::{make_room, unplace};
 use crate::preparing::Prepared;
-use crate::removing::take_away;
 use ov_base::Octets;
 use ov_disk::Disk;
 use ov_journal::{CheckFault, Journal};
@@ -41,19 +40,14 @@ fn bytes_of(text: &Option<Octets>) -> &[u8]
     }
 }
 
-// Adds the file of a text, where there is one: it has no first block yet, and there is room for it.
-// Else it takes the first block of the file of this number away, where there is a number.
+// Adds the file of a text, where there is one, for which there is room; and takes the first block of
+// the file of this number away, where there is a number. A replacement has both.
 fn unplace_by(placed: &mut Vec<Option<u32>>, text: &Option<Octets>, removed: Option<u32>)
     requires { 1 ≤ vec_capacity placed.old - vec_len placed.old }
     ensures { (u : SealedUpdate) → text.now ≡ text_of u → removed ≡ removed_by (brief u)
         → placed.new.items ≡ with_unplaced placed.old.items (brief u) }
 {
-    match text {
-        Some(_) => {
-            let _ = placed.push(None);
-        }
-        None => take_away(placed, removed),
-    }
+    unplace(placed, text.is_some(), removed);
 }
 
 // Where the first of these moves goes, and those that are left. A file with no byte has none.

@@ -105,3 +105,14 @@ pub(crate) fn grant(rt: &impl Abort, alloc: Global, user: u32, firsts: &[u32]) -
 pub(crate) fn remove(rt: &impl Abort, alloc: Global, file: u32, firsts: &[u32]) -> Vec<u8> {
     record(rt, alloc, Brief::Remove { file }, firsts)
 }
+
+/// The replacement of the file of this name by one as long, for a list whose base node is there.
+pub(crate) fn replace(rt: &impl Abort, alloc: Global, text: &[u8], firsts: &[u32]) -> Vec<u8> {
+    let update = Brief::Replace {
+        name: name(rt, text),
+        tokens: Tokens::new(alloc),
+        tag: [0; 32],
+        length: LENGTH,
+    };
+    record(rt, alloc, update, firsts)
+}

@@ -2,7 +2,9 @@
 ghost use Rattle.std.specs.Prelude.{◌≤◌};
 ghost use Rattle.ov_blocks.specs.declared.extents.TheConstants.{MAX_BLOCKS};
 
-use crate::bodies::{create, create_again, create_of_first_format, enrol, grant, remove, revoke};
+use crate::bodies::{
+    create, create_again, create_of_first_format, enrol, grant, remove, replace, revoke,
+};
 use crate::replaying::replay_all;
 use ov_base::{Key, Mode, Octets};
 use ov_blocks::Extent;
@@ -143,6 +145,45 @@ fn bad_removals_are_named(rt: HostRuntime) {
     assert!(rt; replayed(alloc, &mut it, &body).is_ok());
     assert!(rt; replayed(alloc, &mut it, &body) == in_book(GATE));
     assert!(rt; replayed(alloc, &mut it, &revoke(&rt, alloc, 1, &[3])) == in_book(GATE));
+}
+
+#[test]
+fn a_replaced_file_gives_its_blocks_back(rt: HostRuntime) {
+    let alloc = rt.alloc();
+    let mut it = with_file(&rt, alloc);
+    // The blocks of the old file are in use until it is replaced.
+    assert!(rt; replayed(alloc, &mut it, &replace(&rt, alloc, b"f", &[0])) == at_block(0));
+    assert!(rt; holds(&it, 0));
+    assert!(rt; replayed(alloc, &mut it, &replace(&rt, alloc, b"f", &[3])).is_ok());
+    assert!(rt; it.first_block(0).is_none());
+    assert!(rt; it.first_block(1) == Some(3));
+    // The new file has the name, so it is replaced by the next record, at the blocks of the first.
+    assert!(rt; replayed(alloc, &mut it, &replace(&rt, alloc, b"f", &[0])).is_ok());
+    assert!(rt; it.first_block(1).is_none());
+    assert!(rt; it.first_block(2) == Some(0));
+    let (front, back) = it.extents().held();
+    let held = [Extent {
+        first: 0,
+        length: 3,
+    }];
+    assert!(rt; front.iter().chain(back).eq(held.iter()));
+}
+
+#[test]
+fn bad_replacements_are_named(rt: HostRuntime) {
+    let alloc = rt.alloc();
+    let mut it = with_file(&rt, alloc);
+    // No file has this name, and there is no replacement in a record of the first format.
+    assert!(rt; replayed(alloc, &mut it, &replace(&rt, alloc, b"g", &[3])) == in_book(GATE));
+    let body = replace(&rt, alloc, b"f", &[3]);
+    assert!(rt; replayed_as(alloc, &mut it, Format::First, &body) == in_book(GATE + 5));
+    // It has one first block, behind the kind, the name, the number of tokens, the tag and the length.
+    let none = replace(&rt, alloc, b"f", &[]);
+    assert!(rt; replayed(alloc, &mut it, &none) == in_book(GATE + 5 + 41));
+    assert!(rt; holds(&it, 0));
+    // The name is given up with a file that is removed.
+    assert!(rt; replayed(alloc, &mut it, &remove(&rt, alloc, 0, &[])).is_ok());
+    assert!(rt; replayed(alloc, &mut it, &body) == in_book(GATE));
 }
 
 #[test]

@@ -1,8 +1,7 @@
 -- What asks leave.
-use Rattle.std.proofs.Common.{◌≡◌, ℕ, List, [], Result, Ok, Err, refl, ap, inl, inr}
+use Rattle.std.proofs.Common.{◌≡◌, ℕ, List, [], Result, Ok, Err, refl, inl, inr}
 use Rattle.std.specs.Prelude.{◌⊎◌}
 use Rattle.std.proofs.Common.{subst, sym}
-use Rattle.std.proofs.lemmas.List.{append-nil}
 use Rattle.ov_record.specs.Updates.{SealedUpdate}
 use Rattle.ov_wire.specs.declared.request.Request.{Request}
 use Rattle.ov_wire.specs.declared.request.Request.TheVariants as requests
@@ -13,9 +12,7 @@ use Rattle.ov_protocol.specs.Serving.{Service, Serving, later}
 use Rattle.ov_protocol.specs.Replies.{MayMake, Replies, made_of, updates_asked}
 
 pub later-nil : (v : Service) → later v [] ≡ v
-later-nil v =
-    ap (λ (us : List SealedUpdate). record v { history = record v.history { updates = us } })
-    (append-nil v.history.updates)
+later-nil v = refl
 
 some_or_none : (read : Result Request ℕ) (a : Answer)
     → (made_of read a ≡ []) ⊎ (made_of read a ≡ updates_asked read)

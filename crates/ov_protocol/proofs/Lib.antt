@@ -1,3 +1,4 @@
+pub mod Following
 pub mod GoingOn
 pub mod Untold
 pub mod OneChain
@@ -5,4 +6,5 @@ pub mod OneAnswer
 pub mod OneReply
 pub mod Reading
 pub mod Leaving
+pub mod Removing
 mod Rows

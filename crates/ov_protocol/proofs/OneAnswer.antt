@@ -5,11 +5,12 @@ use Rattle.std.specs.Prelude.{Option, Some, None, IsSome, length, option_map, sl
 use Rattle.ov_base.specs.declared.refusal.Refusal.{Refusal}
 use Rattle.ov_base.specs.declared.limits.TheConstants.{SET_WORDS}
 use Rattle.ov_base_layer.specs.Holders.{AreFirst, accesses_of}
+use Rattle.ov_record.specs.Briefs.{brief}
 use Rattle.ov_record.specs.Reading.{update_of}
 use Rattle.ov_record.specs.Updates.{SealedUpdate}
 use Rattle.ov_record.specs.Forms.{second_form}
-use Rattle.ov_history.specs.Briefs.{brief}
-use Rattle.ov_history.specs.History.{Created}
+use Rattle.ov_history.specs.History.{Created, Replaced}
+use Rattle.ov_history.specs.Layers.{list_in}
 use Rattle.ov_history.specs.Lists.{file_at, names_in, set_named}
 use Rattle.ov_history.specs.Places.{living_at}
 use Rattle.ov_history.specs.Refusals.{list_refusal, read_refusal}
@@ -23,8 +24,9 @@ use Rattle.ov_wire.specs.declared.request.Request.TheVariants as requests
 use Rattle.ov_wire.specs.declared.answer.Chained.{Chained}
 use Rattle.ov_wire.specs.declared.answer.Answer.{Answer}
 use Rattle.ov_wire.specs.declared.answer.Answer.TheVariants as answers
-use Rattle.ov_protocol.specs.Serving.{IsService, Service, Serving}
-use Rattle.ov_protocol.specs.Asking.{AnswersAsk, AnswersCover, known_at, numbers_for, plan_for}
+use Rattle.ov_protocol.specs.Serving.{IsService, Service, Serving, brief_in}
+use Rattle.ov_protocol.specs.Asking.{AnswersAsk, AnswersCover, AnswersReplan, known_at}
+use Rattle.ov_protocol.specs.Asking.{numbers_for, plan_for}
 use Rattle.ov_history.specs.Asking.{file_named}
 use Rattle.ov_history.specs.Asking.{refusal_at, user_named}
 use Rattle.ov_protocol.specs.Asking.{refusal_to}
@@ -42,7 +44,7 @@ abbrev told : Option Refusal → Answer → Answer
 told None answer = answer
 told (Some why) answer = answers.Refused why
 
--- ---- Ask, Cover and List
+-- ---- Ask, Cover, Replan and List
 
 ask_is : (c : Catalogue) (q : Question) (a : Answer) → AnswersAsk c q a
     → a ≡ told (refusal_to c q) (answers.Known (known_at c (numbers_for c q)))
@@ -57,6 +59,14 @@ cover_is c name len list (answers.Plan plan) (none, is) = rw (none, is) refl
 cover_is c name len list (answers.Refused why) is = rw is refl
 cover_is c name len list a is = absurd is
 
+replan_is : (c : Catalogue) (file len : ℕ) (a : Answer) → AnswersReplan c file len a
+    → a
+    ≡ told (refusal_at c (Replaced file len))
+    (answers.Plan (plan_for c (list_in (outline c) file)))
+replan_is c file len (answers.Plan plan) (none, is) = rw (none, is) refl
+replan_is c file len (answers.Refused why) is = rw is refl
+replan_is c file len a is = absurd is
+
 list_is : (c : Catalogue) (file : ℕ) (a : Answer) → AnswersList c file a
     → a
     ≡ told (list_refusal (matrix_shown c) file)
@@ -69,11 +79,11 @@ list_is c file a is = absurd is
 
 -- a sealed update is refused or made, or a part of it is wrong
 data Judged (c : Catalogue) (u : SealedUpdate) (a : Answer) : Type 0 where
-  refused : (why : Refusal) → refusal_shown c (brief u) ≡ Some why → a ≡ answers.Refused why
+  refused : (why : Refusal) → refusal_shown c (brief_in c u) ≡ Some why → a ≡ answers.Refused why
       → Judged c u a
-  accepted : refusal_shown c (brief u) ≡ None → HasParts (outline c) (brief u)
+  accepted : refusal_shown c (brief_in c u) ≡ None → HasParts (outline c) (brief_in c u)
       → a ≡ answers.Accepted (c.epoch + 1) → Judged c u a
-  unfit : refusal_shown c (brief u) ≡ None → (HasParts (outline c) (brief u) → ⊥)
+  unfit : refusal_shown c (brief_in c u) ≡ None → (HasParts (outline c) (brief_in c u) → ⊥)
       → a ≡ answers.BadRequest (spelling_place + part_place SET_WORDS (brief u)) → Judged c u a
 
 judged : (c : Catalogue) (u : SealedUpdate) (a : Answer) → AnswersSealed c u a → Judged c u a
@@ -93,17 +103,17 @@ some_or_none r why p q = let both : Some why ≡ None = sym p ∙ q in cc
 judged_once : (c : Catalogue) (u : SealedUpdate) (one other : Answer) → Judged c u one
     → Judged c u other → one ≡ other
 judged_once c u one other (refused why p is) (refused again q too) =
-    is ∙ ap answers.Refused (some_is (refusal_shown c (brief u)) why again p q) ∙ sym too
+    is ∙ ap answers.Refused (some_is (refusal_shown c (brief_in c u)) why again p q) ∙ sym too
 judged_once c u one other (refused why p is) (accepted q parts too) =
-    absurd (some_or_none (refusal_shown c (brief u)) why p q)
+    absurd (some_or_none (refusal_shown c (brief_in c u)) why p q)
 judged_once c u one other (refused why p is) (unfit q unfits too) =
-    absurd (some_or_none (refusal_shown c (brief u)) why p q)
+    absurd (some_or_none (refusal_shown c (brief_in c u)) why p q)
 judged_once c u one other (accepted p parts is) (refused again q too) =
-    absurd (some_or_none (refusal_shown c (brief u)) again q p)
+    absurd (some_or_none (refusal_shown c (brief_in c u)) again q p)
 judged_once c u one other (accepted p parts is) (accepted q again too) = is ∙ sym too
 judged_once c u one other (accepted p parts is) (unfit q unfits too) = absurd (unfits parts)
 judged_once c u one other (unfit p unfits is) (refused again q too) =
-    absurd (some_or_none (refusal_shown c (brief u)) again q p)
+    absurd (some_or_none (refusal_shown c (brief_in c u)) again q p)
 judged_once c u one other (unfit p unfits is) (accepted q parts too) = absurd (unfits parts)
 judged_once c u one other (unfit p unfits is) (unfit q again too) = is ∙ sym too
 
@@ -268,6 +278,10 @@ by_request s v (requests.Page part number) one other P is p q same chunk = same 
 by_request s v (requests.List file) one other P is p q same chunk =
     let number : ℕ = file_named s.catalogue file in
     same (list_is s.catalogue number one p ∙ sym (list_is s.catalogue number other q))
+by_request s v (requests.Replan file len) one other P is p q same chunk =
+    let number : ℕ = file_named s.catalogue file in
+    same
+    (replan_is s.catalogue number len one p ∙ sym (replan_is s.catalogue number len other q))
 
 pub one_answer : OneAnswer
 one_answer s v request one other is tells p q =

@@ -1,20 +1,23 @@
 -- Worked frames, whose bytes another program made.
-use Rattle.std.proofs.Common.{◌≡◌, ℕ, List, [], ◌∷◌, ◌++◌, Some, None, refl, arith}
+use Rattle.std.proofs.Common.{◌≡◌, ℕ, true, List, [], ◌∷◌, ◌++◌, Some, None, refl, arith}
 use Rattle.std.specs.Prelude.{length, replicate}
 use Rattle.ov_base.specs.Sets.{bytes_of}
 use Rattle.ov_base.specs.declared.mode.Mode.TheVariants.{Delta}
-use Rattle.ov_base.specs.declared.refusal.Refusal.TheVariants.{NoFile, NoPath}
+use Rattle.ov_base.specs.declared.refusal.Refusal.TheVariants.{BytesFull, NoFile, NoPath}
 use Rattle.ov_tokens.specs.declared.token.Token.{Token}
 use Rattle.ov_tokens.specs.declared.edge.Edge.{Edge}
-use Rattle.ov_record.specs.Updates.{SealedUpdate, SealedEnrol, SealedCreate, SealedGrant}
-use Rattle.ov_record.specs.Updates.{SealedRemove}
+use Rattle.ov_record.specs.Updates.{SealedUpdate as SpelledUpdate}
+use Rattle.ov_record.specs.Updates.{SealedReplace as SpelledReplace}
+use Rattle.ov_history.specs.Sent.{SealedUpdate, SealedEnrol, SealedCreate, SealedGrant}
+use Rattle.ov_history.specs.Sent.{SealedRemove, SealedReplace}
+use Rattle.ov_history.specs.Asking.{file_named}
 use Rattle.ov_wire.specs.declared.request.Question.TheVariants as questions
 use Rattle.ov_wire.specs.declared.answer.Answer.TheVariants as answers
 use Rattle.ov_wire.specs.AnswerBytes.{answer_bytes}
 use Rattle.ov_wire.specs.Entries.{Node}
 use Rattle.ov_wire.specs.RequestReading.{question_at}
 use Rattle.ov_wire.specs.declared.request.Request.TheVariants as requests
-use Rattle.ov_protocol.specs.Serving.{Serving, Service, served}
+use Rattle.ov_protocol.specs.Serving.{Serving, Service, later, served}
 use Rattle.ov_protocol.specs.Asking.{known_at, numbers_for}
 use Rattle.ov_protocol.specs.Answers.{Answers}
 use Rattle.ov_protocol.specs.Pages.{entry_of, page_of}
@@ -111,6 +114,59 @@ gone_page = refl
 
 no_page : entry_of gone.catalogue 5 2 ≡ None
 no_page = refl
+
+-- ---- a file is replaced
+
+abbrev name : List ℕ
+name = 102 ∷ []
+
+-- two users, and a file for the first of them that is granted to the second
+abbrev granted : List SealedUpdate
+granted =
+    SealedEnrol (97 ∷ []) ∷ SealedEnrol (98 ∷ [])
+    ∷ SealedCreate name 1 [] (replicate 32 8) (120 ∷ 49 ∷ [])
+    ∷ SealedGrant 1 0 (Some token) ∷ []
+
+abbrev shared : Serving
+shared = served (service granted)
+
+-- three bytes in its place would be file 1, under a new node of both users, into which an edge goes
+-- from each of theirs
+replanned : Answers shared (requests.Replan name 3) (answers.Plan (record {
+  epoch = 4;
+  file = 1;
+  list = 3;
+  node = 2;
+  fresh = true;
+  from = 0 ∷ 1 ∷ [];
+}))
+unfolding lib.Count.ones
+replanned = (refl, refl)
+
+-- these are too many bytes even without the old ones
+too_many : Answers shared (requests.Replan name 67108865) (answers.Refused BytesFull)
+too_many = refl
+
+no_such_name : Answers shared (requests.Replan first 3) (answers.Refused NoFile)
+no_such_name = refl
+
+-- the replacement is spelled with the file's name, and the history has it with the file's number
+abbrev replacement : SpelledUpdate
+replacement = SpelledReplace name (token ∷ token ∷ []) (replicate 32 9) (97 ∷ 98 ∷ 99 ∷ [])
+
+abbrev replaced : Service
+replaced = later (service granted) (replacement ∷ [])
+
+by_number : replaced.history.updates
+    ≡ granted ++ SealedReplace 0 (token ∷ token ∷ []) (replicate 32 9) (97 ∷ 98 ∷ 99 ∷ []) ∷ []
+by_number = refl
+
+-- the old file's bytes are refused, and the name is that of the new file
+no_old_chunk : Answers (served replaced) (requests.Chunk 0 4 0 2) (answers.Refused NoFile)
+no_old_chunk = refl
+
+new_number : file_named (served replaced).catalogue name ≡ 1
+new_number = refl
 
 -- ---- a frame that is no request
 

@@ -8,7 +8,7 @@ use Rattle.ov_wire.specs.declared.answer.Answer.{Answer}
 use Rattle.ov_wire.specs.declared.answer.Answer.TheVariants as answers
 use Rattle.ov_wire.specs.declared.answer.Welcome.{Welcome}
 use Rattle.ov_protocol.specs.Serving.{Serving}
-use Rattle.ov_protocol.specs.Asking.{AnswersAsk, AnswersCover}
+use Rattle.ov_protocol.specs.Asking.{AnswersAsk, AnswersCover, AnswersReplan}
 use Rattle.ov_history.specs.Asking.{file_named, user_named}
 use Rattle.ov_history.specs.Places.{living_at}
 use Rattle.ov_protocol.specs.Updating.{AnswersUpdate, updates_in}
@@ -40,6 +40,8 @@ Answers s (requests.Chunk file generation start count) answer =
 Answers s (requests.Page part number) answer =
     answer ≡ answers.PageOf (page_of (entry_of s.catalogue part number))
 Answers s (requests.List file) answer = AnswersList s.catalogue (file_named s.catalogue file) answer
+Answers s (requests.Replan file len) answer =
+    AnswersReplan s.catalogue (file_named s.catalogue file) len answer
 
 -- the updates that are made by this answer: the one that is accepted, or none
 abbrev pub made_by : Request → Answer → List SealedUpdate

@@ -4,8 +4,9 @@ use Rattle.ov_base.specs.declared.refusal.Refusal.{Refusal}
 use Rattle.ov_graph.specs.Contents.{plan_of}
 use Rattle.ov_history.specs.Asking.{Numbers, file_named, key_refusal, newcomer, of_both, of_grant}
 use Rattle.ov_history.specs.Asking.{of_file, of_user, refusal_at, user_named}
-use Rattle.ov_history.specs.Catalogue.{Catalogue}
-use Rattle.ov_history.specs.History.{Enrolled, Created, Granted, Removed, Revoked}
+use Rattle.ov_history.specs.Catalogue.{Catalogue, outline}
+use Rattle.ov_history.specs.History.{Enrolled, Created, Granted, Removed, Replaced, Revoked}
+use Rattle.ov_history.specs.Layers.{list_in}
 use Rattle.ov_wire.specs.declared.request.Question.{Question}
 use Rattle.ov_wire.specs.declared.request.Question.TheVariants as questions
 use Rattle.ov_wire.specs.declared.answer.Known.{Known}
@@ -52,7 +53,7 @@ AnswersAsk c question (answers.Known known) =
 AnswersAsk c question (answers.Refused why) = refusal_to c question ≡ Some why
 AnswersAsk c question answer = ⊥
 
--- ---- Cover
+-- ---- Cover and Replan
 
 -- where a list is in the base layer, or would be: its node, and where the edges into a new one
 -- start
@@ -73,3 +74,11 @@ AnswersCover c name len list (answers.Plan plan) =
 AnswersCover c name len list (answers.Refused why) =
     refusal_at c (Created name list len) ≡ Some why
 AnswersCover c name len list answer = ⊥
+
+-- the plan of a new file of this length with the list of the file of this number, which it
+-- replaces, or why the replacement would be refused
+abbrev pub AnswersReplan : Catalogue → ℕ → ℕ → Answer → Type 0
+AnswersReplan c file len (answers.Plan plan) =
+    (refusal_at c (Replaced file len) ≡ None) × (plan ≡ plan_for c (list_in (outline c) file))
+AnswersReplan c file len (answers.Refused why) = refusal_at c (Replaced file len) ≡ Some why
+AnswersReplan c file len answer = ⊥

@@ -1,9 +1,12 @@
 -- What a server answers by, and histories as they are served.
-use Rattle.std.specs.Prelude.{◌≡◌, ℕ, List, ◌++◌, Option, Some, None, IfSome, option_map}
+use Rattle.std.specs.Prelude.{◌≡◌, ℕ, List, [], ◌∷◌, Option, Some, None, IfSome, option_map}
+use Rattle.ov_record.specs.Briefs.{brief, text_of}
 use Rattle.ov_record.specs.Updates.{SealedUpdate}
-use Rattle.ov_history.specs.Catalogue.{Catalogue}
+use Rattle.ov_history.specs.Briefs.{Brief, numbered_brief}
+use Rattle.ov_history.specs.Catalogue.{Catalogue, catalogue_after, file_names_shown}
+use Rattle.ov_history.specs.Rewrites.{rewrites_of, stored_after, without_gone}
 use Rattle.ov_history.specs.Sealed.{SealedHistory, StandsFor, KeepsBytes}
-use Rattle.ov_history.specs.Sealed.{catalogue_all, catalogue_of, stored_all, stored_of}
+use Rattle.ov_history.specs.Sealed.{catalogue_of, stored_of, with_spelled}
 
 -- All that a server's answers follow from: both halves of its store, the surface master, and the
 -- check value of the base master. The stored bytes are told by some servers and not by others: only
@@ -46,18 +49,44 @@ pub record IsService (s : Serving) (v : Service) : Type 0 where
   pub surface : s.surface ≡ v.surface
   pub base_check : s.base_check ≡ v.base_check
 
+-- ---- updates as they are spelled
+
+-- The update that is spelled so to a server with this catalogue, without its bytes. The file that
+-- it replaces is spelled by name, and here it has the number that the name has in the catalogue.
+abbrev pub brief_in : Catalogue → SealedUpdate → Brief
+brief_in c u = numbered_brief (file_names_shown c) (brief u)
+
+-- the catalogue after these updates, each spelled by the names of the files after those before it,
+-- under the surface master
+abbrev pub catalogue_followed : List ℕ → Catalogue → List SealedUpdate → Catalogue
+catalogue_followed master c [] = c
+catalogue_followed master c (u ∷ updates) =
+    catalogue_followed master (catalogue_after master c (brief_in c u)) updates
+
+-- the stored bytes after these updates as they are spelled, from a store with this catalogue, under
+-- the surface master
+abbrev pub stored_followed : List ℕ → Catalogue → List (List ℕ) → List SealedUpdate
+    → List (List ℕ)
+stored_followed master c stored [] = stored
+stored_followed master c stored (u ∷ updates) =
+    stored_followed master (catalogue_after master c (brief_in c u))
+    (stored_after master (rewrites_of c (brief_in c u)) (text_of u)
+    (without_gone stored (brief_in c u)))
+    updates
+
 -- what a server answers by after these updates; one that tells its stored bytes tells them again
 abbrev pub serving_after : Serving → List SealedUpdate → Serving
 serving_after s updates = record s {
-  catalogue = catalogue_all s.surface s.catalogue updates;
-  stored =
-      option_map (λ bytes. stored_all s.surface s.catalogue bytes updates) s.stored;
+  catalogue = catalogue_followed s.surface s.catalogue updates;
+  stored = option_map (λ bytes. stored_followed s.surface s.catalogue bytes updates) s.stored;
 }
 
--- the history with these updates behind its own
+-- the history followed by these updates, each spelled by the names of the files after those before
+-- it
 abbrev pub followed : SealedHistory → List SealedUpdate → SealedHistory
-followed g updates = record g { updates = g.updates ++ updates }
+followed g [] = g
+followed g (u ∷ updates) = followed (with_spelled g u) updates
 
--- the service with the same keys, and with these updates behind those of its history
+-- the service with the same keys, whose history is followed by these updates
 abbrev pub later : Service → List SealedUpdate → Service
 later v updates = record v { history = followed v.history updates }

@@ -5,14 +5,16 @@ use Rattle.ov_base.specs.declared.limits.TheConstants.{SET_WORDS}
 use Rattle.ov_fields.specs.Spelling.{u32}
 use Rattle.ov_keyed.specs.Hmac.{hmac}
 use Rattle.ov_tokens.specs.Keys.{update_key_of}
+use Rattle.ov_record.specs.Briefs.{brief}
 use Rattle.ov_record.specs.Reading.{update_of}
 use Rattle.ov_record.specs.Updates.{SealedUpdate}
 use Rattle.ov_record.specs.Forms.{second_form}
-use Rattle.ov_history.specs.Briefs.{brief, part_place}
+use Rattle.ov_history.specs.Briefs.{part_place}
 use Rattle.ov_history.specs.Catalogue.{Catalogue, outline}
 use Rattle.ov_history.specs.Sealed.{HasParts, refusal_shown}
 use Rattle.ov_wire.specs.declared.answer.Answer.{Answer}
 use Rattle.ov_wire.specs.declared.answer.Answer.TheVariants as answers
+use Rattle.ov_protocol.specs.Serving.{brief_in}
 
 -- the owner's tag of an update that is made at an epoch, under the surface master
 abbrev pub owner_tag : List ℕ → ℕ → List ℕ → List ℕ
@@ -26,10 +28,11 @@ spelling_place = 5
 -- the place of the wrong part in the frame is named.
 abbrev pub AnswersSealed : Catalogue → SealedUpdate → Answer → Type 0
 AnswersSealed c u (answers.Accepted epoch) =
-    (refusal_shown c (brief u) ≡ None) × HasParts (outline c) (brief u) × (epoch ≡ c.epoch + 1)
-AnswersSealed c u (answers.Refused why) = refusal_shown c (brief u) ≡ Some why
+    (refusal_shown c (brief_in c u) ≡ None) × HasParts (outline c) (brief_in c u)
+    × (epoch ≡ c.epoch + 1)
+AnswersSealed c u (answers.Refused why) = refusal_shown c (brief_in c u) ≡ Some why
 AnswersSealed c u (answers.BadRequest place) =
-    (refusal_shown c (brief u) ≡ None) × (HasParts (outline c) (brief u) → ⊥)
+    (refusal_shown c (brief_in c u) ≡ None) × (HasParts (outline c) (brief_in c u) → ⊥)
     × (place ≡ spelling_place + part_place SET_WORDS (brief u))
 AnswersSealed c u answer = ⊥
 

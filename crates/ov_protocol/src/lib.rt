@@ -15,6 +15,10 @@
 //! server answers to a frame is said with no store, no disk and no network in sight, and a caller
 //! that is told which history is served knows the answers.
 //!
+//! Updates are as they are spelled in frames, where a replacement has its file's name. Behind a
+//! history each has the number of its file, by the names of the files after the updates before it
+//! (`followed`, and `brief_in` by a catalogue).
+//!
 //! Refused memory and a fault of a disk are no answers by what a server shows: the crate that sends
 //! `NoMemory` or `DeviceFault` says why (`MayMake` is what is left of such an ask).
 //!

@@ -3,17 +3,18 @@
 use Rattle.std.specs.Prelude.{◌≡◌, ℕ, List, [], ◌∷◌, Option}
 use Rattle.ov_base.specs.declared.mode.Mode.TheVariants.{Full}
 use Rattle.ov_tokens.specs.Keys.{check_value_of}
+use Rattle.ov_record.specs.Briefs.{Brief}
 use Rattle.ov_record.specs.Forms.{Form}
-use Rattle.ov_record.specs.Updates.{SealedUpdate}
-use Rattle.ov_history.specs.Briefs.{Brief, BriefEnrol, BriefRevoke}
+use Rattle.ov_history.specs.Briefs.{BriefEnrol, BriefRevoke}
 use Rattle.ov_history.specs.Masters.{Masters}
 use Rattle.ov_history.specs.Placed.{PlacedHistory, PlacedUpdate, blank_placed, unplaced}
 use Rattle.ov_history.specs.Sealed.{SealedHistory, with_sealed}
+use Rattle.ov_history.specs.Sent.{SealedUpdate}
 use Rattle.ov_history.specs.Texts.{IsSealedBriefly, with_brief}
 use Rattle.ov_disk.specs.Disk.{Image}
 use Rattle.ov_images.specs.Damage.{BeginsWith, IsUnfit, Spot}
 use Rattle.ov_images.specs.Images.{IsImageOf, Keeps, KeepsEither, Keys, header_of, keys, keys_of}
-use Rattle.ov_images.specs.Records.{bodies_of}
+use Rattle.ov_images.specs.Records.{bodies_of, numbered_after}
 
 -- an enrolment, by which no file is written
 abbrev pub enrolment : PlacedUpdate
@@ -74,4 +75,4 @@ UnfitIsNotNext =
     (form : Form) (p : PlacedHistory) (body : List ℕ) (gate : ℕ) (spot : Spot)
     → IsUnfit form p body gate spot
     → (update : Brief) × BeginsWith form update body
-    × (IsSealedBriefly (with_brief (unplaced p) update) → ⊥)
+    × (IsSealedBriefly (with_brief (unplaced p) (numbered_after p.updates update)) → ⊥)

@@ -1,20 +1,25 @@
 -- Rows of replies: single answers, and what a reply says of its server.
 use Rattle.std.specs.Prelude.{◌≡◌, ℕ, List, [], ◌∷◌, length, take, drop, Option, Some, None}
-use Rattle.ov_record.specs.Updates.{SealedUpdate}
-use Rattle.ov_history.specs.Catalogue.{Catalogue, Filed, no_filed}
 use Rattle.ov_base.specs.declared.refusal.Refusal.{Refusal}
+use Rattle.ov_tokens.specs.declared.token.Token.{Token}
+use Rattle.ov_record.specs.Updates.{SealedUpdate, SealedReplace}
+use Rattle.ov_history.specs.Asking.{file_named}
+use Rattle.ov_history.specs.Briefs.{BriefReplace}
+use Rattle.ov_history.specs.Catalogue.{Catalogue, Filed, no_filed, outline}
+use Rattle.ov_history.specs.Layers.{list_in}
 use Rattle.ov_wire.specs.declared.request.Question.TheVariants as questions
 use Rattle.ov_wire.specs.declared.answer.Answer.{Answer}
+use Rattle.ov_wire.specs.declared.answer.Plan.{Plan}
 use Rattle.ov_wire.specs.declared.answer.Answer.TheVariants as answers
 use Rattle.ov_wire.specs.declared.request.Request.TheVariants as requests
 use Rattle.ov_wire.specs.AnswerBytes.{answer_bytes}
 use Rattle.ov_wire.specs.AnswerForm.{HasAnswerForm}
 use Rattle.ov_protocol.specs.Answers.{made_by}
-use Rattle.ov_protocol.specs.Asking.{numbers_for}
+use Rattle.ov_protocol.specs.Asking.{AnswersReplan, numbers_for}
 use Rattle.ov_protocol.specs.Pages.{file_entry_of, page_of}
 use Rattle.ov_protocol.specs.Reading.{AnswersChunk}
 use Rattle.ov_protocol.specs.Replies.{AnswersFrame, Replies}
-use Rattle.ov_protocol.specs.Serving.{Serving, serving_after}
+use Rattle.ov_protocol.specs.Serving.{Serving, brief_in, serving_after}
 use Rattle.ov_protocol.specs.Updating.{AnswersUpdate, owner_tag, updates_in}
 
 -- a file of generation 3, of ten bytes
@@ -58,6 +63,23 @@ pub record RemovalsNameNoUser : Type 0 where
       → (numbers_for c (questions.Remove file)).base_root ≡ 0
   pub surface : (c : Catalogue) (file : List ℕ)
       → (numbers_for c (questions.Remove file)).surface_root ≡ 0
+
+-- The plan of a replacement has the next number, and the list that the file has now. With the file's
+-- own number two texts would have one pad; with the list of its creation, users who were taken off
+-- it would hold the new file.
+pub record ReplansAreOfNow : Type 0 where
+  pub number : (c : Catalogue) (file len : ℕ) (plan : Plan)
+      → AnswersReplan c file len (answers.Plan plan) → plan.file ≡ length c.files
+  pub list : (c : Catalogue) (file len : ℕ) (plan : Plan)
+      → AnswersReplan c file len (answers.Plan plan) → plan.list ≡ list_in (outline c) file
+
+-- A replacement of a name is one of the file that a question for this name is about. Of another
+-- file it might need other tokens than were planned.
+abbrev pub ReplacementsAreOfNames : Type 0
+ReplacementsAreOfNames =
+    (c : Catalogue) (name : List ℕ) (tokens : List Token) (tag bytes : List ℕ)
+    → brief_in c (SealedReplace name tokens tag bytes)
+    ≡ BriefReplace (file_named c name) tokens tag (length bytes)
 
 -- A refused update is none that was made; an accepted one is. If each were made, so would be the
 -- refused one.

@@ -19,8 +19,9 @@ pub use images::{
 };
 pub use replies::{
     a_chunk_has_its_size, a_chunk_is_of_the_generation_asked, a_gone_file_has_an_entry,
-    a_refused_update_is_not_made, a_removal_names_no_user, a_reply_has_a_form,
-    a_told_chunk_is_exact, an_accepted_update_is_shown, the_tag_is_looked_at_before_the_epoch,
+    a_refused_update_is_not_made, a_removal_names_no_user, a_replacement_is_of_a_name,
+    a_replan_is_of_the_list_now, a_reply_has_a_form, a_told_chunk_is_exact,
+    an_accepted_update_is_shown, the_tag_is_looked_at_before_the_epoch,
     updates_are_made_at_their_epoch_alone,
 };
 pub use tries::{a_read_has_nine_tries, an_update_has_nine_tries};

@@ -1,7 +1,8 @@
 //! Rows of what a server answers, and of what it shows then.
 ghost use Rattle.ov_protocol_t.specs.Replies.{ChunksHaveGenerations, ChunksHaveSizes};
 ghost use Rattle.ov_protocol_t.specs.Replies.{GoneFilesHaveEntries, RemovalsNameNoUser};
-ghost use Rattle.ov_protocol_t.specs.Replies.{RefusedMakesNothing, ToldChunksAreExact};
+ghost use Rattle.ov_protocol_t.specs.Replies.{RefusedMakesNothing, ReplacementsAreOfNames};
+ghost use Rattle.ov_protocol_t.specs.Replies.{ReplansAreOfNow, ToldChunksAreExact};
 ghost use Rattle.ov_protocol_t.specs.Replies.{RepliesHaveForm, ShowsAccepted, StaleHasTag};
 ghost use Rattle.ov_protocol_t.specs.Replies.{UpdatesHaveEpochs};
 
@@ -28,6 +29,16 @@ pub fn a_gone_file_has_an_entry()
 /// Of a removal the numbers of no user are told.
 pub fn a_removal_names_no_user()
     ensures { RemovalsNameNoUser }
+{}
+
+/// The plan of a replacement has the next number and the file's list.
+pub fn a_replan_is_of_the_list_now()
+    ensures { ReplansAreOfNow }
+{}
+
+/// A replacement is of the file of its name.
+pub fn a_replacement_is_of_a_name()
+    ensures { ReplacementsAreOfNames }
 {}
 
 /// An update that is refused isn't made, and one that is accepted is.

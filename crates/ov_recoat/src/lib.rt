@@ -3,7 +3,8 @@
 //! An update that gives files other surfaces makes their stored bytes new: the coat of the old surface
 //! comes off, and that of the new one is laid. [`Recoat`] is what an update's rewrites make of a byte,
 //! by its file and its place there, as `ov_moves` asks for while it moves files through a buffer. A
-//! new file has no old surface, and its bytes come from its text. A file that is gone has no rewrite.
+//! new file, also one in place of another, has no old surface, and its bytes come from its text. A
+//! file that is gone has no rewrite.
 //!
 //! **What a contract sees** is a function of a byte. `recoat_byte` is what one rewrite makes of a
 //! byte of its file; `recoated` is what all of them make of a byte of any file, by the first of them

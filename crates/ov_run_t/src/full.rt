@@ -17,8 +17,8 @@ fn push(
     text.extend_from_slice(line.as_bytes())
 }
 
-// A line for each number from one up to another, and then an end.
-fn numbered(
+/// A line for each number from one up to another, and then an end.
+pub fn numbered(
     alloc: Global,
     head: &str,
     first: u32,

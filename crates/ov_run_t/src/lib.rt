@@ -19,6 +19,8 @@ mod full;
 #[cfg(test)]
 mod removed;
 #[cfg(test)]
+mod replaced;
+#[cfg(test)]
 mod running;
 #[cfg(test)]
 mod scripts;

@@ -6,12 +6,14 @@ use Rattle.std.proofs.lemmas.List.{length-replicate}
 use Rattle.ov_base.specs.declared.limits.TheConstants.{MAX_LINE_BYTES}
 use Rattle.ov_base.specs.Names.{IsName}
 use Rattle.ov_script.specs.declared.command.Command.{Command}
-use Rattle.ov_script.specs.declared.command.Command.TheVariants.{Enrol, Create, Grant, Revoke, Remove, Read, List as Command-List, Epoch}
+use Rattle.ov_script.specs.declared.command.Command.TheVariants.{Enrol, Create, Grant, Revoke, Remove, Replace, Read, List as Command-List, Epoch}
 use Rattle.ov_script.specs.declared.first_line.FirstLine.{FirstLine}
 use Rattle.ov_script.specs.declared.first_line.FirstLine.TheVariants.{Whole, WithBody}
-use Rattle.ov_script.specs.declared.front.Word.TheVariants.{Enrol as Word-Enrol, Create as Word-Create, Grant as Word-Grant, Revoke as Word-Revoke, Remove as Word-Remove, Read as Word-Read, List as Word-List, Epoch as Word-Epoch}
+use Rattle.ov_script.specs.declared.first_line.Head.{Head}
+use Rattle.ov_script.specs.declared.first_line.Head.TheVariants.{Creation, Replacement}
+use Rattle.ov_script.specs.declared.front.Word.TheVariants.{Enrol as Word-Enrol, Create as Word-Create, Grant as Word-Grant, Revoke as Word-Revoke, Remove as Word-Remove, Replace as Word-Replace, Read as Word-Read, List as Word-List, Epoch as Word-Epoch}
 use Rattle.ov_script.specs.declared.front.Front.TheVariants.{Start}
-use Rattle.ov_script.specs.ItemLines.{SaysWhole, SaysLine, Completes}
+use Rattle.ov_script.specs.ItemLines.{SaysWhole, SaysLine, Completes, with_body}
 use Rattle.ov_script.specs.Items.{IsItem, BeginsWithItem, CanBegin}
 use Rattle.ov_script.specs.LineEnds.{may_go_on}
 use Rattle.ov_script.specs.LineFeeds.{NoLf}
@@ -39,13 +41,14 @@ whole_fits line (Create file names body) p = absurd p
 whole_fits line (Grant user file) (u, f, e) = (Word-Grant, user ++ 32 ∷ file, e, two_names user file u f)
 whole_fits line (Revoke user file) (u, f, e) = (Word-Revoke, user ++ 32 ∷ file, e, two_names user file u f)
 whole_fits line (Remove file) (f, e) = (Word-Remove, file, e, one_name file f)
+whole_fits line (Replace file body) p = absurd p
 whole_fits line (Read user file) (u, f, e) = (Word-Read, user ++ 32 ∷ file, e, two_names user file u f)
 whole_fits line (Command-List file) (f, e) = (Word-List, file, e, one_name file f)
 whole_fits line Epoch e = (Word-Epoch, [], e, refl)
 
 pub said_fits : (line : List ℕ) (said : FirstLine) → SaysLine line said → Fits Start line
 said_fits line (Whole command) p = whole_fits line command p
-said_fits line (WithBody file names size) (list, named, (said, are, f, once), low, short, e) = (
+said_fits line (WithBody (Creation file names) size) (list, named, (said, are, f, once), low, short, e) = (
   Word-Create,
   file ++ 32 ∷ (list ++ 32 ∷ decimal size),
   e,
@@ -57,6 +60,8 @@ said_fits line (WithBody file names size) (list, named, (said, are, f, once), lo
     (list ++ 32 ∷ decimal size, refl, (said, decimal size, are, ap (λ l. l ++ 32 ∷ decimal size) f, (size, low, refl))),
   ),
 )
+said_fits line (WithBody (Replacement file) size) (named, low, e) =
+    (Word-Replace, file ++ 32 ∷ decimal size, e, (file, 32 ∷ decimal size, refl, rest_of_name file named, (decimal size, refl, (size, low, refl))))
 
 -- a text that is one name, or two
 is_one_name : (text : List ℕ) → NameThen IsNothing 0 text → IsName text
@@ -80,12 +85,14 @@ fits_said line short (Word-Grant, rest, e, p) =
 fits_said line short (Word-Revoke, rest, e, p) =
     let t = are_two_names rest p in (Whole (Revoke t.user t.file), (t.user_named, t.file_named, e ∙ ap (λ l. codes "revoke " ++ l) t.whole))
 fits_said line short (Word-Remove, rest, e, p) = (Whole (Remove rest), (is_one_name rest p, e))
+fits_said line short (Word-Replace, rest, e, (file, tail, f, n, (digits, g, (size, low, h)))) =
+    (WithBody (Replacement file) size, (name_of_rest file n, low, e ∙ ap (λ l. codes "replace " ++ l) (f ∙ ap (λ l. file ++ l) (g ∙ ap (λ l. 32 ∷ l) h))))
 fits_said line short (Word-Read, rest, e, p) =
     let t = are_two_names rest p in (Whole (Read t.user t.file), (t.user_named, t.file_named, e ∙ ap (λ l. codes "read " ++ l) t.whole))
 fits_said line short (Word-List, rest, e, p) = (Whole (Command-List rest), (is_one_name rest p, e))
 fits_said line short (Word-Epoch, rest, e, none) = (Whole Epoch, e ∙ ap (λ l. codes "epoch" ++ l) none)
 fits_said line short (Word-Create, rest, e, (file, tail, f, n, (more, g, (said, digits, are, h, (size, low, i))))) = (
-  WithBody file (without_repeats said) size,
+  WithBody (Creation file (without_repeats said)) size,
   (
     list_text said,
     name_of_rest file n,
@@ -101,7 +108,7 @@ fits_said line short (Word-Create, rest, e, (file, tail, f, n, (more, g, (said, 
 -- the body, or nothing, of a line that nothing follows yet
 some_tail : (said : FirstLine) (line : List ℕ) → SaysLine line said → (tail : List ℕ) × (command : Command) × Completes said tail command
 some_tail (Whole command) line p = ([], command, (refl, refl))
-some_tail (WithBody file names size) line p = (replicate size 0 ++ 10 ∷ [], Create file names (replicate size 0), (replicate size 0, length-replicate size 0, refl, refl))
+some_tail (WithBody head size) line p = (replicate size 0 ++ 10 ∷ [], with_body head (replicate size 0), (replicate size 0, length-replicate size 0, refl, refl))
 
 pub can_by_item : (text more item rest : List ℕ) (command : Command) → text ++ more ≡ item ++ rest → IsItem item command → CanBegin text
 can_by_item text more item rest command e is = (more, (item, rest, command, e, is))
@@ -154,22 +161,22 @@ none_without_lf bytes no_lf (item, rest, command, e, is) =
 -- ---- behind a line
 
 -- a front of a body can go on
-pub can_by_body : (line text file : List ℕ) (names : List (List ℕ)) (size : ℕ) → SaysLine line (WithBody file names size) → length text ≤ size → CanBegin (line ++ 10 ∷ text)
-can_by_body line text file names size p within =
+pub can_by_body : (line text : List ℕ) (head : Head) (size : ℕ) → SaysLine line (WithBody head size) → length text ≤ size → CanBegin (line ++ 10 ∷ text)
+can_by_body line text head size p within =
     let pad : List ℕ = replicate (size - length text) 0 in
     let count : length (text ++ pad) ≡ size =
     (let n : length (text ++ pad) ≡ length text + length pad = length-append text pad in let m : length pad ≡ size - length text = length-replicate (size - length text) 0 in omega arith) in
-    let item : IsItem (line ++ 10 ∷ ((text ++ pad) ++ 10 ∷ [])) (Create file names (text ++ pad)) =
-    item_from line ((text ++ pad) ++ 10 ∷ []) (WithBody file names size) (Create file names (text ++ pad)) p (text ++ pad, count, refl, refl) in
+    let item : IsItem (line ++ 10 ∷ ((text ++ pad) ++ 10 ∷ [])) (with_body head (text ++ pad)) =
+    item_from line ((text ++ pad) ++ 10 ∷ []) (WithBody head size) (with_body head (text ++ pad)) p (text ++ pad, count, refl, refl) in
     let joined : (line ++ 10 ∷ text) ++ (pad ++ 10 ∷ []) ≡ (line ++ 10 ∷ ((text ++ pad) ++ 10 ∷ [])) ++ [] =
     append_assoc line (10 ∷ text) (pad ++ 10 ∷ []) ∙ ap (λ t. line ++ 10 ∷ t) (sym (append_assoc text pad (10 ∷ []))) ∙ sym (append-nil (line ++ 10 ∷ ((text ++ pad) ++ 10 ∷ []))) in
-    can_by_item (line ++ 10 ∷ text) (pad ++ 10 ∷ []) (line ++ 10 ∷ ((text ++ pad) ++ 10 ∷ [])) [] (Create file names (text ++ pad)) joined item
+    can_by_item (line ++ 10 ∷ text) (pad ++ 10 ∷ []) (line ++ 10 ∷ ((text ++ pad) ++ 10 ∷ [])) [] (with_body head (text ++ pad)) joined item
 
 -- an item that begins behind the line of a body has its bytes and LF
-pub body_behind : (line text file item rest : List ℕ) (names : List (List ℕ)) (size : ℕ) (command : Command) → SaysLine line (WithBody file names size) → line ++ 10 ∷ text ≡ item ++ rest → IsItem item command
+pub body_behind : (line text item rest : List ℕ) (head : Head) (size : ℕ) (command : Command) → SaysLine line (WithBody head size) → line ++ 10 ∷ text ≡ item ++ rest → IsItem item command
     → (body : List ℕ) × (length body ≡ size) × (text ≡ body ++ 10 ∷ rest) × (length item ≡ length line + 1 + size + 1)
-body_behind line text file item rest names size command p e is =
-    let b = behind_line line text item rest (WithBody file names size) command p e is in
+body_behind line text item rest head size command p e is =
+    let b = behind_line line text item rest (WithBody head size) command p e is in
     let body = b.completes.0 in
     let tail : b.tail ≡ b.completes.0 ++ 10 ∷ [] = b.completes.2 in
     let count : length b.completes.0 ≡ size = b.completes.1 in
@@ -178,18 +185,18 @@ body_behind line text file item rest names size command p e is =
     (b.completes.0, count, b.behind ∙ ap (λ t. t ++ rest) tail ∙ append_assoc b.completes.0 (10 ∷ []) rest, omega arith)
 
 -- fewer bytes than the body and its LF hold no item
-pub none_in_body : (line text file : List ℕ) (names : List (List ℕ)) (size : ℕ) → SaysLine line (WithBody file names size) → length text ≤ size → BeginsWithItem (line ++ 10 ∷ text) → ⊥
-none_in_body line text file names size p within (item, rest, command, e, is) =
-    let b = body_behind line text file item rest names size command p e is in
+pub none_in_body : (line text : List ℕ) (head : Head) (size : ℕ) → SaysLine line (WithBody head size) → length text ≤ size → BeginsWithItem (line ++ 10 ∷ text) → ⊥
+none_in_body line text head size p within (item, rest, command, e, is) =
+    let b = body_behind line text item rest head size command p e is in
     let count : length b.0 ≡ size = b.1 in
     let whole : length text ≡ length b.0 + suc (length rest) = ap length b.2 ∙ length-append b.0 (10 ∷ rest) in
     absurd (omega arith)
 
 -- no item goes on with another byte in the place of the LF behind its body
-pub wrong_behind_body : (line body more file : List ℕ) (names : List (List ℕ)) (size b : ℕ) → SaysLine line (WithBody file names size) → length body ≡ size → b ≢ 10
+pub wrong_behind_body : (line body more : List ℕ) (head : Head) (size b : ℕ) → SaysLine line (WithBody head size) → length body ≡ size → b ≢ 10
     → BeginsWithItem (line ++ 10 ∷ (body ++ b ∷ more)) → ⊥
-wrong_behind_body line body more file names size b p count differs (item, rest, command, e, is) =
-    let f = body_behind line (body ++ b ∷ more) file item rest names size command p e is in
+wrong_behind_body line body more head size b p count differs (item, rest, command, e, is) =
+    let f = body_behind line (body ++ b ∷ more) item rest head size command p e is in
     let tails : b ∷ more ≡ 10 ∷ rest = (cut_once body f.0 (b ∷ more) (10 ∷ rest) (count ∙ sym f.1) f.2).1 in
     let lf : b ≡ 10 = cc in
     differs lf

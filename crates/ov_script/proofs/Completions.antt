@@ -9,11 +9,11 @@ use Rattle.ov_script.specs.LineEnds.{fewest_after, fewest_behind, fewest_from, f
 use Rattle.ov_script.specs.LineFronts.{spelling}
 use Rattle.ov_script.specs.WrittenLists.{AreNames, with_commas, list_text}
 use Rattle.ov_script.specs.declared.front.Word.{Word}
-use Rattle.ov_script.specs.declared.front.Word.TheVariants.{Enrol, Create, Grant, Revoke, Remove, Read, List as Word-List, Epoch}
+use Rattle.ov_script.specs.declared.front.Word.TheVariants.{Enrol, Create, Grant, Revoke, Remove, Replace, Read, List as Word-List, Epoch}
 use Rattle.ov_script.specs.declared.front.Stem.{Stem}
 use Rattle.ov_script.specs.declared.front.Stem.TheVariants.{E, R, Re}
 use Rattle.ov_script.specs.declared.front.Then.{Then}
-use Rattle.ov_script.specs.declared.front.Then.TheVariants.{End, LastName, Readers, NextReader}
+use Rattle.ov_script.specs.declared.front.Then.TheVariants.{End, LastName, Readers, Size, NextReader}
 use Rattle.ov_script.specs.declared.front.Front.{Front}
 use Rattle.ov_script.specs.declared.front.Front.TheVariants.{Start, InStem, InWord, InName, AtReaders, Nobody, InSize, Done, Never}
 use Rattle.ov_script.proofs.Fitting.{NameThen, SpaceThen, IsNothing, IsSize, AreReaders, AreMoreReaders, Follows, Behind, RestOfWord, RestOfStem, IsWhole, Fits}
@@ -75,6 +75,7 @@ next_needs : (next : Then) (text : List ℕ) → Follows next text → fewest_af
 next_needs End text p = omega arith
 next_needs LastName text p = space_needs (NameThen IsNothing 0) 1 text (λ rest q. name_needs IsNothing 0 0 rest nothing_needed q) p
 next_needs Readers text p = space_needs AreReaders 3 text readers_need p
+next_needs Size text p = space_needs IsSize 1 text size_needs p
 next_needs NextReader text p = more_readers_need text p
 
 behind_needs : (word : Word) (text : List ℕ) → Behind word text → fewest_behind word ≤ length text
@@ -83,6 +84,7 @@ behind_needs Create text p = name_needs (Follows Readers) 4 0 text (next_needs R
 behind_needs Grant text p = name_needs (Follows LastName) 2 0 text (next_needs LastName) p
 behind_needs Revoke text p = name_needs (Follows LastName) 2 0 text (next_needs LastName) p
 behind_needs Remove text p = name_needs (Follows End) 0 0 text (next_needs End) p
+behind_needs Replace text p = name_needs (Follows Size) 2 0 text (next_needs Size) p
 behind_needs Read text p = name_needs (Follows LastName) 2 0 text (next_needs LastName) p
 behind_needs Word-List text p = name_needs (Follows End) 0 0 text (next_needs End) p
 behind_needs Epoch text p = omega arith
@@ -99,10 +101,12 @@ stem_needs E text (inl p) = let n : 6 ≤ length text = word_needs Enrol 1 text 
 stem_needs E text (inr p) = word_needs Epoch 1 text p
 stem_needs R text (inl p) = word_needs Read 1 text p
 stem_needs R text (inr (inl p)) = word_needs Remove 1 text p
-stem_needs R text (inr (inr p)) = let n : 9 ≤ length text = word_needs Revoke 1 text p in omega arith
+stem_needs R text (inr (inr (inl p))) = let n : 10 ≤ length text = word_needs Replace 1 text p in omega arith
+stem_needs R text (inr (inr (inr p))) = let n : 9 ≤ length text = word_needs Revoke 1 text p in omega arith
 stem_needs Re text (inl p) = word_needs Read 2 text p
 stem_needs Re text (inr (inl p)) = word_needs Remove 2 text p
-stem_needs Re text (inr (inr p)) = let n : 8 ≤ length text = word_needs Revoke 2 text p in omega arith
+stem_needs Re text (inr (inr (inl p))) = let n : 9 ≤ length text = word_needs Replace 2 text p in omega arith
+stem_needs Re text (inr (inr (inr p))) = let n : 8 ≤ length text = word_needs Revoke 2 text p in omega arith
 
 shortest_word : (word : Word) → 5 ≤ length (spelling word) + fewest_behind word
 shortest_word Enrol = omega arith
@@ -110,6 +114,7 @@ shortest_word Create = omega arith
 shortest_word Grant = omega arith
 shortest_word Revoke = omega arith
 shortest_word Remove = omega arith
+shortest_word Replace = omega arith
 shortest_word Read = omega arith
 shortest_word Word-List = omega arith
 shortest_word Epoch = omega arith
@@ -163,6 +168,7 @@ some_next : (next : Then) → Followed (Follows next) (fewest_after next)
 some_next End = ([], refl, refl)
 some_next LastName = some_space (NameThen IsNothing 0) 1 (some_name IsNothing 0 ([], refl, refl))
 some_next Readers = some_space AreReaders 3 some_readers
+some_next Size = some_space IsSize 1 some_size
 some_next NextReader = (32 ∷ some_size.0, ([], some_size.0, tt, refl, some_size.1), refl)
 
 some_behind : (word : Word) → Followed (Behind word) (fewest_behind word)
@@ -171,6 +177,7 @@ some_behind Create = some_name (Follows Readers) 4 (some_next Readers)
 some_behind Grant = some_name (Follows LastName) 2 (some_next LastName)
 some_behind Revoke = some_name (Follows LastName) 2 (some_next LastName)
 some_behind Remove = some_name (Follows End) 0 (some_next End)
+some_behind Replace = some_name (Follows Size) 2 (some_next Size)
 some_behind Read = some_name (Follows LastName) 2 (some_next LastName)
 some_behind Word-List = some_name (Follows End) 0 (some_next End)
 some_behind Epoch = ([], refl, refl)

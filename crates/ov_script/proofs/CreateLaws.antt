@@ -1,4 +1,4 @@
--- Laws of the lists and bodies of `create`: the names are names, none comes twice, and they are few.
+-- Laws of the lists and bodies of `create` and `replace`: the names are names, none comes twice, and they are few.
 use Rattle.std.proofs.Common.{◌≡◌, ℕ, suc, ◌+◌, ◌*◌, ◌<◌, ◌≤◌, Bool, true, false, List, [], ◌∷◌, ◌++◌, length, refl, sym, ap, subst, length-append, arith}
 use Rattle.std.specs.Prelude.{codes}
 use Rattle.std.specs.Fmt.{decimal}
@@ -13,7 +13,7 @@ use Rattle.ov_base.specs.NameLists.{is_among, appended, with_name, AreDistinct}
 use Rattle.ov_base.specs.Names.{IsName}
 use Rattle.ov_script.specs.Items.{IsItem, create_line}
 use Rattle.ov_script.specs.WrittenLists.{AreNames, with_commas, list_text, with_names, IsList}
-use Rattle.ov_script.specs.declared.command.Command.TheVariants.{Create}
+use Rattle.ov_script.specs.declared.command.Command.TheVariants.{Create, Replace}
 use Rattle.ov_script.proofs.ListTexts.{AreNames-append}
 
 -- ---- names
@@ -149,3 +149,8 @@ create_short_names item file body names (list, named, is, low, short, e) =
 
 pub create_size : (item file body : List ℕ) (names : List (List ℕ)) → IsItem item (Create file names body) → length body ≤ MAX_FILE_BYTES
 create_size item file body names (list, named, is, low, short, e) = low
+
+-- ---- what a `replace` has
+
+pub replace_size : (item file body : List ℕ) → IsItem item (Replace file body) → length body ≤ MAX_FILE_BYTES
+replace_size item file body (named, low, e) = low

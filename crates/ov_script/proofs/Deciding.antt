@@ -4,11 +4,11 @@ use Rattle.std.proofs.lemmas.Bool.{cases_lt}
 use Rattle.std.proofs.lemmas.List.{length-take-le, length-drop}
 use Rattle.ov_base.specs.declared.limits.TheConstants.{MAX_LINE_BYTES}
 use Rattle.ov_script.specs.declared.command.Command.{Command}
-use Rattle.ov_script.specs.declared.command.Command.TheVariants.{Create}
 use Rattle.ov_script.specs.declared.first_line.FirstLine.{FirstLine}
 use Rattle.ov_script.specs.declared.first_line.FirstLine.TheVariants.{Whole, WithBody}
+use Rattle.ov_script.specs.declared.first_line.Head.{Head}
 use Rattle.ov_script.specs.declared.front.Front.TheVariants.{Start}
-use Rattle.ov_script.specs.ItemLines.{SaysLine}
+use Rattle.ov_script.specs.ItemLines.{SaysLine, with_body}
 use Rattle.ov_script.specs.Items.{IsItem, BeginsWithItem, CanBegin}
 use Rattle.ov_script.specs.LineFeeds.{NoLf, lf_count}
 use Rattle.ov_script.specs.LineFronts.{run}
@@ -70,35 +70,35 @@ pub record AtBody (line text : List ℕ) : Type 0 where
   pub item : Decided (BeginsWithItem (line ++ 10 ∷ text))
   pub can : Decided (CanBegin (line ++ 10 ∷ text))
 
-whole_body : (line body rest file : List ℕ) (names : List (List ℕ)) (size : ℕ) → SaysLine line (WithBody file names size) → length body ≡ size → BeginsWithItem (line ++ 10 ∷ (body ++ 10 ∷ rest))
-whole_body line body rest file names size p count = (
+whole_body : (line body rest : List ℕ) (head : Head) (size : ℕ) → SaysLine line (WithBody head size) → length body ≡ size → BeginsWithItem (line ++ 10 ∷ (body ++ 10 ∷ rest))
+whole_body line body rest head size p count = (
   line ++ 10 ∷ (body ++ 10 ∷ []),
   rest,
-  Create file names body,
+  with_body head body,
   ap (λ t. line ++ 10 ∷ t) (sym (append_assoc body (10 ∷ []) rest)) ∙ sym (append_assoc line (10 ∷ (body ++ 10 ∷ [])) rest),
-  item_from line (body ++ 10 ∷ []) (WithBody file names size) (Create file names body) p (body, count, refl, refl),
+  item_from line (body ++ 10 ∷ []) (WithBody head size) (with_body head body) p (body, count, refl, refl),
 )
 
-at_body : (line text file : List ℕ) (names : List (List ℕ)) (size : ℕ) → SaysLine line (WithBody file names size) → AtBody line text
-at_body line text file names size p =
+at_body : (line text : List ℕ) (head : Head) (size : ℕ) → SaysLine line (WithBody head size) → AtBody line text
+at_body line text head size p =
     elim (cut_at size text) as (λ _. AtBody line text) [
-      | short within ↦ record { item = no' (none_in_body line text file names size p within); can = yes (can_by_body line text file names size p within) }
+      | short within ↦ record { item = no' (none_in_body line text head size p within); can = yes (can_by_body line text head size p within) }
       | longer body rest b count e ↦
           elim (same_number b 10) as (λ _. AtBody line text) [
             | yes lf ↦
                 let whole : text ≡ body ++ 10 ∷ rest = e ∙ ap (λ c. body ++ c ∷ rest) lf in
-                let begins = subst (λ t. BeginsWithItem (line ++ 10 ∷ t)) (sym whole) (whole_body line body rest file names size p count) in
+                let begins = subst (λ t. BeginsWithItem (line ++ 10 ∷ t)) (sym whole) (whole_body line body rest head size p count) in
                 record { item = yes begins; can = yes (begins_can (line ++ 10 ∷ text) begins) }
             | no' differs ↦ record {
-              item = no' (λ i. wrong_behind_body line body rest file names size b p count differs (subst (λ t. BeginsWithItem (line ++ 10 ∷ t)) e i));
-              can = no' (λ (more, i). wrong_behind_body line body (rest ++ more) file names size b p count differs
+              item = no' (λ i. wrong_behind_body line body rest head size b p count differs (subst (λ t. BeginsWithItem (line ++ 10 ∷ t)) e i));
+              can = no' (λ (more, i). wrong_behind_body line body (rest ++ more) head size b p count differs
                   (subst BeginsWithItem (append_assoc line (10 ∷ text) more ∙ ap (λ t. line ++ 10 ∷ (t ++ more)) e ∙ ap (λ t. line ++ 10 ∷ t) (append_assoc body (b ∷ rest) more)) i));
             }
           ]
     ]
 
 at_said : (line text : List ℕ) (said : FirstLine) → SaysLine line said → AtBody line text
-at_said line text (WithBody file names size) p = at_body line text file names size p
+at_said line text (WithBody head size) p = at_body line text head size p
 at_said line text (Whole command) p =
     let begins : BeginsWithItem (line ++ 10 ∷ text) = (line ++ 10 ∷ [], text, command, sym (append_assoc line (10 ∷ []) text), item_from line [] (Whole command) command p (refl, refl)) in
     record { item = yes begins; can = yes (begins_can (line ++ 10 ∷ text) begins) }

@@ -9,7 +9,9 @@ use Rattle.ov_base.specs.Names.{IsName}
 use Rattle.ov_script.specs.declared.command.Command.{Command}
 use Rattle.ov_script.specs.declared.first_line.FirstLine.{FirstLine}
 use Rattle.ov_script.specs.declared.first_line.FirstLine.TheVariants.{Whole, WithBody}
-use Rattle.ov_script.specs.ItemLines.{SaysWhole, SaysCreate, SaysLine}
+use Rattle.ov_script.specs.declared.first_line.Head.{Head}
+use Rattle.ov_script.specs.declared.first_line.Head.TheVariants.{Creation, Replacement}
+use Rattle.ov_script.specs.ItemLines.{SaysWhole, SaysCreate, SaysReplace, SaysHead, SaysLine}
 use Rattle.ov_script.specs.Items.{spaced}
 use Rattle.ov_script.specs.LineFeeds.{Lacks}
 use Rattle.ov_script.proofs.ByteTexts.{split_once}
@@ -55,15 +57,51 @@ create_once line f g r s n m f_named r_lacks n_low e g_named s_lacks m_low e' =
     let second = split_once 32 r s (decimal n) (decimal m) r_lacks s_lacks first.1 in
     record { file = first.0; list = second.0; size = decimal_injective n m (omega arith) (omega arith) second.1 }
 
--- what is neither a whole item nor the line of a `create` says nothing
-says_neither : (line : List ℕ) → ((command : Command) → SaysWhole line command → ⊥) → ((file : List ℕ) (names : List (List ℕ)) (size : ℕ) → SaysCreate line file names size → ⊥)
+-- ---- the words of a `replace`
+
+abbrev replace_text : List ℕ → ℕ → List ℕ
+replace_text file size = spaced (codes "replace" ∷ file ∷ decimal size ∷ [])
+
+-- the words of a `replace` behind the first word
+pub behind_replace : (line text file : List ℕ) (size : ℕ) → line ≡ codes "replace " ++ text → line ≡ replace_text file size → text ≡ file ++ 32 ∷ decimal size
+behind_replace line text file size e p = append_cancel_left (codes "replace ") text (file ++ 32 ∷ decimal size) (sym e ∙ p)
+
+-- the file and the digits of a `replace` are the words that were split off
+pub replace_file : (line text word digits file : List ℕ) (size : ℕ) → line ≡ codes "replace " ++ text → Lacks 32 word → text ≡ word ++ 32 ∷ digits → IsName file → line ≡ replace_text file size
+    → (word ≡ file) × (digits ≡ decimal size)
+replace_file line text word digits file size e lacks f named p = names_once text word digits file (decimal size) lacks f named (behind_replace line text file size e p)
+
+-- a line has one file and size
+pub replace_once : (line f g : List ℕ) (n m : ℕ) → IsName f → n ≤ MAX_FILE_BYTES → line ≡ replace_text f n → IsName g → m ≤ MAX_FILE_BYTES → line ≡ replace_text g m → (f ≡ g) × (n ≡ m)
+replace_once line f g n m f_named n_low e g_named m_low e' =
+    let both = split_once 32 f g (decimal n) (decimal m) (name_no_space f f_named) (name_no_space g g_named)
+    (append_cancel_left (codes "replace ") (f ++ 32 ∷ decimal n) (g ++ 32 ∷ decimal m) (sym e ∙ e')) in
+    (both.0, decimal_injective n m (omega arith) (omega arith) both.1)
+
+-- ---- lines that say nothing
+
+-- what is neither the line of a `create` nor of a `replace` has no body
+no_head : (line : List ℕ) → ((file : List ℕ) (size : ℕ) → SaysReplace line file size → ⊥) → ((file : List ℕ) (names : List (List ℕ)) (size : ℕ) → SaysCreate line file names size → ⊥)
+    → (head : Head) (size : ℕ) → SaysHead line head size → ⊥
+no_head line replace create (Creation file names) size p = create file names size p
+no_head line replace create (Replacement file) size p = replace file size p
+
+pub says_no_head : {E : Type 0} (line : List ℕ) (result : Result (Option FirstLine) E) → ((file : List ℕ) (size : ℕ) → SaysReplace line file size → ⊥)
+    → IfOk result (λ found. IfNone found ((file : List ℕ) (names : List (List ℕ)) (size : ℕ) → SaysCreate line file names size → ⊥))
+    → IfOk result (λ found. IfNone found ((head : Head) (size : ℕ) → SaysHead line head size → ⊥))
+says_no_head line (Ok None) replace create = no_head line replace create
+says_no_head line (Ok (Some said)) replace create = tt
+says_no_head line (Err e) replace create = tt
+
+-- what is neither a whole item nor a line with a body says nothing
+says_neither : (line : List ℕ) → ((command : Command) → SaysWhole line command → ⊥) → ((head : Head) (size : ℕ) → SaysHead line head size → ⊥)
     → (said : FirstLine) → SaysLine line said → ⊥
-says_neither line none create (Whole command) p = none command p
-says_neither line none create (WithBody file names size) p = create file names size p
+says_neither line none bodied (Whole command) p = none command p
+says_neither line none bodied (WithBody head size) p = bodied head size p
 
 pub says_nothing : {E : Type 0} (line : List ℕ) (result : Result (Option FirstLine) E) → ((command : Command) → SaysWhole line command → ⊥)
-    → IfOk result (λ found. IfNone found ((file : List ℕ) (names : List (List ℕ)) (size : ℕ) → SaysCreate line file names size → ⊥))
+    → IfOk result (λ found. IfNone found ((head : Head) (size : ℕ) → SaysHead line head size → ⊥))
     → IfOk result (λ found. IfNone found ((said : FirstLine) → SaysLine line said → ⊥))
-says_nothing line (Ok None) none create = says_neither line none create
-says_nothing line (Ok (Some said)) none create = tt
-says_nothing line (Err e) none create = tt
+says_nothing line (Ok None) none bodied = says_neither line none bodied
+says_nothing line (Ok (Some said)) none bodied = tt
+says_nothing line (Err e) none bodied = tt

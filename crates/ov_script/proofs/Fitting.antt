@@ -5,11 +5,11 @@ use Rattle.ov_base.specs.declared.limits.TheConstants.{MAX_FILE_BYTES}
 use Rattle.ov_script.specs.LineFronts.{spelling}
 use Rattle.ov_script.specs.WrittenLists.{AreNames, with_commas, list_text}
 use Rattle.ov_script.specs.declared.front.Word.{Word}
-use Rattle.ov_script.specs.declared.front.Word.TheVariants.{Enrol, Create, Grant, Revoke, Remove, Read, List as Word-List, Epoch}
+use Rattle.ov_script.specs.declared.front.Word.TheVariants.{Enrol, Create, Grant, Revoke, Remove, Replace, Read, List as Word-List, Epoch}
 use Rattle.ov_script.specs.declared.front.Stem.{Stem}
 use Rattle.ov_script.specs.declared.front.Stem.TheVariants.{E, R, Re}
 use Rattle.ov_script.specs.declared.front.Then.{Then}
-use Rattle.ov_script.specs.declared.front.Then.TheVariants.{End, LastName, Readers, NextReader}
+use Rattle.ov_script.specs.declared.front.Then.TheVariants.{End, LastName, Readers, Size, NextReader}
 use Rattle.ov_script.specs.declared.front.Front.{Front}
 use Rattle.ov_script.specs.declared.front.Front.TheVariants.{Start, InStem, InWord, InName, AtReaders, Nobody, InSize, Done, Never}
 use Rattle.ov_script.proofs.NameFronts.{RestOfName}
@@ -42,6 +42,7 @@ abbrev pub Follows : Then → List ℕ → Type 0
 Follows End = IsNothing
 Follows LastName = SpaceThen (NameThen IsNothing 0)
 Follows Readers = SpaceThen AreReaders
+Follows Size = SpaceThen IsSize
 Follows NextReader = AreMoreReaders
 
 -- what follows a word with its space
@@ -51,6 +52,7 @@ Behind Create = NameThen (Follows Readers) 0
 Behind Grant = NameThen (Follows LastName) 0
 Behind Revoke = NameThen (Follows LastName) 0
 Behind Remove = NameThen (Follows End) 0
+Behind Replace = NameThen (Follows Size) 0
 Behind Read = NameThen (Follows LastName) 0
 Behind Word-List = NameThen (Follows End) 0
 Behind Epoch = IsNothing
@@ -63,8 +65,8 @@ RestOfWord word count text =
 -- the rest of a word that begins so
 abbrev pub RestOfStem : Stem → List ℕ → Type 0
 RestOfStem E text = RestOfWord Enrol 1 text ⊎ RestOfWord Epoch 1 text
-RestOfStem R text = RestOfWord Read 1 text ⊎ (RestOfWord Remove 1 text ⊎ RestOfWord Revoke 1 text)
-RestOfStem Re text = RestOfWord Read 2 text ⊎ (RestOfWord Remove 2 text ⊎ RestOfWord Revoke 2 text)
+RestOfStem R text = RestOfWord Read 1 text ⊎ (RestOfWord Remove 1 text ⊎ (RestOfWord Replace 1 text ⊎ RestOfWord Revoke 1 text))
+RestOfStem Re text = RestOfWord Read 2 text ⊎ (RestOfWord Remove 2 text ⊎ (RestOfWord Replace 2 text ⊎ RestOfWord Revoke 2 text))
 
 -- a whole line
 abbrev pub IsWhole : List ℕ → Type 0

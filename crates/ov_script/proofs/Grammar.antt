@@ -4,10 +4,12 @@ use Rattle.std.specs.Prelude.{codes}
 use Rattle.std.specs.Fmt.{decimal}
 use Rattle.std.proofs.lemmas.List.{append_cancel_left}
 use Rattle.ov_script.specs.declared.command.Command.{Command}
-use Rattle.ov_script.specs.declared.command.Command.TheVariants.{Enrol, Create, Grant, Revoke, Remove, Read, List as Command-List, Epoch}
+use Rattle.ov_script.specs.declared.command.Command.TheVariants.{Enrol, Create, Grant, Revoke, Remove, Replace, Read, List as Command-List, Epoch}
 use Rattle.ov_script.specs.declared.first_line.FirstLine.{FirstLine}
 use Rattle.ov_script.specs.declared.first_line.FirstLine.TheVariants.{Whole, WithBody}
-use Rattle.ov_script.specs.ItemLines.{SaysWhole, SaysCreate, SaysLine, Completes}
+use Rattle.ov_script.specs.declared.first_line.Head.{Head}
+use Rattle.ov_script.specs.declared.first_line.Head.TheVariants.{Creation, Replacement}
+use Rattle.ov_script.specs.ItemLines.{SaysWhole, SaysCreate, SaysReplace, SaysHead, SaysLine, Completes, with_body}
 use Rattle.ov_script.specs.Items.{IsItem, BeginsWithItem, spaced, create_line}
 use Rattle.ov_script.specs.LineFeeds.{NoLf}
 use Rattle.ov_base.proofs.Lists.{cut_once}
@@ -35,7 +37,7 @@ item_parts item (Create file names body) (list, named, is, low, short, e) =
     record {
       line = spaced (codes "create" ∷ file ∷ list ∷ decimal (length body) ∷ []);
       tail = body ++ 10 ∷ [];
-      said = WithBody file names (length body);
+      said = WithBody (Creation file names) (length body);
       says = (list, named, is, low, omega arith, refl);
       whole = e ∙ with_tail line body;
       completes = (body, refl, refl, refl);
@@ -46,6 +48,15 @@ item_parts item (Revoke user file) p =
     record { line = spaced (codes "revoke" ∷ user ∷ file ∷ []); tail = []; said = Whole (Revoke user file); says = (p.0, p.1, refl); whole = p.2; completes = (refl, refl) }
 item_parts item (Remove file) p =
     record { line = spaced (codes "remove" ∷ file ∷ []); tail = []; said = Whole (Remove file); says = (p.0, refl); whole = p.1; completes = (refl, refl) }
+item_parts item (Replace file body) (named, low, e) =
+    record {
+      line = spaced (codes "replace" ∷ file ∷ decimal (length body) ∷ []);
+      tail = body ++ 10 ∷ [];
+      said = WithBody (Replacement file) (length body);
+      says = (named, low, refl);
+      whole = e ∙ with_tail (spaced (codes "replace" ∷ file ∷ decimal (length body) ∷ [])) body;
+      completes = (body, refl, refl, refl);
+    }
 item_parts item (Read user file) p =
     record { line = spaced (codes "read" ∷ user ∷ file ∷ []); tail = []; said = Whole (Read user file); says = (p.0, p.1, refl); whole = p.2; completes = (refl, refl) }
 item_parts item (Command-List file) p =
@@ -58,6 +69,7 @@ whole_item line (Create file names body) p = absurd p
 whole_item line (Grant user file) p = (p.0, p.1, ap (λ l. l ++ 10 ∷ []) p.2)
 whole_item line (Revoke user file) p = (p.0, p.1, ap (λ l. l ++ 10 ∷ []) p.2)
 whole_item line (Remove file) p = (p.0, ap (λ l. l ++ 10 ∷ []) p.1)
+whole_item line (Replace file body) p = absurd p
 whole_item line (Read user file) p = (p.0, p.1, ap (λ l. l ++ 10 ∷ []) p.2)
 whole_item line (Command-List file) p = (p.0, ap (λ l. l ++ 10 ∷ []) p.1)
 whole_item line Epoch p = ap (λ l. l ++ 10 ∷ []) p
@@ -68,10 +80,17 @@ create_item line file body names (list, named, is, low, short, e) =
     let size : length (create_line file list (length body)) ≡ length line + 1 = ap length whole ∙ length-append line (10 ∷ []) in
     (list, named, is, low, omega arith, sym (with_tail line body) ∙ ap (λ l. l ++ body ++ 10 ∷ []) (sym whole))
 
+replace_item : (line file body : List ℕ) → SaysReplace line file (length body) → IsItem (line ++ 10 ∷ (body ++ 10 ∷ [])) (Replace file body)
+replace_item line file body (named, low, e) = (named, low, sym (with_tail line body) ∙ ap (λ l. (l ++ 10 ∷ []) ++ body ++ 10 ∷ []) e)
+
+head_item : (line body : List ℕ) (head : Head) → SaysHead line head (length body) → IsItem (line ++ 10 ∷ (body ++ 10 ∷ [])) (with_body head body)
+head_item line body (Creation file names) p = create_item line file body names p
+head_item line body (Replacement file) p = replace_item line file body p
+
 pub item_from : (line tail : List ℕ) (said : FirstLine) (command : Command) → SaysLine line said → Completes said tail command → IsItem (line ++ 10 ∷ tail) command
 item_from line tail (Whole said) command p (t, c) = subst (λ z. IsItem (line ++ 10 ∷ z) command) (sym t) (subst (IsItem (line ++ 10 ∷ [])) (sym c) (whole_item line said p))
-item_from line tail (WithBody file names size) command p (body, count, t, c) =
-    let item = create_item line file body names (subst (SaysCreate line file names) (sym count) p) in
+item_from line tail (WithBody head size) command p (body, count, t, c) =
+    let item = head_item line body head (subst (SaysHead line head) (sym count) p) in
     subst (λ z. IsItem (line ++ 10 ∷ z) command) (sym t) (subst (IsItem (line ++ 10 ∷ (body ++ 10 ∷ []))) (sym c) item)
 
 -- of what follows the line of an item, its tail is the front
@@ -104,12 +123,12 @@ same_tail : (said : FirstLine) (s t x y : List ℕ) (c d : Command) → Complete
 same_tail (Whole said) s t x y c d p q e =
     let tails : s ≡ t = p.0 ∙ sym q.0 in
     (tails, append_cancel_left t x y (ap (λ l. l ++ x) (sym tails) ∙ e), p.1 ∙ sym q.1)
-same_tail (WithBody file names size) s t x y c d p q e =
+same_tail (WithBody head size) s t x y c d p q e =
     let joined : p.0 ++ (10 ∷ x) ≡ q.0 ++ (10 ∷ y) =
     sym (ap (λ l. l ++ x) p.2 ∙ append_assoc p.0 (10 ∷ []) x) ∙ e ∙ ap (λ l. l ++ y) q.2 ∙ append_assoc q.0 (10 ∷ []) y in
     let bodies = cut_once p.0 q.0 (10 ∷ x) (10 ∷ y) (p.1 ∙ sym q.1) joined in
     let rests : x ≡ y = let t : 10 ∷ x ≡ 10 ∷ y = bodies.1 in cc in
-    (p.2 ∙ ap (λ b. b ++ 10 ∷ []) bodies.0 ∙ sym q.2, rests, p.3 ∙ ap (λ b. Create file names b) bodies.0 ∙ sym q.3)
+    (p.2 ∙ ap (λ b. b ++ 10 ∷ []) bodies.0 ∙ sym q.2, rests, p.3 ∙ ap (with_body head) bodies.0 ∙ sym q.3)
 
 -- two items that begin one text are one
 pub item_once : (a b x y : List ℕ) (c d : Command) → a ++ x ≡ b ++ y → IsItem a c → IsItem b d → (a ≡ b) × (x ≡ y) × (c ≡ d)

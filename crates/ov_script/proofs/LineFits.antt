@@ -9,11 +9,11 @@ use Rattle.ov_base.specs.Names.{is_letter_or_digit}
 use Rattle.ov_script.specs.LineEnds.{fewest_more, has_room, may_go_on}
 use Rattle.ov_script.specs.LineFronts.{spelling, behind, after_name, after_comma, chosen, chosen_by, first_bytes, next_bytes, word_by, is_spelled, end_by, name_by, is_named, readers_by, size_by, is_digit, step, run}
 use Rattle.ov_script.specs.declared.front.Word.{Word}
-use Rattle.ov_script.specs.declared.front.Word.TheVariants.{Enrol, Create, Grant, Revoke, Remove, Read, List as Word-List, Epoch}
+use Rattle.ov_script.specs.declared.front.Word.TheVariants.{Enrol, Create, Grant, Revoke, Remove, Replace, Read, List as Word-List, Epoch}
 use Rattle.ov_script.specs.declared.front.Stem.{Stem}
 use Rattle.ov_script.specs.declared.front.Stem.TheVariants.{E, R, Re}
 use Rattle.ov_script.specs.declared.front.Then.{Then}
-use Rattle.ov_script.specs.declared.front.Then.TheVariants.{End, LastName, Readers, NextReader}
+use Rattle.ov_script.specs.declared.front.Then.TheVariants.{End, LastName, Readers, Size, NextReader}
 use Rattle.ov_script.specs.declared.front.Front.{Front}
 use Rattle.ov_script.specs.declared.front.Front.TheVariants.{Start, InStem, InWord, InName, AtReaders, Nobody, InSize, Done, Never}
 use Rattle.ov_script.proofs.Completions.{AtLeast, fits_needs, IsSound, IfSoMany, some_text}
@@ -31,6 +31,7 @@ sound_behind Create = tt
 sound_behind Grant = tt
 sound_behind Revoke = tt
 sound_behind Remove = tt
+sound_behind Replace = tt
 sound_behind Read = tt
 sound_behind Word-List = tt
 sound_behind Epoch = tt
@@ -39,12 +40,14 @@ sound_after : (next : Then) → IsSound (after_name next)
 sound_after End = tt
 sound_after LastName = tt
 sound_after Readers = tt
+sound_after Size = tt
 sound_after NextReader = tt
 
 sound_comma : (next : Then) → IsSound (after_comma next)
 sound_comma End = tt
 sound_comma LastName = tt
 sound_comma Readers = tt
+sound_comma Size = tt
 sound_comma NextReader = tt
 
 abbrev AreSound : List (ℕ × Front) → Type 0
@@ -62,7 +65,7 @@ sound_chosen b (choice ∷ choices) s = sound_by (b == choice.0) choice.1 (chose
 sound_next : (stem : Stem) → AreSound (next_bytes stem)
 sound_next E = (omega arith, (omega arith, tt))
 sound_next R = (tt, tt)
-sound_next Re = (omega arith, (omega arith, (omega arith, tt)))
+sound_next Re = (omega arith, (omega arith, (omega arith, (omega arith, tt))))
 
 sound_word : (word : Word) (count b : ℕ) (spelled last : Bool) → is_spelled word count b ≡ spelled → (count + 1 == length (spelling word)) ≡ last → IsSound (word_by spelled last word count)
 sound_word word count b false last s l = tt

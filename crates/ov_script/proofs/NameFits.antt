@@ -6,7 +6,7 @@ use Rattle.ov_base.specs.Names.{is_letter_or_digit}
 use Rattle.ov_script.specs.LineFronts.{after_name, after_comma, end_by, name_by, is_named, readers_by}
 use Rattle.ov_script.specs.WrittenLists.{with_commas}
 use Rattle.ov_script.specs.declared.front.Then.{Then}
-use Rattle.ov_script.specs.declared.front.Then.TheVariants.{End, LastName, Readers, NextReader}
+use Rattle.ov_script.specs.declared.front.Then.TheVariants.{End, LastName, Readers, Size, NextReader}
 use Rattle.ov_script.specs.declared.front.Front.TheVariants.{InName}
 use Rattle.ov_script.proofs.Fitting.{NameThen, IsNothing, IsSize, AreReaders, AreMoreReaders, Follows, Fits}
 use Rattle.ov_script.proofs.NameFronts.{rest_of_name, name_of_rest, space_ends_name, comma_ends_name}
@@ -28,18 +28,21 @@ ends_name : (next : Then) (b : ℕ) (text : List ℕ) → Follows next (b ∷ te
 ends_name End b text p = absurd (cc)
 ends_name LastName b text (rest, e, p) = let first : b ≡ 32 = cc in let same : rest ≡ text = cc in inl (first, subst (NameThen IsNothing 0) same p)
 ends_name Readers b text (rest, e, p) = let first : b ≡ 32 = cc in let same : rest ≡ text = cc in inl (first, subst AreReaders same p)
+ends_name Size b text (rest, e, p) = let first : b ≡ 32 = cc in let same : rest ≡ text = cc in inl (first, subst IsSize same p)
 ends_name NextReader b text p = ends_more b text p
 
 after_space : (next : Then) (text : List ℕ) → Fits (after_name next) text → Follows next (32 ∷ text)
 after_space End text p = absurd p
 after_space LastName text p = (text, refl, p)
 after_space Readers text p = (text, refl, p)
+after_space Size text p = (text, refl, p)
 after_space NextReader text p = ([], text, tt, refl, p)
 
 behind_comma : (next : Then) (text : List ℕ) → Fits (after_comma next) text → Follows next (44 ∷ text)
 behind_comma End text p = absurd p
 behind_comma LastName text p = absurd p
 behind_comma Readers text p = absurd p
+behind_comma Size text p = absurd p
 behind_comma NextReader text (name, rest, e, r, (names, size, are, f, is)) =
     (name ∷ names, size, (name_of_rest name r, are), ap (λ t. 44 ∷ t) (e ∙ ap (λ t. name ++ t) f ∙ sym (append_assoc name (with_commas names) (32 ∷ size))), is)
 

@@ -3,7 +3,7 @@ use Rattle.std.proofs.Common.{◌≡◌, ℕ, ◌+◌, ◌-◌, ◌<◌, ◌≤�
 use Rattle.std.specs.Prelude.{codes}
 use Rattle.std.specs.Fmt.{digits}
 use Rattle.ov_base.specs.declared.limits.TheConstants.{MAX_SCRIPT_BYTES}
-use Rattle.ov_script.specs.declared.command.Command.TheVariants.{Enrol, Create, Grant, Revoke, Remove, Read, List as Command-List, Epoch}
+use Rattle.ov_script.specs.declared.command.Command.TheVariants.{Enrol, Create, Grant, Revoke, Remove, Replace, Read, List as Command-List, Epoch}
 use Rattle.ov_script.specs.Items.{IsItem, BeginsWithItem, CanBegin}
 use Rattle.ov_script.specs.WrittenLists.{IsList}
 use Rattle.ov_script.specs.Reading.{IsBad, cut, Reads, IsScript, AtEnd, BadAt, TooLong}
@@ -69,6 +69,10 @@ revoke_item = (refl, refl, refl)
 remove_item : IsItem (codes "remove f" ++ 10 ∷ []) (Remove (codes "f"))
 remove_item = (refl, refl)
 
+replace_item : IsItem (codes "replace f 3" ++ 10 ∷ (codes "abc" ++ 10 ∷ [])) (Replace (codes "f") (codes "abc"))
+unfolding digits
+replace_item = (refl, omega arith, refl)
+
 list_item : IsItem (codes "list f" ++ 10 ∷ []) (Command-List (codes "f"))
 list_item = (refl, refl)
 
@@ -105,8 +109,18 @@ comma_in_a_grant = dead_cannot (codes "grant a,") (lacks_by_test 10 (codes "gran
 space_in_a_removal : CanBegin (codes "remove f ") → ⊥
 space_in_a_removal = dead_cannot (codes "remove f ") (lacks_by_test 10 (codes "remove f ") refl) refl
 
-three_words_may_come : CanBegin (codes "re")
-three_words_may_come = alive_can (codes "re") refl
+-- a replacement has a size behind its name
+comma_in_a_replacement : CanBegin (codes "replace f,") → ⊥
+comma_in_a_replacement = dead_cannot (codes "replace f,") (lacks_by_test 10 (codes "replace f,") refl) refl
+
+list_in_a_replacement : CanBegin (codes "replace f -") → ⊥
+list_in_a_replacement = dead_cannot (codes "replace f -") (lacks_by_test 10 (codes "replace f -") refl) refl
+
+new_size_may_go_on : CanBegin (codes "replace f 1677721")
+new_size_may_go_on = alive_can (codes "replace f 1677721") refl
+
+four_words_may_come : CanBegin (codes "re")
+four_words_may_come = alive_can (codes "re") refl
 
 -- ---- fronts of a size
 

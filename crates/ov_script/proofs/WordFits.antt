@@ -7,7 +7,7 @@ use Rattle.std.proofs.lemmas.Bool.{and_parts, and_from}
 use Rattle.std.proofs.lemmas.Bool.Decides.{nat_tests}
 use Rattle.ov_script.specs.LineFronts.{spelling, behind, chosen, chosen_by, first_bytes, next_bytes, word_by, is_spelled}
 use Rattle.ov_script.specs.declared.front.Word.{Word}
-use Rattle.ov_script.specs.declared.front.Word.TheVariants.{Enrol, Create, Grant, Revoke, Remove, Read, List as Word-List, Epoch}
+use Rattle.ov_script.specs.declared.front.Word.TheVariants.{Enrol, Create, Grant, Revoke, Remove, Replace, Read, List as Word-List, Epoch}
 use Rattle.ov_script.specs.declared.front.Stem.{Stem}
 use Rattle.ov_script.specs.declared.front.Stem.TheVariants.{E, R, Re}
 use Rattle.ov_script.specs.declared.front.Front.{Front}
@@ -22,6 +22,7 @@ behind_fits Create text p = p
 behind_fits Grant text p = p
 behind_fits Revoke text p = p
 behind_fits Remove text p = p
+behind_fits Replace text p = p
 behind_fits Read text p = p
 behind_fits Word-List text p = p
 behind_fits Epoch text p = p
@@ -32,6 +33,7 @@ fits_behind Create text p = p
 fits_behind Grant text p = p
 fits_behind Revoke text p = p
 fits_behind Remove text p = p
+fits_behind Replace text p = p
 fits_behind Read text p = p
 fits_behind Word-List text p = p
 fits_behind Epoch text p = p
@@ -51,10 +53,13 @@ fits_first Grant b text rest e p =
     subst (λ c. Fits (chosen c first_bytes) text) first (omega arith, (rest, same, p))
 fits_first Revoke b text rest e p =
     let first : 114 ≡ b = cc in let same : text ≡ codes "evoke " ++ rest = cc in
-    subst (λ c. Fits (chosen c first_bytes) text) first (inr (inr (omega arith, (rest, same, p))))
+    subst (λ c. Fits (chosen c first_bytes) text) first (inr (inr (inr (omega arith, (rest, same, p)))))
 fits_first Remove b text rest e p =
     let first : 114 ≡ b = cc in let same : text ≡ codes "emove " ++ rest = cc in
     subst (λ c. Fits (chosen c first_bytes) text) first (inr (inl (omega arith, (rest, same, p))))
+fits_first Replace b text rest e p =
+    let first : 114 ≡ b = cc in let same : text ≡ codes "eplace " ++ rest = cc in
+    subst (λ c. Fits (chosen c first_bytes) text) first (inr (inr (inl (omega arith, (rest, same, p)))))
 fits_first Read b text rest e p =
     let first : 114 ≡ b = cc in let same : text ≡ codes "ead " ++ rest = cc in
     subst (λ c. Fits (chosen c first_bytes) text) first (inl (omega arith, (rest, same, p)))
@@ -79,16 +84,22 @@ fits_next R b text (inl (within, (rest, e, p))) =
 fits_next R b text (inr (inl (within, (rest, e, p)))) =
     let first : 101 ≡ b = cc in let same : text ≡ codes "move " ++ rest = cc in
     subst (λ c. Fits (chosen c (next_bytes R)) text) first (inr (inl (omega arith, (rest, same, p))))
-fits_next R b text (inr (inr (within, (rest, e, p)))) =
+fits_next R b text (inr (inr (inl (within, (rest, e, p))))) =
+    let first : 101 ≡ b = cc in let same : text ≡ codes "place " ++ rest = cc in
+    subst (λ c. Fits (chosen c (next_bytes R)) text) first (inr (inr (inl (omega arith, (rest, same, p)))))
+fits_next R b text (inr (inr (inr (within, (rest, e, p))))) =
     let first : 101 ≡ b = cc in let same : text ≡ codes "voke " ++ rest = cc in
-    subst (λ c. Fits (chosen c (next_bytes R)) text) first (inr (inr (omega arith, (rest, same, p))))
+    subst (λ c. Fits (chosen c (next_bytes R)) text) first (inr (inr (inr (omega arith, (rest, same, p)))))
 fits_next Re b text (inl (within, (rest, e, p))) =
     let first : 97 ≡ b = cc in let same : text ≡ codes "d " ++ rest = cc in
     subst (λ c. Fits (chosen c (next_bytes Re)) text) first (omega arith, (rest, same, p))
 fits_next Re b text (inr (inl (within, (rest, e, p)))) =
     let first : 109 ≡ b = cc in let same : text ≡ codes "ove " ++ rest = cc in
     subst (λ c. Fits (chosen c (next_bytes Re)) text) first (omega arith, (rest, same, p))
-fits_next Re b text (inr (inr (within, (rest, e, p)))) =
+fits_next Re b text (inr (inr (inl (within, (rest, e, p))))) =
+    let first : 112 ≡ b = cc in let same : text ≡ codes "lace " ++ rest = cc in
+    subst (λ c. Fits (chosen c (next_bytes Re)) text) first (omega arith, (rest, same, p))
+fits_next Re b text (inr (inr (inr (within, (rest, e, p))))) =
     let first : 118 ≡ b = cc in let same : text ≡ codes "oke " ++ rest = cc in
     subst (λ c. Fits (chosen c (next_bytes Re)) text) first (omega arith, (rest, same, p))
 
@@ -114,12 +125,14 @@ lead_to_e text (inr (within, (rest, e, p))) = (Epoch, rest, ap (λ t. 101 ∷ t)
 lead_to_r : (text : List ℕ) → RestOfStem R text → IsWhole (114 ∷ text)
 lead_to_r text (inl (within, (rest, e, p))) = (Read, rest, ap (λ t. 114 ∷ t) e, p)
 lead_to_r text (inr (inl (within, (rest, e, p)))) = (Remove, rest, ap (λ t. 114 ∷ t) e, p)
-lead_to_r text (inr (inr (within, (rest, e, p)))) = (Revoke, rest, ap (λ t. 114 ∷ t) e, p)
+lead_to_r text (inr (inr (inl (within, (rest, e, p))))) = (Replace, rest, ap (λ t. 114 ∷ t) e, p)
+lead_to_r text (inr (inr (inr (within, (rest, e, p))))) = (Revoke, rest, ap (λ t. 114 ∷ t) e, p)
 
 lead_to_re : (text : List ℕ) → RestOfStem Re text → RestOfStem R (101 ∷ text)
 lead_to_re text (inl (within, (rest, e, p))) = inl (omega arith, (rest, ap (λ t. 101 ∷ t) e, p))
 lead_to_re text (inr (inl (within, (rest, e, p)))) = inr (inl (omega arith, (rest, ap (λ t. 101 ∷ t) e, p)))
-lead_to_re text (inr (inr (within, (rest, e, p)))) = inr (inr (omega arith, (rest, ap (λ t. 101 ∷ t) e, p)))
+lead_to_re text (inr (inr (inl (within, (rest, e, p))))) = inr (inr (inl (omega arith, (rest, ap (λ t. 101 ∷ t) e, p))))
+lead_to_re text (inr (inr (inr (within, (rest, e, p))))) = inr (inr (inr (omega arith, (rest, ap (λ t. 101 ∷ t) e, p))))
 
 first_leads : Leads IsWhole first_bytes
 first_leads = (
@@ -146,7 +159,10 @@ next_leads Re = (
   λ text (within, (rest, e, p)). inl (omega arith, (rest, ap (λ t. 97 ∷ t) e, p)),
   (
     λ text (within, (rest, e, p)). inr (inl (omega arith, (rest, ap (λ t. 109 ∷ t) e, p))),
-    (λ text (within, (rest, e, p)). inr (inr (omega arith, (rest, ap (λ t. 118 ∷ t) e, p))), tt),
+    (
+      λ text (within, (rest, e, p)). inr (inr (inl (omega arith, (rest, ap (λ t. 112 ∷ t) e, p)))),
+      (λ text (within, (rest, e, p)). inr (inr (inr (omega arith, (rest, ap (λ t. 118 ∷ t) e, p)))), tt),
+    ),
   ),
 )
 

@@ -6,7 +6,7 @@ use Rattle.ov_base.specs.declared.limits.TheConstants.{MAX_LINE_BYTES}
 use Rattle.ov_io.specs.Calls.{TakesPieces, TakesWhile}
 use Rattle.ov_io.specs.Tells.{SourceTells}
 use Rattle.ov_script.specs.Feed.{Fed, Uses, text_of}
-use Rattle.ov_script.specs.ItemLines.{SaysLine}
+use Rattle.ov_script.specs.ItemLines.{SaysLine, with_body}
 use Rattle.ov_script.specs.Items.{IsItem}
 use Rattle.ov_script.specs.LineFeeds.{lf_count, NoLf}
 use Rattle.ov_script.specs.LineFronts.{run}
@@ -17,9 +17,9 @@ use Rattle.ov_script.specs.Taking.{IsUnsettled}
 use Rattle.ov_script.specs.declared.body.Behind.{Behind}
 use Rattle.ov_script.specs.declared.body.Behind.TheVariants.{Lf, Other, Nothing}
 use Rattle.ov_script.specs.declared.command.Command.{Command}
-use Rattle.ov_script.specs.declared.command.Command.TheVariants.{Create}
 use Rattle.ov_script.specs.declared.ended.Ended.{Ended}
 use Rattle.ov_script.specs.declared.ended.Ended.TheVariants.{End, Bad, Long, Fault}
+use Rattle.ov_script.specs.declared.first_line.Head.{Head}
 use Rattle.ov_script.specs.declared.front.Front.TheVariants.{Start}
 use Rattle.ov_script.specs.declared.find.Line.{Line}
 use Rattle.ov_script.specs.declared.find.Seen.{Seen}
@@ -108,14 +108,15 @@ TakesLf tells old new Other =
     IfSome (text_of tells old) (λ text. (b : ℕ) × (rest : List ℕ) × (b ≢ 10) × (text ≡ b ∷ rest))
 TakesLf tells old new Nothing = IfSome (text_of tells old) (λ text. text ≡ [])
 
--- What follows the line of a `create`, of this many bytes, makes an item, or there is none.
-abbrev pub Creates : {S : Type 0} → SourceTells S → ℕ → List ℕ × List (List ℕ) → ℕ → ℕ → Fed S
-    → Fed S → Result Item Ended → Type 0
-Creates tells room names line size old new (Ok item) =
-    (body : List ℕ) × (item.command ≡ Create names.0 names.1 body) × (length body ≡ size)
+-- What follows the line of a command with a body, of this many bytes, makes an item, or there is
+-- none.
+abbrev pub MakesItem : {S : Type 0} → SourceTells S → ℕ → Head → ℕ → ℕ → Fed S → Fed S
+    → Result Item Ended → Type 0
+MakesItem tells room head line size old new (Ok item) =
+    (body : List ℕ) × (item.command ≡ with_body head body) × (length body ≡ size)
     × (item.size ≡ line + size + 1) × (item.size ≤ room) × (item.lines ≡ lf_count body + 2)
     × Uses tells old new (body ++ 10 ∷ [])
-Creates tells room names line size old new (Err ended) =
+MakesItem tells room head line size old new (Err ended) =
     IsWhyNoBody (room - line) size (text_of tells old) ended
 
 -- An item that says this command, with this many bytes and this many LF, was used; or there is

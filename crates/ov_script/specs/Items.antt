@@ -5,7 +5,7 @@ use Rattle.ov_base.specs.declared.limits.TheConstants.{MAX_FILE_BYTES, MAX_LINE_
 use Rattle.ov_base.specs.Names.{IsName}
 use Rattle.ov_script.specs.WrittenLists.{IsList}
 use Rattle.ov_script.specs.declared.command.Command.{Command}
-use Rattle.ov_script.specs.declared.command.Command.TheVariants.{Enrol, Create, Grant, Revoke, Remove, Read, List as Command-List, Epoch}
+use Rattle.ov_script.specs.declared.command.Command.TheVariants.{Enrol, Create, Grant, Revoke, Remove, Replace, Read, List as Command-List, Epoch}
 
 -- The words, with one space between two of them.
 abbrev pub spaced : List (List ℕ) → List ℕ
@@ -21,8 +21,12 @@ line_of words = spaced words ++ 10 ∷ []
 abbrev pub create_line : List ℕ → List ℕ → ℕ → List ℕ
 create_line file list size = line_of (codes "create" ∷ file ∷ list ∷ decimal size ∷ [])
 
--- These bytes are one item, which says this command: a line, and behind that of a `create` as many
--- bytes as its last word says, and one LF. Only the line of a `create` could be longer than a line
+-- The line of a `replace`.
+abbrev pub replace_line : List ℕ → ℕ → List ℕ
+replace_line file size = line_of (codes "replace" ∷ file ∷ decimal size ∷ [])
+
+-- These bytes are one item, which says this command: a line, and behind that of a `create` or a
+-- `replace` as many bytes as its last word says, and one LF. Only the line of a `create` could be longer than a line
 -- may be.
 abbrev pub IsItem : List ℕ → Command → Type 0
 IsItem bytes (Enrol user) = IsName user × (bytes ≡ line_of (codes "enrol" ∷ user ∷ []))
@@ -35,6 +39,9 @@ IsItem bytes (Grant user file) =
 IsItem bytes (Revoke user file) =
     IsName user × IsName file × (bytes ≡ line_of (codes "revoke" ∷ user ∷ file ∷ []))
 IsItem bytes (Remove file) = IsName file × (bytes ≡ line_of (codes "remove" ∷ file ∷ []))
+IsItem bytes (Replace file body) =
+    IsName file × (length body ≤ MAX_FILE_BYTES)
+    × (bytes ≡ replace_line file (length body) ++ body ++ 10 ∷ [])
 IsItem bytes (Read user file) =
     IsName user × IsName file × (bytes ≡ line_of (codes "read" ∷ user ∷ file ∷ []))
 IsItem bytes (Command-List file) = IsName file × (bytes ≡ line_of (codes "list" ∷ file ∷ []))

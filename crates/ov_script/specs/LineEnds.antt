@@ -4,11 +4,11 @@ use Rattle.std.specs.Prelude.{ℕ, ◌+◌, ◌-◌, zero, suc, Bool, false, nat
 use Rattle.ov_base.specs.declared.limits.TheConstants.{MAX_LINE_BYTES}
 use Rattle.ov_script.specs.LineFronts.{spelling}
 use Rattle.ov_script.specs.declared.front.Word.{Word}
-use Rattle.ov_script.specs.declared.front.Word.TheVariants.{Enrol, Create, Grant, Revoke, Remove, Read, List as Word-List, Epoch}
+use Rattle.ov_script.specs.declared.front.Word.TheVariants.{Enrol, Create, Grant, Revoke, Remove, Replace, Read, List as Word-List, Epoch}
 use Rattle.ov_script.specs.declared.front.Stem.{Stem}
 use Rattle.ov_script.specs.declared.front.Stem.TheVariants.{E, R, Re}
 use Rattle.ov_script.specs.declared.front.Then.{Then}
-use Rattle.ov_script.specs.declared.front.Then.TheVariants.{End, LastName, Readers, NextReader}
+use Rattle.ov_script.specs.declared.front.Then.TheVariants.{End, LastName, Readers, Size, NextReader}
 use Rattle.ov_script.specs.declared.front.Front.{Front}
 use Rattle.ov_script.specs.declared.front.Front.TheVariants.{Start, InStem, InWord, InName, AtReaders, Nobody, InSize, Done, Never}
 
@@ -17,6 +17,7 @@ abbrev pub fewest_after : Then → ℕ
 fewest_after End = 0
 fewest_after LastName = 2
 fewest_after Readers = 4
+fewest_after Size = 2
 fewest_after NextReader = 2
 
 -- The fewest bytes that may follow a word.
@@ -26,6 +27,7 @@ fewest_behind Create = 5
 fewest_behind Grant = 3
 fewest_behind Revoke = 3
 fewest_behind Remove = 1
+fewest_behind Replace = 3
 fewest_behind Read = 3
 fewest_behind Word-List = 1
 fewest_behind Epoch = 0

@@ -4,11 +4,11 @@ use Rattle.std.specs.Prelude.{ℕ, ◌+◌, ◌-◌, ◌*◌, zero, suc, Bool, t
 use Rattle.ov_base.specs.declared.limits.TheConstants.{MAX_FILE_BYTES}
 use Rattle.ov_base.specs.Names.{is_letter_or_digit, is_name_byte}
 use Rattle.ov_script.specs.declared.front.Word.{Word}
-use Rattle.ov_script.specs.declared.front.Word.TheVariants.{Enrol, Create, Grant, Revoke, Remove, Read, List as Word-List, Epoch}
+use Rattle.ov_script.specs.declared.front.Word.TheVariants.{Enrol, Create, Grant, Revoke, Remove, Replace, Read, List as Word-List, Epoch}
 use Rattle.ov_script.specs.declared.front.Stem.{Stem}
 use Rattle.ov_script.specs.declared.front.Stem.TheVariants.{E, R, Re}
 use Rattle.ov_script.specs.declared.front.Then.{Then}
-use Rattle.ov_script.specs.declared.front.Then.TheVariants.{End, LastName, Readers, NextReader}
+use Rattle.ov_script.specs.declared.front.Then.TheVariants.{End, LastName, Readers, Size, NextReader}
 use Rattle.ov_script.specs.declared.front.Front.{Front}
 use Rattle.ov_script.specs.declared.front.Front.TheVariants.{Start, InStem, InWord, InName, AtReaders, Nobody, InSize, Done, Never}
 
@@ -21,6 +21,7 @@ spelling Create = codes "create "
 spelling Grant = codes "grant "
 spelling Revoke = codes "revoke "
 spelling Remove = codes "remove "
+spelling Replace = codes "replace "
 spelling Read = codes "read "
 spelling Word-List = codes "list "
 spelling Epoch = codes "epoch"
@@ -32,6 +33,7 @@ behind Create = InName Readers 0
 behind Grant = InName LastName 0
 behind Revoke = InName LastName 0
 behind Remove = InName End 0
+behind Replace = InName Size 0
 behind Read = InName LastName 0
 behind Word-List = InName End 0
 behind Epoch = Done
@@ -56,7 +58,9 @@ first_bytes =
 abbrev pub next_bytes : Stem → List (ℕ × Front)
 next_bytes E = (110, InWord Enrol 2) ∷ (112, InWord Epoch 2) ∷ []
 next_bytes R = (101, InStem Re) ∷ []
-next_bytes Re = (97, InWord Read 3) ∷ (109, InWord Remove 3) ∷ (118, InWord Revoke 3) ∷ []
+next_bytes Re =
+    (97, InWord Read 3) ∷ (109, InWord Remove 3) ∷ (112, InWord Replace 3) ∷ (118, InWord Revoke 3)
+    ∷ []
 
 -- What is read behind one more byte of a word, by whether it is the word's next one and the last.
 abbrev pub word_by : Bool → Bool → Word → ℕ → Front
@@ -76,6 +80,7 @@ abbrev pub after_name : Then → Front
 after_name End = Never
 after_name LastName = InName End 0
 after_name Readers = AtReaders
+after_name Size = InSize None
 after_name NextReader = InSize None
 
 -- What is read behind a name and a comma.
@@ -83,6 +88,7 @@ abbrev pub after_comma : Then → Front
 after_comma End = Never
 after_comma LastName = Never
 after_comma Readers = Never
+after_comma Size = Never
 after_comma NextReader = InName NextReader 0
 
 -- What is read behind a whole name and one more byte, by whether it is a space or a comma.

@@ -28,6 +28,12 @@ pub enum Command {
     Remove {
         file: Name,
     },
+    /// `replace FILE LENGTH`, LENGTH bytes: the file is gone, and one of its name and list has the
+    /// new bytes.
+    Replace {
+        file: Name,
+        bytes: Octets,
+    },
     /// `read USER FILE`: the user asks for the file's bytes.
     Read {
         user: Name,

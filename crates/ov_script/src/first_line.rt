@@ -5,7 +5,8 @@ ghost use Rattle.ov_base.specs.declared.limits.TheConstants.{MAX_FILE_BYTES, MAX
 ghost use Rattle.ov_base.specs.Names.{IsName};
 ghost use Rattle.ov_script.specs.declared.command.Command.{Command};
 ghost use Rattle.ov_script.specs.declared.first_line.FirstLine.{FirstLine};
-ghost use Rattle.ov_script.specs.ItemLines.{SaysWhole, SaysCreate, SaysLine};
+ghost use Rattle.ov_script.specs.declared.first_line.Head.{Head};
+ghost use Rattle.ov_script.specs.ItemLines.{SaysWhole, SaysCreate, SaysReplace, SaysHead, SaysLine, with_body};
 ghost use Rattle.ov_script.specs.Items.{spaced};
 ghost use Rattle.ov_script.specs.LineFeeds.{Lacks};
 
@@ -13,7 +14,7 @@ use crate::command::Command;
 use crate::list::list_of;
 use crate::words::{size_of_digits, split, two_names};
 use ov_base::limits::MAX_LINE_BYTES;
-use ov_base::{Memory, Name, Names};
+use ov_base::{Memory, Name, Names, Octets};
 use std::alloc::Global;
 
 /// What the first line of an item says.
@@ -21,12 +22,29 @@ use std::alloc::Global;
 pub enum FirstLine {
     /// The whole item.
     Whole(Command),
-    /// A `create`, whose line has this many bytes and one LF behind it.
-    WithBody {
-        file: Name,
-        list: Names,
-        size: usize,
-    },
+    /// A command whose line has this many bytes and one LF behind it.
+    WithBody { head: Head, size: usize },
+}
+
+/// The command of an item with a body, but for the body.
+#[derive(Drop)]
+pub enum Head {
+    /// A `create`.
+    Creation { file: Name, list: Names },
+    /// A `replace`.
+    Replacement { file: Name },
+}
+
+impl Head {
+    /// The command with this body.
+    pub fn with_body(self, bytes: Octets) -> Command
+        ensures { result ≡ with_body self bytes }
+    {
+        match self {
+            Head::Creation { file, list } => Command::Create { file, list, bytes },
+            Head::Replacement { file } => Command::Replace { file, bytes },
+        }
+    }
 }
 
 // What follows the word.
@@ -149,10 +167,39 @@ fn create(line: &[u8], alloc: Global) -> Result<Option<FirstLine>, Memory>
     }
     match create_words(line) {
         Some((file, list, size)) => match list_of(alloc, list)? {
-            Some(list) => Ok(Some(FirstLine::WithBody { file, list, size })),
+            Some(list) => Ok(Some(FirstLine::WithBody {
+                head: Head::Creation { file, list },
+                size,
+            })),
             None => Ok(None),
         },
         None => Ok(None),
+    }
+}
+
+fn replace(line: &[u8]) -> Option<FirstLine>
+    ensures found { IfSome result (SaysLine line.now) }
+    ensures none { IfNone result ((file : List ℕ) (size : ℕ)
+        → SaysReplace line.now file size → ⊥) }
+{
+    let (file, digits) = split(behind(line, b"replace ")?, b' ')?;
+    Some(FirstLine::WithBody {
+        head: Head::Replacement {
+            file: Name::read(file)?,
+        },
+        size: size_of_digits(digits)?,
+    })
+}
+
+// What a line says that has a body behind it.
+fn headed(line: &[u8], alloc: Global) -> Result<Option<FirstLine>, Memory>
+    ensures found { IfOk result (λ found. IfSome found (SaysLine line.now)) }
+    ensures none { IfOk result (λ found. IfNone found
+        ((head : Head) (size : ℕ) → SaysHead line.now head size → ⊥)) }
+{
+    match replace(line) {
+        Some(said) => Ok(Some(said)),
+        None => create(line, alloc),
     }
 }
 
@@ -164,6 +211,6 @@ pub fn read_line(line: &[u8], alloc: Global) -> Result<Option<FirstLine>, Memory
 {
     match command(line) {
         Some(command) => Ok(Some(FirstLine::Whole(command))),
-        None => create(line, alloc),
+        None => headed(line, alloc),
     }
 }

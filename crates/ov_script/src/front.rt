@@ -14,6 +14,7 @@ pub enum Word {
     Grant,
     Revoke,
     Remove,
+    Replace,
     Read,
     List,
     Epoch,
@@ -24,9 +25,9 @@ pub enum Word {
 pub enum Stem {
     /// The `e` of `enrol` and `epoch`.
     E,
-    /// The `r` of `read`, `remove` and `revoke`.
+    /// The `r` of `read`, `remove`, `replace` and `revoke`.
     R,
-    /// The `re` of `read`, `remove` and `revoke`.
+    /// The `re` of `read`, `remove`, `replace` and `revoke`.
     Re,
 }
 
@@ -39,6 +40,8 @@ pub enum Then {
     LastName,
     /// A space, the list of readers, a space and the size.
     Readers,
+    /// A space and the size.
+    Size,
     /// A comma and the next reader, or a space and the size.
     NextReader,
 }
@@ -76,6 +79,7 @@ pub fn spelling(word: Word) -> &'static [u8]
         Word::Grant => b"grant ",
         Word::Revoke => b"revoke ",
         Word::Remove => b"remove ",
+        Word::Replace => b"replace ",
         Word::Read => b"read ",
         Word::List => b"list ",
         Word::Epoch => b"epoch",
@@ -89,6 +93,7 @@ fn behind(word: Word) -> Front
     let next = match word {
         Word::Enrol | Word::Remove | Word::List => Then::End,
         Word::Create => Then::Readers,
+        Word::Replace => Then::Size,
         Word::Grant | Word::Revoke | Word::Read => Then::LastName,
         Word::Epoch => return Front::Done,
     };
@@ -120,6 +125,7 @@ fn in_stem(stem: Stem, byte: u8) -> Front
         (Stem::R, b'e') => return Front::InStem(Stem::Re),
         (Stem::Re, b'a') => (Word::Read, 3),
         (Stem::Re, b'm') => (Word::Remove, 3),
+        (Stem::Re, b'p') => (Word::Replace, 3),
         (Stem::Re, b'v') => (Word::Revoke, 3),
         _ => return Front::Never,
     };
@@ -155,7 +161,7 @@ fn after_name(next: Then) -> Front
             count: 0,
         },
         Then::Readers => Front::AtReaders,
-        Then::NextReader => Front::InSize(None),
+        Then::Size | Then::NextReader => Front::InSize(None),
     }
 }
 

@@ -1,7 +1,7 @@
-//! A whole item, and the one of a `create`.
+//! A whole item, and one with a body.
 ghost use Rattle.std.specs.Prelude.{◌≡◌, ◌+◌, ◌-◌, min, ◌≤◌, length, IsErr};
 ghost use Rattle.ov_io.specs.Calls.{IsCallOf};
-ghost use Rattle.ov_script.specs.Finding.{Creates, TakesBelow};
+ghost use Rattle.ov_script.specs.Finding.{MakesItem, TakesBelow};
 ghost use Rattle.ov_script.specs.LineFeeds.{lf_count};
 ghost use Rattle.ov_script.specs.NoItem.{IsReadFault};
 
@@ -9,7 +9,8 @@ use crate::body::body_of;
 use crate::command::Command;
 use crate::ended::Ended;
 use crate::feed::Feed;
-use ov_base::{Name, Names, Octets};
+use crate::first_line::Head;
+use ov_base::Octets;
 use ov_io::Source;
 
 /// A whole item, which was used.
@@ -37,29 +38,24 @@ fn lf_count(bytes: &[u8]) -> usize
     count
 }
 
-/// The item of a `create`, whose line of `line` bytes was used.
-pub fn create<S: Source + Drop>(
+/// The item of a command with a body, whose line of `line` bytes was used.
+pub fn bodied<S: Source + Drop>(
     feed: &mut Feed<S>,
     room: usize,
-    names: (Name, Names),
+    head: Head,
     line: usize,
     size: usize,
 ) -> Result<Item, Ended>
     requires { line ≤ room }
-    ensures found { Creates S.tells room names line size feed.old feed.new result }
+    ensures found { MakesItem S.tells room head line size feed.old feed.new result }
     ensures needed { TakesBelow S.tells (min (room - line) size + 1) feed.old.pending
         (IsErr result) (IsReadFault result) feed.old.source feed.new.source }
     ensures call { IsCallOf S.tells (IsReadFault result) feed.old.source feed.new.source }
 {
     let bytes = body_of(feed, room - line, size)?;
     let lines = lf_count(&bytes) + 2;
-    let (file, list) = names;
     Ok(Item {
-        command: Command::Create {
-            file,
-            list,
-            bytes: Octets::from_vec(bytes),
-        },
+        command: head.with_body(Octets::from_vec(bytes)),
         size: line + size + 1,
         lines,
     })

@@ -19,7 +19,8 @@
 //!
 //! A command that `next` gives is that of some item, also where the source tells nothing
 //! (`IsOfItem` in `Saying`); the laws in `proofs/CreateLaws` give from it that the names of a
-//! `create` are names, distinct and short, and that its bytes are no more than a file may have.
+//! `create` are names, distinct and short, and that its bytes, and those of a `replace`, are no more
+//! than a file may have.
 //!
 //! Inside, a `Feed` is the source with the bytes that were taken and not yet used; `find` takes
 //! bytes until it knows what line is at the front, by a `Front` that reads them one by one and

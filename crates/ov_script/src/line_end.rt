@@ -11,7 +11,7 @@ fn fewest_after(next: Then) -> usize
 {
     match next {
         Then::End => 0,
-        Then::LastName | Then::NextReader => 2,
+        Then::LastName | Then::Size | Then::NextReader => 2,
         Then::Readers => 4,
     }
 }
@@ -23,7 +23,7 @@ fn fewest_behind(word: Word) -> usize
     match word {
         Word::Epoch => 0,
         Word::Enrol | Word::Remove | Word::List => 1,
-        Word::Grant | Word::Revoke | Word::Read => 3,
+        Word::Grant | Word::Revoke | Word::Replace | Word::Read => 3,
         Word::Create => 5,
     }
 }

@@ -14,7 +14,7 @@ use crate::ended::Ended;
 use crate::feed::{Buffer, Feed};
 use crate::find::{Line, find};
 use crate::first_line::FirstLine;
-use crate::item::{Item, create};
+use crate::item::{Item, bodied};
 use crate::next::{Next, ScriptFault};
 use ov_base::Memory;
 use ov_base::limits::MAX_SCRIPT_BYTES;
@@ -60,11 +60,7 @@ fn item_of<S: Source + Drop>(feed: &mut Feed<S>, room: usize) -> Result<Item, En
             size,
             lines: 1,
         }),
-        FirstLine::WithBody {
-            file,
-            list,
-            size: body,
-        } => create(feed, room, (file, list), size, body),
+        FirstLine::WithBody { head, size: body } => bodied(feed, room, head, size, body),
     }
 }
 

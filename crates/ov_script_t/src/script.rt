@@ -62,6 +62,12 @@ fn put_command(command: &Command, out: &mut Vec<u8>) -> Result<(), Fail> {
             put_word(b"remove", out)?;
             put_word(file.as_bytes(), out)?;
         }
+        Command::Replace { file, bytes } => {
+            put_word(b"replace", out)?;
+            put_word(file.as_bytes(), out)?;
+            put_word(b"+", out)?;
+            put_word(bytes.as_slice(), out)?;
+        }
         Command::Read { user, file } => put_names(b"read", user, file, out)?,
         Command::List { file } => {
             put_word(b"list", out)?;
@@ -108,7 +114,7 @@ fn expect_told(rt: &impl Abort, alloc: Global, text: &[u8], says: &[u8]) -> Resu
 }
 
 /// A script, and what it says.
-const ROWS: [(&[u8], &[u8]); 10] = [
+const ROWS: [(&[u8], &[u8]); 13] = [
     (b"", b"end"),
     (b"enrol alice\nenrol bob\n", b"enrol alice ;enrol bob ;end"),
     (
@@ -123,6 +129,15 @@ const ROWS: [(&[u8], &[u8]); 10] = [
         b"revoke a remove\nremove revoke\nread a f\nremove a\n",
         b"revoke a remove ;remove revoke ;read a f ;remove a ;end",
     ),
+    (
+        b"replace f 3\nabc\nread a f\nreplace replace 0\n\nremove f\n",
+        b"replace f + abc ;read a f ;replace replace + ;remove f ;end",
+    ),
+    (
+        b"replace f 3\n\n\n\n\nenrol Bob\n",
+        b"replace f + \n\n\n ;bad 6",
+    ),
+    (b"enrol a\nreplace f 3\nab", b"enrol a ;bad 2"),
     (b"create f - 0\n\nlist f\n", b"create f + ;list f ;end"),
     (b"create f b,a,b,c,a 1\nx\n", b"create f b/a/c/+ x ;end"),
     (b"create f a,a- 1\nx\n", b"create f a/a-/+ x ;end"),
@@ -168,8 +183,33 @@ fn creates_that_are_none(rt: HostRuntime) -> Result<(), Fail> {
     Ok(())
 }
 
+/// Scripts whose first item would be a `replace`, and is none.
+const NO_REPLACEMENTS: [&[u8]; 13] = [
+    b"replace f 3\nabcd\n",
+    b"replace f 3\nabc",
+    b"replace f 03\nabc\n",
+    b"replace f 16777217",
+    b"replace f a 3\nabc\n",
+    b"replace f - 3\nabc\n",
+    b"replace f,g 3\nabc\n",
+    b"replace F 3\nabc\n",
+    b"replace  f 3\nabc\n",
+    b"replace f 3 \nabc\n",
+    b"replace f -3\nabc\n",
+    b"replace f \n",
+    b"replace f\n",
+];
+
+#[test]
+fn replacements_that_are_none(rt: HostRuntime) -> Result<(), Fail> {
+    for text in &NO_REPLACEMENTS {
+        expect_told(&rt, rt.alloc(), text, b"bad 1")?;
+    }
+    Ok(())
+}
+
 /// Scripts whose first line is no other item.
-const NO_ITEMS: [&[u8]; 18] = [
+const NO_ITEMS: [&[u8]; 20] = [
     b"read a\n",
     b"read a f g\n",
     b"read  a f\n",
@@ -187,6 +227,8 @@ const NO_ITEMS: [&[u8]; 18] = [
     b"remove f,g\n",
     b"removef\n",
     b"reboke a f\n",
+    b"replacef 3\nabc\n",
+    b"repeat f 3\nabc\n",
     b"erol a\n",
 ];
 

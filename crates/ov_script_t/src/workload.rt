@@ -43,6 +43,9 @@ fn told(command: &Command, alloc: Global) -> Result<Vec<u8>, Fail> {
             put_words(&[b"revoke", user.as_bytes(), file.as_bytes()], &mut out)?
         }
         Command::Remove { file } => put_words(&[b"remove", file.as_bytes()], &mut out)?,
+        Command::Replace { file, bytes: _ } => {
+            put_words(&[b"replace", file.as_bytes()], &mut out)?
+        }
         Command::Read { user, file } => {
             put_words(&[b"read", user.as_bytes(), file.as_bytes()], &mut out)?
         }

@@ -35,6 +35,7 @@ no_fault s (Err place) is = cc
 no_fault s (Ok requests.Hello) is = cc
 no_fault s (Ok (requests.Ask question)) is = is
 no_fault s (Ok (requests.Cover file len names)) is = is
+no_fault s (Ok (requests.Replan file len)) is = is
 no_fault s (Ok (requests.Update epoch spelling tag)) is =
     spelled_fault s.catalogue (update_of second_form spelling) is.2
 no_fault s (Ok (requests.Chain user file)) is = is
@@ -107,6 +108,7 @@ accepted_made s (Err place) n is = absurd (cc)
 accepted_made s (Ok requests.Hello) n is = absurd (cc)
 accepted_made s (Ok (requests.Ask question)) n is = absurd is
 accepted_made s (Ok (requests.Cover file len names)) n is = absurd is
+accepted_made s (Ok (requests.Replan file len)) n is = absurd is
 accepted_made s (Ok (requests.Chain user file)) n is = absurd is
 accepted_made s (Ok (requests.Chunk file generation start count)) n is =
     absurd (chunk_made (living_at s.catalogue.files file) is) where

@@ -7,9 +7,9 @@ use Rattle.std.proofs.lemmas.Bool.{or_parts}
 use Rattle.std.proofs.lemmas.Map.Keys.{IsDistinct-head, IsDistinct-tail, IsDistinct-cons}
 use Rattle.ov_base.specs.NameLists.{AreDistinct, is_among}
 use Rattle.ov_base.proofs.Tests.{ge_of_false}
-use Rattle.ov_record.specs.Updates.{SealedUpdate}
 use Rattle.ov_history.specs.History.{Update, Enrolled, Created, Granted, Revoked, History, Matrix, matrix_of, start_of, with_update}
-use Rattle.ov_history.specs.History.{Removed}
+use Rattle.ov_history.specs.History.{Removed, Replaced}
+use Rattle.ov_history.specs.Sent.{SealedUpdate}
 use Rattle.ov_history.specs.Places.{place_of}
 use Rattle.ov_history.specs.Refusals.{AllAccepted, IsLegal, refusal_of, tests_of}
 use Rattle.ov_history.specs.History.{epoch_of}
@@ -65,6 +65,9 @@ one_more h (Revoked user file) distinct none =
     subst (λ (m : Matrix). AreDistinct m.users) (sym (matrix_of-push h (Revoked user file))) distinct
 one_more h (Removed file) distinct none =
     subst (λ (m : Matrix). AreDistinct m.users) (sym (matrix_of-push h (Removed file))) distinct
+one_more h (Replaced file size) distinct none =
+    subst (λ (m : Matrix). AreDistinct m.users) (sym (matrix_of-push h (Replaced file size)))
+    distinct
 
 along : (h : History) (updates : List Update) → AreDistinct (matrix_of h).users
     → AllAccepted h updates → AreDistinct (matrix_of (with_updates h updates)).users

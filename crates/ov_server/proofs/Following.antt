@@ -4,8 +4,8 @@ use Rattle.std.specs.Prelude.{OnOk, is_some}
 use Rattle.ov_base.specs.declared.memory.Memory.{Memory}
 use Rattle.std.proofs.lemmas.List.{append-nil}
 use Rattle.ov_record.specs.Updates.{SealedUpdate}
-use Rattle.ov_history.specs.Catalogue.{Catalogue, empty_catalogue}
-use Rattle.ov_history.specs.Sealed.{SealedHistory, catalogue_all, stored_all}
+use Rattle.ov_history.specs.Catalogue.{Catalogue}
+use Rattle.ov_history.specs.Sealed.{SealedHistory}
 use Rattle.ov_disk.specs.Tells.{DiskTells}
 use Rattle.ov_wire.specs.declared.request.Request.{Request}
 use Rattle.ov_wire.specs.declared.answer.Answer.TheVariants as answers
@@ -13,9 +13,11 @@ use Rattle.ov_wire.specs.Frames.{IsFrame}
 use Rattle.ov_wire.specs.RequestReading.{request_of}
 use Rattle.ov_wire.proofs.AnswerForms.{answer_is_frame}
 use Rattle.ov_protocol.specs.Serving.{IsService, Service, Serving, later, served}
+use Rattle.ov_protocol.specs.Serving.{stored_followed}
 use Rattle.ov_protocol.specs.Updating.{spelled_by, updates_in, updates_of}
 use Rattle.ov_protocol.specs.Replies.{AnswersRead, made_of}
-use Rattle.ov_protocol.proofs.GoingOn.{epochs_all, servers_go_on, services_are_served}
+use Rattle.ov_protocol.proofs.Following.{later-append}
+use Rattle.ov_protocol.proofs.GoingOn.{epoch_later, servers_go_on, services_are_served}
 use Rattle.ov_protocol.proofs.Leaving.{later-nil}
 use Rattle.ov_protocol.proofs.Reading.{replies_are_frames}
 use Rattle.ov_peer.specs.Spellings.{IsUpdate, longer_if, says_accepted, spelling_in, spelling_of, with_accepted}
@@ -50,37 +52,19 @@ reached_at_once s some = record {
 
 -- ---- epochs
 
-all_append : (master : List ℕ) (c : Catalogue) (updates more : List SealedUpdate)
-    → (catalogue_all master c (updates ++ more)).epoch ≡ (catalogue_all master c updates).epoch + length more
-all_append master c updates more =
-    omega (
-      arith,
-      epochs_all master c (updates ++ more),
-      epochs_all master c updates,
-      length-append updates more,
-    )
-
 pub epoch_reached : (start now : Serving) (list : List (List ℕ)) → Reaches start list now
     → now.catalogue.epoch ≡ start.catalogue.epoch + length list
 epoch_reached start now list reaches =
     let v : Service = reaches.some.0 in
     let before = reaches.some.1 in
     let after = reaches.goes_on v before in
-    let empty : Catalogue = empty_catalogue v.history.mode v.history.first in
-    let first : start.catalogue.epoch ≡ (catalogue_all v.surface empty v.history.updates).epoch =
+    let first : start.catalogue.epoch ≡ (served v).catalogue.epoch =
     ap (λ (c : Catalogue). c.epoch) before.stands.1 in
-    let last : now.catalogue.epoch
-    ≡ (catalogue_all v.surface empty (v.history.updates ++ updates_of list)).epoch =
+    let last : now.catalogue.epoch ≡ (served (later v (updates_of list))).catalogue.epoch =
     ap (λ (c : Catalogue). c.epoch) after.stands.1 in
-    omega (
-      arith,
-      first,
-      last,
-      all_append v.surface empty v.history.updates (updates_of list),
-      reaches.each,
-    )
+    omega (arith, first, last, epoch_later v (updates_of list), reaches.each)
 
--- ---- updates and histories, one after the other
+-- ---- updates, one after the other
 
 updates-push : (list : List (List ℕ)) (spelling : List ℕ)
     → updates_of (list ++ spelling ∷ []) ≡ updates_of list ++ updates_in spelling
@@ -88,12 +72,6 @@ updates-push [] spelling = append-nil (updates_in spelling)
 updates-push (first ∷ list) spelling =
     ap (λ us. updates_in first ++ us) (updates-push list spelling)
     ∙ sym (append_assoc (updates_in first) (updates_of list) (updates_in spelling))
-
-later-append : (v : Service) (updates more : List SealedUpdate)
-    → later (later v updates) more ≡ later v (updates ++ more)
-later-append v updates more =
-    ap (λ (us : List SealedUpdate). record v { history = record v.history { updates = us } })
-    (append_assoc v.history.updates updates more)
 
 -- ---- replies
 
@@ -156,7 +134,7 @@ module _ {D : Type 0} (tells : DiskTells D) (old new : Opened D) (request reply 
     told_next is =
         ap (λ (s : Serving). is_some s.stored) is.frame.next
         ∙ mapped_alike
-        (λ (all : List (List ℕ)). stored_all old.keys.surface old.catalogue all is.frame.made)
+        (λ (all : List (List ℕ)). stored_followed old.keys.surface old.catalogue all is.frame.made)
         old.stored
         ∙ reaches.told
 

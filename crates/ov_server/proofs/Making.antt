@@ -8,12 +8,14 @@ use Rattle.ov_base.specs.declared.memory.Memory.{Memory}
 use Rattle.ov_base.specs.declared.refusal.Refusal.{Refusal}
 use Rattle.ov_base.proofs.Tests.{gt_of_false}
 use Rattle.ov_fields.proofs.NameLaws.{name_reads}
+use Rattle.ov_record.specs.Briefs.{brief}
 use Rattle.ov_record.specs.Reading.{update_of}
 use Rattle.ov_record.specs.Spelling.{HasForm}
 use Rattle.ov_record.specs.Updates.{SealedUpdate, SealedEnrol, SealedCreate, SealedGrant, SealedRevoke}
-use Rattle.ov_record.specs.Updates.{SealedRemove}
+use Rattle.ov_record.specs.Updates.{SealedRemove, SealedReplace}
 use Rattle.ov_record.specs.Forms.{second_form}
-use Rattle.ov_history.specs.Briefs.{brief, outer, part_place}
+use Rattle.ov_history.specs.Briefs.{Brief, BriefCreate, BriefEnrol, BriefGrant, BriefRemove}
+use Rattle.ov_history.specs.Briefs.{BriefReplace, BriefRevoke, outer, part_place}
 use Rattle.ov_history.specs.Catalogue.{Catalogue, matrix_shown, outline}
 use Rattle.ov_history.specs.Refusals.{tests_of}
 use Rattle.ov_history.proofs.SoundTests.{NoneApplies, none_applies}
@@ -27,7 +29,7 @@ use Rattle.ov_wire.specs.declared.answer.Answer.{Answer}
 use Rattle.ov_wire.specs.declared.answer.Answer.TheVariants as answers
 use Rattle.ov_wire.specs.AnswerBytes.{answer_bytes}
 use Rattle.ov_wire.specs.RequestReading.{request_of}
-use Rattle.ov_protocol.specs.Serving.{Serving}
+use Rattle.ov_protocol.specs.Serving.{Serving, brief_in}
 use Rattle.ov_protocol.specs.Updating.{AnswersSealed, AnswersSpelled, spelled_by}
 use Rattle.ov_protocol.specs.Replies.{AnswersRead, made_of, updates_asked}
 use Rattle.ov_peer.specs.Spellings.{IsUpdate}
@@ -49,6 +51,8 @@ part_low (SealedCreate name list tokens tag text) form =
 part_low (SealedGrant user file token) form = omega arith
 part_low (SealedRevoke user file) form = omega arith
 part_low (SealedRemove file) form = omega arith
+part_low (SealedReplace name tokens tag text) form =
+    omega (arith, name_reads.short name form.1)
 
 -- ---- what is answered to an update that is tagged rightly and made at the epoch
 
@@ -80,24 +84,26 @@ module _ (s : Serving) (request : List ℕ) (u : SealedUpdate) (has : HasUpdate 
   is_update = (s.catalogue.epoch, has.spelling, has.tag, has.is)
 
 -- an update that isn't refused isn't made at the last epoch
-not_spent : (c : Catalogue) (w : SealedUpdate) → refusal_shown c (brief w) ≡ None
-    → c.epoch < LAST_EPOCH
-not_spent c w none =
-    by_update w
-    (none_applies (tests_of (matrix_shown c) (outline c) c.epoch (outer (brief w))) none) where
-      by_update : (w : SealedUpdate)
-          → NoneApplies (tests_of (matrix_shown c) (outline c) c.epoch (outer (brief w)))
+not_spent : (c : Catalogue) (b : Brief) → refusal_shown c b ≡ None → c.epoch < LAST_EPOCH
+not_spent c b none =
+    by_update b
+    (none_applies (tests_of (matrix_shown c) (outline c) c.epoch (outer b)) none) where
+      by_update : (b : Brief)
+          → NoneApplies (tests_of (matrix_shown c) (outline c) c.epoch (outer b))
           → c.epoch < LAST_EPOCH
-      by_update (SealedEnrol name) (taken, (full, (room, (spent, end)))) =
+      by_update (BriefEnrol name) (taken, (full, (room, (spent, end)))) =
           gt_of_false LAST_EPOCH c.epoch spent
-      by_update (SealedCreate name list tokens tag text)
+      by_update (BriefCreate name list tokens tag size)
           (taken, (outside, (files, (bytes, (room, (spent, end)))))) =
           gt_of_false LAST_EPOCH c.epoch spent
-      by_update (SealedGrant user file token) (no_user, (no_file, (listed, (room, (spent, end))))) =
+      by_update (BriefGrant user file token) (no_user, (no_file, (listed, (room, (spent, end))))) =
           gt_of_false LAST_EPOCH c.epoch spent
-      by_update (SealedRevoke user file) (no_user, (no_file, (listed, (room, (spent, end))))) =
+      by_update (BriefRevoke user file) (no_user, (no_file, (listed, (room, (spent, end))))) =
           gt_of_false LAST_EPOCH c.epoch spent
-      by_update (SealedRemove file) (no_file, (room, (spent, end))) =
+      by_update (BriefRemove file) (no_file, (room, (spent, end))) =
+          gt_of_false LAST_EPOCH c.epoch spent
+      by_update (BriefReplace file tokens tag size)
+          (no_file, (files, (bytes, (room, (spent, end))))) =
           gt_of_false LAST_EPOCH c.epoch spent
 
 -- why an update wasn't made
@@ -138,7 +144,8 @@ module _ {D : Type 0} (tells : DiskTells D)
     is_answered : IsAnswered tells old new request reply
     is_answered =
         let after : ℕ = old.catalogue.epoch + 1 in
-        let room : old.catalogue.epoch < LAST_EPOCH = not_spent old.catalogue u made_it.0.0 in
+        let room : old.catalogue.epoch < LAST_EPOCH =
+        not_spent old.catalogue (brief_in old.catalogue u) made_it.0.0 in
         let told : epoch ≡ after = omega (arith, epoch_is, room) in record {
           frame = record {
             made = u ∷ [];

@@ -43,6 +43,12 @@ pub puts_same : (answer : Result Answer Memory) (reply other : List ℕ)
 puts_same answer reply other result last puts same is =
     subst (λ l. Puts answer l last) (sym same) (subst (Puts answer reply) (sym is) puts)
 
+-- one answer that was put, or nothing where memory was refused
+puts_one : (a : Answer) (reply : List ℕ) (result : Result (Unit {0}) Memory)
+    → OnOk result (reply ≡ answer_bytes a) → OnErr result (reply ≡ []) → Puts (Ok a) reply result
+puts_one a reply (Ok done) put none = ((a, refl, put), none)
+puts_one a reply (Err why) put none = (put, none)
+
 -- nothing is made by this answer, and the request is no update but where the disk never failed
 abbrev pub MakesNone : {D : Type 0} → Opened D → List ℕ → Result Request ℕ → Answer → Type 0
 MakesNone s request read a =
@@ -198,3 +204,17 @@ module _ {D : Type 0} (tells : DiskTells D) where
       call = still_call s (IsNewFault s request reply)
           (λ fault. let wrong : [] ≡ answer_bytes answers.DeviceFault = sym err ∙ fault.0 in cc);
     }
+
+  -- all that is said of a call that puts one answer to a request that is no Update, and leaves the
+  -- server as it was
+  pub answers_one : (s new : Opened D) (request : List ℕ) (asked : Request)
+      → request_of request ≡ Ok asked
+      → ((u : SealedUpdate) → HasUpdate (serving_of s) request u → ⊥)
+      → (a : Answer) (reply : List ℕ) (result : Result (Unit {0}) Memory)
+      → AnswersRead (serving_of s) (Ok asked) a → HasAnswerForm a → made_of (Ok asked) a ≡ []
+      → new ≡ s → OnOk result (reply ≡ answer_bytes a) → OnErr result (reply ≡ [])
+      → AsksServer tells s new request reply result
+  answers_one s new request asked is other a reply result fits form none same put err =
+      subst (λ (o : Opened D). AsksServer tells s o request reply result) (sym same)
+      (answers_still s request (Ok asked) is (Ok a) reply result fits form
+      (none, λ u has. absurd (other u has)) (puts_one a reply result put err))

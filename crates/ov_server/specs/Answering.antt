@@ -3,7 +3,6 @@ use Rattle.std.specs.Prelude.{◌≡◌, ◌⊎◌, ℕ, List, [], true, false}
 use Rattle.std.specs.Prelude.{Result, OnErr, OnOk}
 use Rattle.ov_base.specs.declared.memory.Memory.{Memory}
 use Rattle.ov_record.specs.Updates.{SealedUpdate}
-use Rattle.ov_history.specs.Briefs.{brief}
 use Rattle.ov_history.specs.Sealed.{SealedHistory}
 use Rattle.ov_state.specs.Plans.{IsTaken}
 use Rattle.ov_disk.specs.Disk.{Image, StaysTold, Told}
@@ -13,7 +12,7 @@ use Rattle.ov_images.specs.Images.{Keys, Keeps}
 use Rattle.ov_wire.specs.declared.answer.Answer.TheVariants.{DeviceFault}
 use Rattle.ov_wire.specs.AnswerBytes.{answer_bytes}
 use Rattle.ov_wire.specs.RequestReading.{request_of}
-use Rattle.ov_protocol.specs.Serving.{Serving, followed}
+use Rattle.ov_protocol.specs.Serving.{Serving, brief_in, followed}
 use Rattle.ov_protocol.specs.Replies.{AnswersFrame, updates_asked}
 use Rattle.ov_peer.specs.Disks.{AsksBytes, HasUpdate}
 use Rattle.ov_peer.specs.Spellings.{IsUpdate}
@@ -55,7 +54,7 @@ pub record IsAnswered {D : Type 0} (tells : DiskTells D) (old new : Opened D)
 pub record FailsUpdate {D : Type 0} (old new : Opened D) (request : List ℕ) : Type 0 where
   pub update : SealedUpdate
   pub has : HasUpdate (serving_of old) request update
-  pub taken : old.failed ≡ false → IsTaken old.catalogue (brief update)
+  pub taken : old.failed ≡ false → IsTaken old.catalogue (brief_in old.catalogue update)
   pub failed : new.failed ≡ true
 
 -- The answer is that the disk failed, and what the server shows stays. It comes only to what needs

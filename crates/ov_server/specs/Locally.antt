@@ -3,8 +3,8 @@ use Rattle.std.specs.Prelude.{◌≡◌, ◌⊎◌, ℕ, List, [], Option, Some,
 use Rattle.std.proofs.Common.{inl, inr, refl, ◌∙◌, ap, subst, sym, true≢false}
 use Rattle.ov_record.specs.Updates.{SealedUpdate}
 use Rattle.ov_disk.specs.Tells.{DiskTells}
-use Rattle.ov_history.specs.Sealed.{stored_all}
-use Rattle.ov_protocol.specs.Serving.{IsService, Service, Serving, later, served, serving_after, told_as}
+use Rattle.ov_protocol.specs.Serving.{IsService, Service, Serving, later, served, serving_after}
+use Rattle.ov_protocol.specs.Serving.{stored_followed, told_as}
 use Rattle.ov_protocol.specs.Replies.{Replies}
 use Rattle.ov_protocol.proofs.GoingOn.{servers_go_on, services_are_served}
 use Rattle.ov_protocol.proofs.Leaving.{later-nil}
@@ -57,8 +57,8 @@ answered tells p q request reply v is (serves, told) =
       (
         servers_go_on (serving_of p) (serving_of q) v request reply is.frame serves,
         subst (λ (stored : Option (List (List ℕ))). IsSome stored) (sym bytes)
-            (told_still (λ all. stored_all p.keys.surface p.catalogue all is.frame.made) p.stored
-            told),
+            (told_still (λ all. stored_followed p.keys.surface p.catalogue all is.frame.made)
+            p.stored told),
       ),
     )
 

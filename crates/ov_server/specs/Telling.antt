@@ -5,6 +5,8 @@ use Rattle.ov_base.specs.declared.limits.TheConstants.{MAX_USERS}
 use Rattle.ov_tokens.specs.declared.chain.Step.{Step}
 use Rattle.ov_tokens.specs.declared.edge.Edge.{Edge}
 use Rattle.ov_fields.specs.Spelling.{IsToken}
+use Rattle.ov_graph.specs.declared.cover.Cover.{Cover}
+use Rattle.ov_graph.specs.Contents.{plan_of}
 use Rattle.ov_history.specs.Catalogue.{Nodes}
 use Rattle.ov_history.specs.Sound.{IsLayer}
 use Rattle.ov_state.specs.declared.asking.Asked.{Asked}
@@ -37,6 +39,13 @@ plan_answer epoch planned = answers.Plan (record {
   fresh = planned.cover.fresh;
   from = planned.cover.from;
 })
+
+-- where the answer tells a plan, this is the cover of its list in a base layer with these sets
+abbrev pub PlansIn : List ℕ → Answer → Type 0
+PlansIn sets (answers.Plan plan) =
+    ◌≡◌ {A = Cover} (record { node = plan.node; fresh = plan.fresh; from = plan.from })
+    (plan_of sets plan.list)
+PlansIn sets answer = Unit {0}
 
 -- the answer that gives these chains
 abbrev pub chained_answer : Chained → Answer

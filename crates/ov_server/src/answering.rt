@@ -55,6 +55,7 @@ impl<D: Disk> Server<D> {
                 length,
                 names,
             } => self.cover_and_remember(&file, length, &names, reply),
+            Request::Replan { file, length } => self.replan_and_remember(&file, length, reply),
             Request::Update {
                 epoch,
                 spelling,

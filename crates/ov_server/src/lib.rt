@@ -2,13 +2,14 @@
 //!
 //! A [`Server`] is a store that outlasts stops (`ov_store`), and the surface master under which it
 //! is kept. [`Server::answer`] answers a frame in place of what was in the reply, and is the one
-//! call that changes what is shown: it makes the update that it accepts. Of a Cover it keeps the
-//! plan that it told, which no contract shows. A [`LocalPeer`] is a server in this process as a
-//! peer, which tells which history it serves where its disk tells its bytes; a server is an
+//! call that changes what is shown: it makes the update that it accepts. Of a Cover or a Replan it
+//! keeps the plan that it told, which no contract shows. A [`LocalPeer`] is a server in this process
+//! as a peer, which tells which history it serves where its disk tells its bytes; a server is an
 //! [`ov_peer::Answerer`] too.
 //!
 //! ```text
-//! frame ── read_request ──► Hello, Ask, Cover, Chain, Page, List   by the catalogue alone
+//! frame ── read_request ──► Hello, Ask, Cover, Replan,
+//!                       │   Chain, Page, List   by the catalogue alone
 //!                       ├─► Chunk    NoFile, Moved, DeviceFault, Bytes
 //!                       └─► Update   the owner's tag, the epoch, the store: a disk that failed
 //!                                    before, refusal, plan, disk

@@ -84,7 +84,7 @@ fn expect_rows<P: Peer>(rt: &impl Abort, alloc: Global, peer: &mut P) -> Result<
 
 /// Makes sure of the epoch of the store behind a peer, and of its check value. The disk is given back.
 fn expect_end<D: Disk>(rt: &impl Abort, peer: LocalPeer<D>) -> D {
-    assert_eq!(rt; peer.server().store().state().epoch(), 10);
+    assert_eq!(rt; peer.server().store().state().epoch(), 13);
     let store = peer.into_server().into_store();
     assert_eq!(rt; store.base_check(), BASE_CHECK);
     store.close()

@@ -9,29 +9,23 @@ use Rattle.ov_history.proofs.SoundTests.{NoneApplies, none_applies}
 use Rattle.ov_base.specs.declared.refusal.Refusal.{Refusal}
 use Rattle.ov_base.specs.declared.refusal.Refusal.TheVariants.{NodesFull, Spent}
 use Rattle.ov_tokens.specs.declared.token.Token.{Token}
-use Rattle.ov_graph.specs.declared.cover.GraphRefusal.{GraphRefusal}
-use Rattle.ov_graph.specs.declared.cover.GraphRefusal.TheVariants.{NodesFull as GraphFull, Memory as GraphMemory}
 use Rattle.ov_base_layer.specs.Holders.{accesses_of, holders_in, with_accesses}
 use Rattle.ov_surface.specs.Wanted.{wanted_surface}
 use Rattle.ov_history.specs.Briefs.{Brief, BriefCreate}
 use Rattle.ov_history.specs.History.{Created}
-use Rattle.ov_history.specs.Layers.{Layers, Place, grown, node_for, with_set, layers_after, lists_of, wants_at, wants_of, with_wants, holders, surface_at, same_surface}
+use Rattle.ov_history.specs.Layers.{Layers, Place, grown, with_set, layers_after, lists_of, wants_at, wants_of, with_wants, holders, surface_at, same_surface}
 use Rattle.ov_history.specs.Lists.{everyone}
 use Rattle.ov_history.specs.Refusals.{first_of_tests, is_past_nodes, is_last}
-use Rattle.ov_history.specs.Catalogue.{Nodes, Filed, Catalogue, outline, places, grown_catalogue, catalogue_after, refiled, settled_files, with_surfaces}
+use Rattle.ov_history.specs.Catalogue.{Nodes, Filed, Catalogue, new_file, outline, places, grown_catalogue, catalogue_after, refiled, settled_files, with_surfaces}
 use Rattle.ov_history.specs.Rewrites.{files_after, rewrites_from, rewrites_of}
 use Rattle.ov_history.specs.Sealed.{refusal_shown}
 use Rattle.ov_history.proofs.Listing.{length-lists_of}
 use Rattle.ov_history.proofs.Outlining.{with_node-sets, with_surfaces-sets, length-places, places-append}
 use Rattle.ov_history.proofs.PlanLaws.{with_set-keeps}
-use Rattle.ov_state.specs.Asking.{IsRefusedFor}
 use Rattle.ov_state.specs.Contents.{IsWell}
-use Rattle.ov_state.specs.Faults.{fault_of, chain_fault_of}
-use Rattle.ov_state.specs.NewFiles.{tests_before, want_then, surface_then, is_past_then, HasNoSite}
-use Rattle.ov_state.specs.Plans.{IsFaultOf}
-use Rattle.ov_state.specs.declared.fault.PrepareFault.{PrepareFault}
-use Rattle.ov_state.specs.declared.fault.PrepareFault.TheVariants.{Refused, BadPlan, Memory}
-use Rattle.ov_state.proofs.NewTests.{first_here, first_later, first_among, first_after}
+use Rattle.ov_state.specs.NewFiles.{tests_before, want_then, surface_then, is_past_then, room_then}
+use Rattle.ov_state.proofs.FileRoom.{room_left, room_spent}
+use Rattle.ov_state.proofs.NewTests.{first_among, first_after}
 use Rattle.ov_state.proofs.SettledMore.{rewrites-appended}
 use Rattle.ov_state.proofs.Staying.{AreKept, kept-with_wants, surfaces-kept, wants-kept, files-kept}
 use Rattle.ov_state.proofs.StayingFiles.{HasHolders, files_kept, files_below, wants-stay, wants-append}
@@ -49,7 +43,7 @@ module _ (limit : ℕ) (master : List ℕ) (s : Catalogue) (name : List ℕ) (li
 
   -- the file before it has its surface
   abbrev new : Filed
-  new = record { name = name; node = node_for s.base.sets list; surface = None; generation = s.epoch + 1; tag = tag; length = size }
+  new = new_file s name list tag size
 
   abbrev lists : List (Option ℕ)
   lists = lists_of (outline s)
@@ -163,11 +157,11 @@ module _ (limit : ℕ) (master : List ℕ) (s : Catalogue) (name : List ℕ) (li
         z : Layers
         z = grown (outline s) (Created name list size)
 
-  past_nodes : is_past_nodes (layers_after (outline s) (Created name list size)) ≡ is_past_then s list
+  pub past_nodes : is_past_nodes (layers_after (outline s) (Created name list size)) ≡ is_past_then s list
   past_nodes =
       ap (λ sets. nat_lt MAX_LAYER_NODES (length (with_set s.base.sets list)) || nat_lt MAX_LAYER_NODES (length sets)) surface_sets
 
-  pub refusal_create : refusal_shown s update
+  refusal_create : refusal_shown s update
       ≡ first_of_tests (tests_before s name list size ++ (NodesFull, is_past_then s list) ∷ (Spent, is_last s.epoch) ∷ [])
   refusal_create =
       ap (λ b. first_of_tests (tests_before s name list size ++ (NodesFull, b) ∷ (Spent, is_last s.epoch) ∷ [])) past_nodes
@@ -177,26 +171,16 @@ module _ (limit : ℕ) (master : List ℕ) (s : Catalogue) (name : List ℕ) (li
   refused_before why is = refusal_create ∙ first_among (tests_before s name list size) _ why is
 
   module _ (passed : first_of_tests (tests_before s name list size) ≡ None) where
-    then_room : refusal_shown s update ≡ first_of_tests ((NodesFull, is_past_then s list) ∷ (Spent, is_last s.epoch) ∷ [])
-    then_room = refusal_create ∙ first_after (tests_before s name list size) _ passed
-
-    -- a creation is refused, since there is no place for the file
-    pub refused_site : (words : ℕ) (fault : PrepareFault) → HasNoSite s list fault → IsFaultOf words s update fault
-    refused_site words (Refused why) (is, past) = then_room ∙ first_here NodesFull _ _ past ∙ ap Some (sym is)
-    refused_site words (BadPlan place) none = absurd none
-    refused_site words Memory none = tt
-
-    -- a question about a creation is refused too, since there is no place for the file
-    pub asked_site : (why : GraphRefusal) → HasNoSite s list (fault_of why) → IsRefusedFor (refusal_shown s update) (chain_fault_of why)
-    asked_site GraphFull none = refused_site 0 (Refused NodesFull) none
-    asked_site GraphMemory none = tt
+    -- a creation is refused then only where there is no room for the file
+    pub create-room : refusal_shown s update ≡ room_then s list
+    create-room = refusal_create ∙ first_after (tests_before s name list size) _ passed
 
     module _ (few : is_past_then s list ≡ false) where
       pub refused_spent : is_last s.epoch ≡ true → refusal_shown s update ≡ Some Spent
-      refused_spent spent = then_room ∙ first_later NodesFull _ _ few ∙ first_here Spent _ _ spent
+      refused_spent spent = create-room ∙ room_spent s list few spent
 
       pub not_refused : is_last s.epoch ≡ false → refusal_shown s update ≡ None
-      not_refused left = then_room ∙ first_later NodesFull _ _ few ∙ first_later Spent _ _ left
+      not_refused left = create-room ∙ room_left s list few left
 
 -- ---- what the tests leave
 

@@ -142,38 +142,50 @@ module _ {W : ℕ} (limit : ℕ) (master : List ℕ) (s : Catalogue) (name : Lis
     few = few (plan_of s.base.sets list).fresh refl (ap (λ (cover : Cover). cover.fresh) (sym place.cover) ∙ e) place.few;
   }
 
+  pub base_fits : IsBelow (length s.users) list → length tokens ≡ length (plan_of s.base.sets list).from → IsNewNodeIf s.base.sets c.base
+  base_fits below parts = subst (λ o. IsNewNodeIf s.base.sets o) (sym is.base) (fresh_node site.cover.fresh refl below parts)
+
+  pub surface_fits : AreNewNodes s.surface.sets c.surface.items
+  surface_fits = subst (λ fs. AreNewNodes s.surface.sets fs) (sym is.surface) place.planned
+
+  last_file : length s.files < length (files_grown s.files c.growth)
+  last_file =
+      let grown : length (files_grown s.files c.growth) ≡ length s.files + 1 =
+      ap (λ (g : Growth). length (files_grown s.files g)) is.growth ∙ length-append s.files (Some (record (filed site.cover) { surface = None }) ∷ []) in
+      omega (arith, grown)
+
+  pub rewrites_fit : AreOfFiles (length (files_grown s.files c.growth)) c.rewrites.items
+  rewrites_fit = subst (λ (rs : List Rewrite). AreOfFiles (length (files_grown s.files c.growth)) rs) (sym is.rewrites) (last_file, tt)
+
+  -- ---- what it makes
+
+  pub created_by : applied s c ≡ catalogue_after master s update
+  created_by = applied_is ∙ sym (created_is limit master s name list tokens tag size well site.to place.to)
+
+  pub size_is : c.size ≡ byte_sum (matrix_shown (applied s c)).files
+  size_is =
+      omega (
+        arith,
+        is.size,
+        byte_sum-shown s,
+        byte_sum-shown (applied s c),
+        ap (λ (t : Catalogue). bytes_in t.files) applied_is,
+        bytes_in-append s.files (filed_then limit master s name list tokens tag size well site.to),
+      )
+
   -- a creation that isn't refused is made by its change
   pub creation : is_among name (filed_names s.files) ≡ false → refusal_shown s update ≡ None → length tokens ≡ length (plan_of s.base.sets list).from
       → size ≤ MAX_FILE_BYTES → IsChange limit master s update c
   creation absent refused parts fits = record {
     taken = (refused, parts);
-    made = made;
+    made = created_by;
     rewrites = ap plain_rewrites is.rewrites ∙ sym (rewrites_created limit master s name list tokens tag size well site.to place.to);
     suits = record {
       growth = subst (λ (g : Growth). Fits limit s.users s.files s.base.sets s.grants g) (sym is.growth) absent;
-      base = subst (λ o. IsNewNodeIf s.base.sets o) (sym is.base)
-          (fresh_node site.cover.fresh refl (accepted s update refused).0 parts);
-      surface = subst (λ fs. AreNewNodes s.surface.sets fs) (sym is.surface) place.planned;
-      rewrites = subst (λ (rs : List Rewrite). AreOfFiles (length (files_grown s.files c.growth)) rs) (sym is.rewrites) (last_file, tt);
-      well = subst (λ (t : Catalogue). IsWell limit t) (sym made) (well_after limit master s update well refused parts fits);
-      size = is.size ∙ size_is;
+      base = base_fits (accepted s update refused).0 parts;
+      surface = surface_fits;
+      rewrites = rewrites_fit;
+      well = subst (λ (t : Catalogue). IsWell limit t) (sym created_by) (well_after limit master s update well refused parts fits);
+      size = size_is;
     };
-  } where
-    made : applied s c ≡ catalogue_after master s update
-    made = applied_is ∙ sym (created_is limit master s name list tokens tag size well site.to place.to)
-
-    last_file : length s.files < length (files_grown s.files c.growth)
-    last_file =
-        let grown : length (files_grown s.files c.growth) ≡ length s.files + 1 =
-        ap (λ (g : Growth). length (files_grown s.files g)) is.growth ∙ length-append s.files (Some (record (filed site.cover) { surface = None }) ∷ []) in
-        omega (arith, grown)
-
-    size_is : byte_sum (matrix_shown s).files + size ≡ byte_sum (matrix_shown (applied s c)).files
-    size_is =
-        omega (
-          arith,
-          byte_sum-shown s,
-          byte_sum-shown (applied s c),
-          ap (λ (t : Catalogue). bytes_in t.files) applied_is,
-          bytes_in-append s.files (filed_then limit master s name list tokens tag size well site.to),
-        )
+  }

@@ -145,7 +145,7 @@ numbered-alike number (Some f ∷ files) change (suc place) same =
     ap (λ (rest : List (List ℕ × ℕ)). (f.name, number) ∷ rest) (numbered-alike (number + 1) files change place same)
 
 -- no name after the first is the same, where all are distinct
-apart : (name : List ℕ) (number : ℕ) (files : List (Option Filed)) (place : ℕ) (f : Filed) → living_at files place ≡ Some f
+pub apart : (name : List ℕ) (number : ℕ) (files : List (Option Filed)) (place : ℕ) (f : Filed) → living_at files place ≡ Some f
     → AllByRecursion (λ other. bytes_eq name other ≡ false) (keys_of (numbered number files)) → bytes_eq name f.name ≡ false
 apart name number [] place f is all = absurd (cc)
 apart name number (None ∷ files) zero f is all = absurd (cc)
@@ -156,7 +156,7 @@ apart name number (None ∷ files) (suc place) f is all = apart name (number + 1
 apart name number (Some first ∷ files) (suc place) f is all = apart name (number + 1) files place f is all.1
 
 -- two names differ whichever comes first
-apart-back : (one other : List ℕ) (b : Bool) → bytes_eq other one ≡ b → bytes_eq one other ≡ false → b ≡ false
+pub apart-back : (one other : List ℕ) (b : Bool) → bytes_eq other one ≡ b → bytes_eq one other ≡ false → b ≡ false
 apart-back one other false is not = refl
 apart-back one other true is not =
     absurd (true≢false (sym ((bytes_eq-Decides one other).1 (sym ((bytes_eq-Decides other one).0 is))) ∙ not))

@@ -5,6 +5,7 @@ use Rattle.std.proofs.lemmas.Bool.{false≢true}
 use mathlib.Core.Bool.{beq}
 use Rattle.ov_base.specs.Sets.{has}
 use Rattle.ov_tokens.specs.declared.token.Token.{Token}
+use Rattle.ov_record.specs.Briefs.{BriefGrant as SpelledGrant}
 use Rattle.ov_history.specs.Asking.{refusal_at}
 use Rattle.ov_history.specs.Briefs.{Brief, BriefGrant}
 use Rattle.ov_history.specs.History.{Granted}
@@ -62,7 +63,7 @@ module _ {W : ℕ} (limit : ℕ) (s : Catalogue) (user file : ℕ) (token : Opti
   update = BriefGrant user file token
 
   -- the access token is there although it isn't wanted, or the other way round
-  pub grant-parts : is_some token ≡ has r.before user → IsFaultOf W s update (BadPlan 9)
+  pub grant-parts : is_some token ≡ has r.before user → IsFaultOf W s (SpelledGrant user file token) (BadPlan 9)
   grant-parts same = (accepted, not_opposite (is_some token) _ (same ∙ sym (held_is s user file r decided)), refl)
 
   fits : (t : Option Token) → is_some t ≡ not (has (holders (outline s) r.node) user) → user < limit

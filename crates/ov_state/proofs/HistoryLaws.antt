@@ -2,6 +2,7 @@
 use Rattle.ov_history.specs.Places.{living_at}
 use Rattle.std.proofs.Common.{◌≡◌, ℕ, List, sym, ◌∙◌, ap, subst}
 use Rattle.std.specs.Prelude.{Result, Ok, Err}
+use Rattle.ov_record.specs.Briefs.{Brief as SpelledBrief}
 use Rattle.ov_history.specs.Briefs.{Brief}
 use Rattle.ov_base.specs.Sets.{has}
 use Rattle.ov_history.specs.Layers.{Layers, list_at}
@@ -14,7 +15,7 @@ use Rattle.ov_history.proofs.ShownLists.{listed-shown}
 use Rattle.ov_history.specs.Sound.{IsSound}
 use Rattle.ov_history.proofs.SoundHistories.{shown_is_sound}
 use Rattle.ov_state.specs.Changes.{applied}
-use Rattle.ov_state.specs.Plans.{Prepares}
+use Rattle.ov_state.specs.Plans.{numbered_at, Prepares}
 use Rattle.ov_state.specs.Standing.{CatalogueGoesOn, ClosuresAreMatrix, ClosuresFollow, IsAnsweredAsItsHistory}
 use Rattle.ov_state.specs.declared.change.Change.{Change}
 use Rattle.ov_state.specs.declared.fault.PrepareFault.{PrepareFault}
@@ -38,15 +39,18 @@ closures_follow {W} limit old c new is master g u user file f stands change =
     closures_are_matrix new master (with_sealed g u) user file f (goes_on limit old c new is master g u stands change)
 
 -- what is answered is what each history says for which the catalogue stands
-pub answered_by : {W : ℕ} (limit : ℕ) (by_master : List ℕ) (s : Catalogue) (b : Brief) (r : Result (Change W) PrepareFault)
-    → Prepares limit by_master s b r → IsAnsweredAsItsHistory s b r
-answered_by {W} limit by_master s b (Ok c) prepared = λ master g stands. (
-  sym (refusals_shown master s g b stands) ∙ prepared.taken.0,
-  subst (λ (y : Layers). HasParts y b) (history_is_shown master s g stands).layers prepared.taken.1,
-)
-answered_by {W} limit by_master s b (Err (Refused why)) prepared = λ master g stands. sym (refusals_shown master s g b stands) ∙ prepared
-answered_by {W} limit by_master s b (Err (BadPlan place)) prepared = λ master g stands. (
-  sym (refusals_shown master s g b stands) ∙ prepared.0,
-  subst (λ (y : Layers). HasParts y b → ⊥) (history_is_shown master s g stands).layers prepared.1,
-)
+pub answered_by : {W : ℕ} (limit : ℕ) (by_master : List ℕ) (s : Catalogue) (b : SpelledBrief) (r : Result (Change W) PrepareFault)
+    → Prepares limit by_master s b r → IsAnsweredAsItsHistory s (numbered_at s b) r
+answered_by {W} limit by_master s b (Ok c) prepared = λ master g stands.
+    let u : Brief = numbered_at s b in (
+      sym (refusals_shown master s g u stands) ∙ prepared.taken.0,
+      subst (λ (y : Layers). HasParts y u) (history_is_shown master s g stands).layers prepared.taken.1,
+    )
+answered_by {W} limit by_master s b (Err (Refused why)) prepared = λ master g stands.
+    sym (refusals_shown master s g (numbered_at s b) stands) ∙ prepared
+answered_by {W} limit by_master s b (Err (BadPlan place)) prepared = λ master g stands.
+    let u : Brief = numbered_at s b in (
+      sym (refusals_shown master s g u stands) ∙ prepared.0,
+      subst (λ (y : Layers). HasParts y u → ⊥) (history_is_shown master s g stands).layers prepared.1,
+    )
 answered_by {W} limit by_master s b (Err Memory) prepared = λ master g stands. tt

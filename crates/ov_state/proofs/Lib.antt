@@ -11,9 +11,13 @@ pub mod StayingFiles
 pub mod NewTests
 pub mod NewPlaces
 pub mod Enrolling
+pub mod FileRoom
 pub mod Creating
 pub mod CreationChange
 pub mod Removing
+pub mod ListsLeft
+pub mod Replacing
+pub mod ReplacementChange
 pub mod Sites
 pub mod ChainLaws
 pub mod QueryLaws
@@ -22,6 +26,7 @@ pub mod AnswerLaws
 pub mod Readers
 pub mod AccessCounts
 pub mod FilesByNumber
+pub mod NamesLeft
 pub mod FilesByNode
 pub mod StayingNodes
 pub mod PlannedNodes

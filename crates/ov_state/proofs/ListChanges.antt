@@ -18,9 +18,9 @@ use Rattle.ov_state.specs.declared.relisting.Relisting.{Relisting}
 use Rattle.ov_state.specs.declared.rewrites.Rewrites.{Rewrites}
 use Rattle.ov_state.specs.Contents.{IsWell}
 use Rattle.ov_state.specs.Changes.{applied, all_rewritten, files_grown, AreOfFiles, Fits}
-use Rattle.ov_state.specs.Plans.{IsChange, IsFitting}
+use Rattle.ov_state.specs.Plans.{IsChange}
 use Rattle.ov_state.specs.Relistings.{access_of, change_with, nodes_planned, wants_after, AreSettled, IsDecided}
-use Rattle.ov_state.proofs.WellAfter.{well_after}
+use Rattle.ov_state.proofs.WellAfter.{well_after, HasFileSize}
 use Rattle.ov_state.proofs.WellFiles.{bytes_in, byte_sum-shown, bytes_in-settled}
 
 -- the catalogue at the next epoch, with these access tokens
@@ -50,7 +50,7 @@ module _ {W : ℕ} (master : List ℕ) (s : Catalogue) (user node : ℕ) (plan :
   -- an update that adds no more than an access token
   pub list-change : (limit : ℕ) (u : Brief) (token : Option Token)
       → grown_catalogue s u ≡ at_next s (granted s.grants user node token)
-      → refusal_shown s u ≡ None → HasParts (outline s) u → IsFitting u → IsWell limit s
+      → refusal_shown s u ≡ None → HasParts (outline s) u → HasFileSize u → IsWell limit s
       → Fits limit s.users s.files s.base.sets s.grants (access_of user node token)
       → AreSettled master s (wants_of (outline (grown_catalogue s u)) (lists_after (lists_of (outline s)) (outer u))) plan
       → IsChange limit master s u (change_with (byte_sum (matrix_shown s).files) (access_of user node token) plan)

@@ -5,7 +5,7 @@ use Rattle.ov_base.specs.Sets.{bytes_of}
 use Rattle.ov_base.proofs.SetBytes.{length-bytes_of}
 use Rattle.ov_fields.specs.Spelling.{counted, name_field, optional, sized, token_field, u32}
 use Rattle.ov_record.specs.Forms.{set_bytes}
-use Rattle.ov_record.specs.Updates.{SealedCreate, SealedEnrol, SealedGrant, SealedRemove, SealedRevoke}
+use Rattle.ov_record.specs.Updates.{SealedCreate, SealedEnrol, SealedGrant, SealedRemove, SealedReplace, SealedRevoke}
 use Rattle.ov_state.specs.Places.{PartsStandAtTheirPlace}
 
 pub parts_stand_at_their_place : PartsStandAtTheirPlace
@@ -26,3 +26,9 @@ parts_stand_at_their_place form (SealedGrant user file token) = (
 parts_stand_at_their_place form (SealedRevoke user file) =
     ([], 4 ∷ u32 user ++ u32 file, refl, refl)
 parts_stand_at_their_place form (SealedRemove file) = ([], 6 ∷ u32 file, refl, refl)
+parts_stand_at_their_place form (SealedReplace name tokens tag bytes) = (
+  7 ∷ name_field name,
+  tag ++ sized bytes,
+  append_assoc (7 ∷ name_field name ++ counted token_field tokens) tag (sized bytes),
+  omega arith,
+)

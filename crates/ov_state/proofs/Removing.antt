@@ -1,5 +1,5 @@
 -- Removals: what they make, and why they are refused.
-use Rattle.std.proofs.Common.{◌≡◌, ℕ, zero, suc, ◌+◌, Bool, true, false, not, List, [], ◌∷◌, length, refl, sym, ◌∙◌, ap, subst, arith}
+use Rattle.std.proofs.Common.{◌≡◌, ℕ, zero, suc, ◌+◌, Bool, true, false, not, List, [], ◌∷◌, length, refl, sym, ◌∙◌, ap, subst}
 use Rattle.std.specs.Prelude.{◌||◌, is_some, nat_lt, option_map, Option, None}
 use Rattle.ov_base.specs.declared.refusal.Refusal.TheVariants.{NoFile, NodesFull, Spent}
 use Rattle.ov_base.specs.declared.limits.TheConstants.{MAX_LAYER_NODES}
@@ -10,7 +10,7 @@ use Rattle.ov_history.specs.Layers.{Layers, layers_after, lists_of, want_at, wan
 use Rattle.ov_history.specs.Lists.{byte_sum}
 use Rattle.ov_history.specs.Places.{change_at, gone, living_at}
 use Rattle.ov_history.specs.Refusals.{Test, first_of_tests, is_last, is_past_nodes}
-use Rattle.ov_history.specs.Catalogue.{Filed, Catalogue, catalogue_after, filed_at, grown_catalogue, matrix_shown, outline, place_of_file, places}
+use Rattle.ov_history.specs.Catalogue.{Filed, Catalogue, catalogue_after, grown_catalogue, matrix_shown, outline, place_of_file, places}
 use Rattle.ov_history.specs.Rewrites.{rewrites_from, rewrites_of}
 use Rattle.ov_history.specs.Sealed.{refusal_shown}
 use Rattle.ov_history.proofs.Outlining.{outline-grown}
@@ -24,13 +24,12 @@ use Rattle.ov_state.specs.declared.change.Change.{Change}
 use Rattle.ov_state.specs.declared.change.Growth.{Growth}
 use Rattle.ov_state.specs.declared.change.NewNode.{NewNode}
 use Rattle.ov_state.specs.declared.change.Rewrite.{Rewrite}
-use Rattle.ov_state.proofs.FilesByNumber.{filed-there}
 use Rattle.ov_state.proofs.QueryLaws.{file_here}
 use Rattle.ov_state.proofs.SettledMore.{rewrites-gone}
 use Rattle.ov_state.proofs.Staying.{AreKept, no_more, settled_stays}
 use Rattle.ov_state.proofs.StayingFiles.{files_below, files_kept, wants-stay}
 use Rattle.ov_state.proofs.WellAfter.{well_after}
-use Rattle.ov_state.proofs.WellFiles.{bytes_in, bytes_in-gone, byte_sum-shown}
+use Rattle.ov_state.proofs.WellFiles.{bytes_in, byte_sum-left, byte_sum-shown}
 
 -- ---- wanted sets without that of a file
 
@@ -157,11 +156,4 @@ module _ {W : ℕ} (limit : ℕ) (s : Catalogue) (file : ℕ) (c : Change W) (we
 
     size_is : c.size ≡ byte_sum (matrix_shown (applied s c)).files
     size_is =
-        omega (
-          arith,
-          is.size,
-          byte_sum-shown s,
-          byte_sum-shown (applied s c),
-          ap (λ (t : Catalogue). bytes_in t.files) applied_is,
-          bytes_in-gone s.files file (filed_at s file) (filed-there s file there),
-        )
+        is.size ∙ byte_sum-left s file ∙ ap (λ (t : Catalogue). bytes_in t.files) (sym applied_is) ∙ sym (byte_sum-shown (applied s c))

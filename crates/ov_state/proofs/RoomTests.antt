@@ -8,11 +8,11 @@ use Rattle.ov_graph.specs.declared.cover.GraphRefusal.TheVariants.{NodesFull as 
 use Rattle.ov_history.specs.Refusals.{first_of_tests, is_last}
 use Rattle.ov_state.specs.declared.fault.ChainFault.{ChainFault}
 use Rattle.ov_state.specs.declared.fault.ChainFault.TheVariants.{Refused, Memory}
-use Rattle.ov_history.specs.Briefs.{Brief}
+use Rattle.ov_record.specs.Briefs.{Brief as SpelledBrief}
 use Rattle.ov_history.specs.Catalogue.{Catalogue}
 use Rattle.ov_history.specs.Sealed.{refusal_shown}
 use Rattle.ov_state.specs.Asking.{IsRefusedFor}
-use Rattle.ov_state.specs.Plans.{IsFaultOf}
+use Rattle.ov_state.specs.Plans.{numbered_at, IsFaultOf}
 use Rattle.ov_state.specs.Faults.{chain_fault_of, prepare_fault_of}
 use Rattle.ov_state.specs.Relistings.{room_refusal, IsFull}
 use Rattle.ov_base.specs.declared.limits.TheConstants.{MAX_LAYER_NODES}
@@ -37,7 +37,7 @@ full-room sets epoch GraphFull many =
 full-room sets epoch GraphMemory full = tt
 
 -- an update is refused for what its question is refused for
-pub asked-fault : (words : ℕ) (s : Catalogue) (u : Brief) (why : Option Refusal) (fault : ChainFault) → refusal_shown s u ≡ why
+pub asked-fault : (words : ℕ) (s : Catalogue) (u : SpelledBrief) (why : Option Refusal) (fault : ChainFault) → refusal_shown s (numbered_at s u) ≡ why
     → IsRefusedFor why fault → IsFaultOf words s u (prepare_fault_of fault)
 asked-fault words s u why (Refused found) is refused = is ∙ refused
 asked-fault words s u why Memory is refused = tt

@@ -4,20 +4,19 @@ use Rattle.std.proofs.Common.{◌≡◌, ℕ, ◌+◌, ◌≤◌, ◌*◌, List,
 use Rattle.std.specs.Prelude.{Option, None, nat_le}
 use Rattle.std.proofs.lemmas.Bool.Decides.{nat_tests}
 use Rattle.ov_base.specs.declared.mode.Mode.{Mode}
-use Rattle.ov_history.specs.Briefs.{Brief, BriefEnrol, BriefCreate, BriefGrant, BriefRemove, BriefRevoke}
-use Rattle.ov_history.specs.Places.{gone}
+use Rattle.ov_history.specs.Briefs.{Brief, BriefEnrol, BriefCreate, BriefGrant, BriefRemove, BriefReplace, BriefRevoke}
+use Rattle.ov_history.specs.Places.{change_at, gone}
 use Rattle.ov_history.proofs.ChangeLaws.{length-change_at}
-use Rattle.ov_history.specs.Layers.{node_for, with_wants, wants_of, lists_of, lists_after}
+use Rattle.ov_history.specs.Layers.{list_in, with_wants, wants_of, lists_of, lists_after}
 use Rattle.ov_history.specs.Lists.{byte_sum}
 use Rattle.ov_history.specs.Refusals.{tests_of, is_last}
-use Rattle.ov_history.specs.Catalogue.{Filed, Catalogue, empty_catalogue, outline, matrix_shown, grown_catalogue, catalogue_after}
+use Rattle.ov_history.specs.Catalogue.{Filed, Catalogue, empty_catalogue, filed_at, new_file, outline, matrix_shown, grown_catalogue, catalogue_after}
 use Rattle.ov_history.specs.Briefs.{outer}
 use Rattle.ov_history.specs.Sealed.{HasParts, refusal_shown}
 use Rattle.ov_history.proofs.SoundSteps.{sound_after, nothing_is_sound}
 use Rattle.ov_history.proofs.SoundTests.{NoneApplies, none_applies, files_shown-length}
 use Rattle.ov_state.specs.Contents.{IsWell}
-use Rattle.ov_state.specs.Plans.{IsFitting}
-use Rattle.ov_state.proofs.WellFiles.{bytes_in, byte_sum-shown, bytes_in-append, AllWithin, within-each, each-within, within-append, within-gone, length-settled, bytes_in-fewer, bytes_in-settled, within-settled}
+use Rattle.ov_state.proofs.WellFiles.{bytes_in, byte_sum-left, byte_sum-shown, bytes_in-append, AllWithin, within-each, each-within, within-append, within-gone, length-settled, bytes_in-fewer, bytes_in-settled, within-settled}
 use Rattle.ov_state.proofs.WellSettled.{settled-each, settled_after}
 use Rattle.ov_base.specs.declared.limits.TheConstants.{LAST_EPOCH, MAX_FILES, MAX_FILE_BYTES, MAX_SET_WORDS, MAX_STORE_BYTES, MAX_USERS}
 use Rattle.ov_base.proofs.Tests.{ge_of_false}
@@ -47,8 +46,17 @@ next_epoch epoch e = grind (arith, nat_tests)
 one_more : (most n : ℕ) → nat_le most n ≡ false → n + 1 ≤ most
 one_more most n e = grind (arith, nat_tests)
 
+-- a new file has no more bytes than a file may have
+abbrev pub HasFileSize : Brief → Type 0
+HasFileSize (BriefEnrol user) = Unit {0}
+HasFileSize (BriefCreate file list tokens tag size) = size ≤ MAX_FILE_BYTES
+HasFileSize (BriefGrant user file token) = Unit {0}
+HasFileSize (BriefRevoke user file) = Unit {0}
+HasFileSize (BriefRemove file) = Unit {0}
+HasFileSize (BriefReplace file tokens tag size) = size ≤ MAX_FILE_BYTES
+
 within_grown : (s : Catalogue) (u : Brief) → IsWithin s → NoneApplies (tests_of (matrix_shown s) (outline s) s.epoch (outer u))
-    → IsFitting u → IsWithin (grown_catalogue s u)
+    → HasFileSize u → IsWithin (grown_catalogue s u)
 within_grown s (BriefEnrol user) within (taken, (full, (room, (spent, none)))) fits = record {
   users = subst (λ n. n ≤ MAX_USERS) (sym (length-append s.users (user ∷ []))) (one_more MAX_USERS (length s.users) full);
   files = within.files;
@@ -64,7 +72,7 @@ within_grown s (BriefCreate file list tokens tag size) within (taken, (outside, 
   epoch = next_epoch s.epoch spent;
 } where
   new : Filed
-  new = record { name = file; node = node_for s.base.sets list; surface = None; generation = s.epoch + 1; tag = tag; length = size }
+  new = new_file s file list tag size
 within_grown s (BriefGrant user file token) within (no_user, (no_file, (listed, (room, (spent, none))))) fits = record {
   users = within.users;
   files = within.files;
@@ -86,11 +94,34 @@ within_grown s (BriefRemove file) within (no_file, (room, (spent, none))) fits =
   each = within-gone MAX_FILE_BYTES s.files file within.each;
   epoch = next_epoch s.epoch spent;
 }
+within_grown s (BriefReplace file tokens tag size) within (no_file, (files, (bytes, (room, (spent, none))))) fits = record {
+  users = within.users;
+  files = omega (
+    arith,
+    length-append left (Some new ∷ []),
+    length-change_at gone file s.files,
+    files_shown-length (outline s) s.files,
+    one_more MAX_FILES (length (matrix_shown s).files) files,
+  );
+  bytes = omega (
+    arith,
+    bytes_in-append left new,
+    byte_sum-left s file,
+    ge_of_false MAX_STORE_BYTES (byte_sum (change_at gone file (matrix_shown s).files) + size) bytes,
+  );
+  each = within-append MAX_FILE_BYTES left new (within-gone MAX_FILE_BYTES s.files file within.each) fits;
+  epoch = next_epoch s.epoch spent;
+} where
+  left : List (Option Filed)
+  left = change_at gone file s.files
+
+  new : Filed
+  new = new_file s (filed_at s file).name (list_in (outline s) file) tag size
 
 -- ---- one update
 
 pub well_after : (limit : ℕ) (master : List ℕ) (s : Catalogue) (u : Brief) → IsWell limit s → refusal_shown s u ≡ None
-    → HasParts (outline s) u → IsFitting u → IsWell limit (catalogue_after master s u)
+    → HasParts (outline s) u → HasFileSize u → IsWell limit (catalogue_after master s u)
 well_after limit master s u well refused parts fits = record {
   sound = sound_after master s u well.sound refused parts;
   settled = settled-each (outline after) after.files (settled_after master s u parts);

@@ -25,6 +25,16 @@ shown_bytes y (Some f ∷ files) = ap (λ n. f.length + n) (shown_bytes y files)
 pub byte_sum-shown : (s : Catalogue) → byte_sum (matrix_shown s).files ≡ bytes_in s.files
 byte_sum-shown s = shown_bytes (outline s) s.files
 
+-- the bytes of all files but one
+shown_left : (y : Layers) (file : ℕ) (files : List (Option Filed)) → byte_sum (change_at gone file (files_shown y files)) ≡ bytes_in (change_at gone file files)
+shown_left y file [] = refl
+shown_left y zero (f ∷ files) = ap (λ n. 0 + n) (shown_bytes y files)
+shown_left y (suc file) (None ∷ files) = ap (λ n. 0 + n) (shown_left y file files)
+shown_left y (suc file) (Some f ∷ files) = ap (λ n. f.length + n) (shown_left y file files)
+
+pub byte_sum-left : (s : Catalogue) (file : ℕ) → byte_sum (change_at gone file (matrix_shown s).files) ≡ bytes_in (change_at gone file s.files)
+byte_sum-left s file = shown_left (outline s) file s.files
+
 pub bytes_in-append : (files : List (Option Filed)) (f : Filed) → bytes_in (files ++ Some f ∷ []) ≡ bytes_in files + f.length
 bytes_in-append [] f = omega arith
 bytes_in-append (first ∷ files) f = omega (arith, bytes_in-append files f)

@@ -3,8 +3,9 @@ use Rattle.std.specs.Prelude.{◌≡◌, ℕ, List, Option, Some, None, Result, 
 use Rattle.ov_base.specs.declared.refusal.Refusal.{Refusal}
 use Rattle.ov_graph.specs.Contents.{plan_of}
 use Rattle.ov_history.specs.Asking.{Numbers, refusal_at}
-use Rattle.ov_history.specs.Catalogue.{Catalogue}
-use Rattle.ov_history.specs.History.{Created}
+use Rattle.ov_history.specs.Catalogue.{Catalogue, outline}
+use Rattle.ov_history.specs.History.{Created, Replaced}
+use Rattle.ov_history.specs.Layers.{list_in}
 use Rattle.ov_state.specs.declared.asking.Asked.{Asked}
 use Rattle.ov_state.specs.declared.covering.Planned.{Planned}
 use Rattle.ov_state.specs.declared.fault.ChainFault.{ChainFault}
@@ -41,10 +42,21 @@ abbrev pub Passes : {A : Type 0} → Option Refusal → Result A ChainFault → 
 Passes refusal (Ok value) = refusal ≡ None
 Passes refusal (Err fault) = IsRefusedFor refusal fault
 
--- The number that a file to be created will have, the set of its list, and the cover of this set in
--- the base layer; or why the creation is refused.
+-- The number that a new file of this list will have, the set of the list, and the cover of this set
+-- in the base layer; or why there is to be no such file.
+abbrev pub PlansFor : {W : ℕ} → Catalogue → Option Refusal → ℕ → Result (Planned W) ChainFault
+    → Type 0
+PlansFor c refusal list (Ok planned) =
+    (refusal ≡ None) × (planned.file ≡ length c.files) × (planned.list ≡ list)
+    × (planned.cover ≡ plan_of c.base.sets list)
+PlansFor c refusal list (Err fault) = IsRefusedFor refusal fault
+
+-- what is told of a file to be created, or why the creation is refused
 abbrev pub Plans : {W : ℕ} → Catalogue → List ℕ → ℕ → ℕ → Result (Planned W) ChainFault → Type 0
-Plans c name list size (Ok planned) =
-    (refusal_at c (Created name list size) ≡ None) × (planned.file ≡ length c.files)
-    × (planned.list ≡ list) × (planned.cover ≡ plan_of c.base.sets list)
-Plans c name list size (Err fault) = IsRefusedFor (refusal_at c (Created name list size)) fault
+Plans c name list size result = PlansFor c (refusal_at c (Created name list size)) list result
+
+-- what is told of the file that is to replace this one, and has its list; or why the replacement is
+-- refused
+abbrev pub Replans : {W : ℕ} → Catalogue → ℕ → ℕ → Result (Planned W) ChainFault → Type 0
+Replans c file size result =
+    PlansFor c (refusal_at c (Replaced file size)) (list_in (outline c) file) result

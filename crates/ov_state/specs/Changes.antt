@@ -12,12 +12,12 @@ use Rattle.ov_history.specs.Places.{change_at, gone, living_at}
 use Rattle.ov_history.specs.Lists.{byte_sum}
 use Rattle.ov_history.specs.Catalogue.{Nodes, Filed, Catalogue, matrix_shown, added_if}
 use Rattle.ov_state.specs.Contents.{Room, IsWell}
-use Rattle.ov_state.specs.Entries.{filed_names, plain_file}
+use Rattle.ov_state.specs.Entries.{filed_names, plain_file, HasName}
 use Rattle.ov_state.specs.declared.change.NewNode.{NewNode}
 use Rattle.ov_state.specs.declared.change.Rewrite.{Rewrite}
 use Rattle.ov_state.specs.declared.change.Growth.{Growth}
 use Rattle.ov_state.specs.declared.change.Growth.TheVariants.{User, File, Access, Removal}
-use Rattle.ov_state.specs.declared.change.Growth.TheVariants.{Nothing}
+use Rattle.ov_state.specs.declared.change.Growth.TheVariants.{Nothing, Replacement}
 use Rattle.ov_state.specs.declared.change.Change.{Change}
 use Rattle.ov_state.specs.declared.files.FileEntry.{FileEntry}
 
@@ -43,14 +43,17 @@ users_grown users (User name) = users ++ name ∷ []
 users_grown users (File file) = users
 users_grown users (Access grant) = users
 users_grown users (Removal number) = users
+users_grown users (Replacement number file) = users
 users_grown users Nothing = users
 
--- the files with a new one, or without the one that goes
+-- the files with a new one, without the one that goes, or both
 abbrev pub files_grown : List (Option Filed) → Growth → List (Option Filed)
 files_grown files (User name) = files
 files_grown files (File file) = files ++ Some (plain_file file) ∷ []
 files_grown files (Access grant) = files
 files_grown files (Removal number) = change_at gone number files
+files_grown files (Replacement number file) =
+    change_at gone number files ++ Some (plain_file file) ∷ []
 files_grown files Nothing = files
 
 -- the access tokens with a new one
@@ -59,6 +62,7 @@ grants_grown grants (User name) = grants
 grants_grown grants (File file) = grants
 grants_grown grants (Access grant) = grants ++ grant ∷ []
 grants_grown grants (Removal number) = grants
+grants_grown grants (Replacement number file) = grants
 grants_grown grants Nothing = grants
 
 -- the file under the new surface of its rewrite, from this epoch on
@@ -108,7 +112,8 @@ IsNewNodeIf sets None = Unit {0}
 IsNewNodeIf sets (Some new) = IsNewNode sets new
 
 -- What grows fits beside these users, files, sets and access tokens: no name is taken, and an
--- access token is for a user below the limit who isn't a holder. A file that goes is there.
+-- access token is for a user below the limit who isn't a holder. A file that goes is there, and one
+-- that comes in its place has its name.
 abbrev pub Fits : ℕ → List (List ℕ) → List (Option Filed) → List ℕ → List Grant → Growth → Type 0
 Fits limit users files sets grants (User name) = is_among name users ≡ false
 Fits limit users files sets grants (File file) = is_among file.name (filed_names files) ≡ false
@@ -116,6 +121,8 @@ Fits limit users files sets grants (Access grant) =
     (grant.node < length sets) × (grant.user < limit)
     × ¬ Has (holders_in sets (accesses_of grants) grant.node) grant.user
 Fits limit users files sets grants (Removal number) = is_some (living_at files number) ≡ true
+Fits limit users files sets grants (Replacement number file) =
+    (is_some (living_at files number) ≡ true) × HasName files number file.name
 Fits limit users files sets grants Nothing = Unit {0}
 
 -- each of the rewrites is of one of this many files
@@ -141,6 +148,7 @@ GrowsWithin users files grants (User name) = 1 ≤ users
 GrowsWithin users files grants (File file) = 1 ≤ files
 GrowsWithin users files grants (Access grant) = 1 ≤ grants
 GrowsWithin users files grants (Removal number) = Unit {0}
+GrowsWithin users files grants (Replacement number file) = 1 ≤ files
 GrowsWithin users files grants Nothing = Unit {0}
 
 -- there is the room that the change takes

@@ -3,14 +3,16 @@ use Rattle.std.specs.Prelude.{◌≡◌, ℕ, ◌+◌, Bool, true, false, not, �
 use Rattle.std.specs.Prelude.{◌∷◌, length, Option, Some, None}
 use Rattle.ov_base.specs.Sets.{within}
 use Rattle.ov_base.specs.declared.limits.TheConstants.{MAX_FILES, MAX_LAYER_NODES, MAX_STORE_BYTES}
-use Rattle.ov_base.specs.declared.refusal.Refusal.TheVariants.{Taken, NoUser, FilesFull, BytesFull}
-use Rattle.ov_base.specs.declared.refusal.Refusal.TheVariants.{NodesFull}
+use Rattle.ov_base.specs.declared.refusal.Refusal.{Refusal}
+use Rattle.ov_base.specs.declared.refusal.Refusal.TheVariants.{Taken, NoUser, NoFile, FilesFull}
+use Rattle.ov_base.specs.declared.refusal.Refusal.TheVariants.{BytesFull, NodesFull, Spent}
 use Rattle.ov_graph.specs.Contents.{plan_of}
 use Rattle.ov_base_layer.specs.Holders.{accesses_of, holders_in}
 use Rattle.ov_surface.specs.Wanted.{wanted_surface}
 use Rattle.ov_history.specs.Layers.{node_for, with_set, with_wants, surface_at}
 use Rattle.ov_history.specs.Lists.{file_number, is_file, everyone, byte_sum}
-use Rattle.ov_history.specs.Refusals.{Test}
+use Rattle.ov_history.specs.Places.{change_at, gone}
+use Rattle.ov_history.specs.Refusals.{Test, first_of_tests, is_last}
 use Rattle.ov_history.specs.Catalogue.{Nodes, Catalogue, matrix_shown}
 use Rattle.ov_state.specs.Changes.{nodes_added, AreNewNodes}
 use Rattle.ov_state.specs.Relistings.{with_want}
@@ -26,6 +28,18 @@ tests_before c name list size =
     ∷ (NoUser, not (within list (everyone (length c.users))))
     ∷ (FilesFull, nat_le MAX_FILES (length (matrix_shown c).files))
     ∷ (BytesFull, nat_lt MAX_STORE_BYTES (byte_sum (matrix_shown c).files + size))
+    ∷ []
+
+-- the tests of a replacement that come before those of nodes and of epochs
+abbrev pub tests_replacing : Catalogue → ℕ → ℕ → List Test
+tests_replacing c file size =
+    (NoFile, not (is_file (matrix_shown c) file))
+    ∷ (FilesFull, nat_le MAX_FILES (length (matrix_shown c).files))
+    ∷ (
+      BytesFull,
+      nat_lt MAX_STORE_BYTES
+          (byte_sum (change_at gone file (matrix_shown c).files) + size),
+    )
     ∷ []
 
 -- the holders of the base node of a new file for these users
@@ -46,6 +60,12 @@ abbrev pub is_past_then : Catalogue → ℕ → Bool
 is_past_then c list =
     nat_lt MAX_LAYER_NODES (length (with_set c.base.sets list))
     || nat_lt MAX_LAYER_NODES (length (with_wants c.surface.sets (want_then c list ∷ [])))
+
+-- why a new file for these users finds no room: a layer would have too many nodes, or no epoch
+-- comes after this one
+abbrev pub room_then : Catalogue → ℕ → Option Refusal
+room_then c list =
+    first_of_tests ((NodesFull, is_past_then c list) ∷ (Spent, is_last c.epoch) ∷ [])
 
 -- where a new file for these users goes
 pub record IsSite {W : ℕ} (master : List ℕ) (c : Catalogue) (list : ℕ)

@@ -4,8 +4,8 @@ use Rattle.ov_fields.specs.Spelling.{counted, optional, token_field}
 use Rattle.ov_record.specs.Forms.{Form}
 use Rattle.ov_record.specs.Spelling.{spelling}
 use Rattle.ov_record.specs.Updates.{SealedUpdate, SealedCreate, SealedEnrol, SealedGrant}
-use Rattle.ov_record.specs.Updates.{SealedRemove, SealedRevoke}
-use Rattle.ov_history.specs.Briefs.{brief}
+use Rattle.ov_record.specs.Updates.{SealedRemove, SealedReplace, SealedRevoke}
+use Rattle.ov_record.specs.Briefs.{brief}
 use Rattle.ov_history.specs.Briefs.{part_place}
 
 -- the parts of an update as they are spelled: its tokens behind their number, or its access token
@@ -16,6 +16,7 @@ parts_spelled (SealedCreate name list tokens tag bytes) = counted token_field to
 parts_spelled (SealedGrant user file token) = optional token_field token
 parts_spelled (SealedRevoke user file) = []
 parts_spelled (SealedRemove file) = []
+parts_spelled (SealedReplace name tokens tag bytes) = counted token_field tokens
 
 -- the parts are at these places in the spelling of their update, in each form
 abbrev pub PartsStandAtTheirPlace : Type 0

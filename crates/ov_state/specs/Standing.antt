@@ -1,7 +1,7 @@
 -- What a state stands for, before and after a change.
 use Rattle.std.specs.Prelude.{◌≡◌, ◌↔◌, ℕ, ◌<◌, List, length, Some, None, true, Result}
 use Rattle.std.specs.Prelude.{Ok, Err}
-use Rattle.ov_record.specs.Updates.{SealedUpdate}
+use Rattle.ov_history.specs.Sent.{SealedUpdate}
 use Rattle.ov_history.specs.History.{matrix_of}
 use Rattle.ov_history.specs.Layers.{layers_of}
 use Rattle.ov_history.specs.Lists.{is_listed}

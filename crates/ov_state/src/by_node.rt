@@ -1,5 +1,6 @@
 //! The numbers of the files that are there, ordered by base node and then by number.
-ghost use Rattle.std.specs.Prelude.{◌≡◌, ◌==◌, option_map, position, Contains};
+ghost use Rattle.std.specs.Prelude.{◌≡◌, ◌==◌, ◌≤◌, ◌-◌, option_map, position, Contains};
+ghost use Rattle.std.specs.Prelude.{vec_capacity, vec_len};
 ghost use Rattle.ov_history.specs.Places.{living_at};
 ghost use Rattle.ov_state.specs.Entries.{node_at, plain_file, plain_files};
 ghost use Rattle.ov_state.specs.Entries.{Ascend, AreByNode, AreOfNode, IsCountBelow, IsOnly};
@@ -61,7 +62,9 @@ fn place_of(numbers: &[u32], number: u32) -> Option<usize>
 /// Takes this one out of the numbers, among which it is.
 pub(crate) fn take_out(numbers: &mut Vec<u32>, number: u32)
     requires { Contains numbers.old.items number }
-    ensures { IsTakenOut number numbers.old.items numbers.new.items }
+    ensures taken { IsTakenOut number numbers.old.items numbers.new.items }
+    ensures room { vec_capacity numbers.old - vec_len numbers.old
+        ≤ vec_capacity numbers.new - vec_len numbers.new }
 {
     match place_of(numbers.as_slice(), number) {
         Some(place) => {

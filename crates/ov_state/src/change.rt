@@ -25,7 +25,7 @@ pub struct Rewrite {
     pub new: Option<u32>,
 }
 
-/// What a catalogue is to have one more of, or which file it is to have no more.
+/// What a catalogue is to have one more of, which file it is to have no more, or both.
 #[derive(Drop)]
 pub enum Growth {
     /// A user.
@@ -36,6 +36,8 @@ pub enum Growth {
     Access(Grant),
     /// The file of this number goes.
     Removal(u32),
+    /// The file of this number goes, and this one comes, which gets its surface by its rewrite.
+    Replacement(u32, FileEntry),
     /// Nothing.
     Nothing,
 }

@@ -30,7 +30,7 @@ fn add_user(users: &mut IndexSet<Name>, name: Name)
     let _ = users.insert(name);
 }
 
-/// Adds what grows, or takes away the file that goes.
+/// Adds what grows, and takes away the file that goes.
 fn grow<B: Graph<Base, W>, const W: usize>(
     users: &mut IndexSet<Name>,
     files: &mut Files,
@@ -52,6 +52,7 @@ fn grow<B: Graph<Base, W>, const W: usize>(
         Growth::File(file) => files.push(file),
         Growth::Access(grant) => layer.add_access(grant),
         Growth::Removal(file) => files.remove(file),
+        Growth::Replacement(file, new) => files.replace(file, new),
         Growth::Nothing => {}
     }
 }

@@ -1,12 +1,13 @@
-//! What an owner is told before a creation.
+//! What an owner is told before a creation or a replacement.
 ghost use Rattle.std.specs.Prelude.{◌≡◌, ◌≤◌, false, length, IfErr, IfNone, IfOk, IfSome};
 ghost use Rattle.ov_base.specs.Sets.{within};
 ghost use Rattle.ov_base.specs.declared.limits.TheConstants.{MAX_FILE_BYTES};
 ghost use Rattle.ov_graph.specs.Contents.{plan_of};
+ghost use Rattle.ov_history.specs.Asking.{file_named};
 ghost use Rattle.ov_history.specs.Lists.{everyone, set_named};
-ghost use Rattle.ov_state.specs.Asking.{Plans};
+ghost use Rattle.ov_state.specs.Asking.{Plans, PlansFor, Replans};
 ghost use Rattle.ov_state.specs.Faults.{fault_of};
-ghost use Rattle.ov_state.specs.NewFiles.{is_past_then, HasNoSite};
+ghost use Rattle.ov_state.specs.NewFiles.{is_past_then, room_then, HasNoSite};
 
 use crate::fault::ChainFault;
 use crate::new_sets::NewSets;
@@ -17,7 +18,7 @@ use ov_surface::wanted;
 use ov_tokens::{Base, Surface};
 use std::alloc::Global;
 
-/// A file that is to be created: its number, its list, and the cover of the list in the base layer.
+/// A new file that is to come: its number, its list, and the cover of the list in the base layer.
 #[derive(Drop)]
 pub struct Planned<const W: usize> {
     pub file: u32,
@@ -57,6 +58,24 @@ impl<B: Graph<Base, W>, S: Graph<Surface, W>, const W: usize> State<B, S, W> {
         Ok(cover)
     }
 
+    /// What is told of a new file for these users, where both layers have room for its nodes and an
+    /// epoch comes after this one.
+    fn planned_in_room(&self, alloc: Global, list: UserSet<W>) -> Result<Planned<W>, ChainFault>
+        ensures { let c = self.now.catalogue in
+            PlansFor c (room_then c list.entry) list.entry result }
+    {
+        self.known();
+        let cover = self.cover_in_room(alloc, &list)?;
+        if self.is_spent() {
+            return Err(ChainFault::Refused(Refusal::Spent));
+        }
+        Ok(Planned {
+            file: self.files.count(),
+            list,
+            cover,
+        })
+    }
+
     /// What is told of a file that is to be created for these users.
     fn planned(
         &self,
@@ -72,15 +91,7 @@ impl<B: Graph<Base, W>, S: Graph<Surface, W>, const W: usize> State<B, S, W> {
         if let Some(why) = self.refusal_create(name, &list, size) {
             return Err(ChainFault::Refused(why));
         }
-        let cover = self.cover_in_room(alloc, &list)?;
-        if self.is_spent() {
-            return Err(ChainFault::Refused(Refusal::Spent));
-        }
-        Ok(Planned {
-            file: self.files.count(),
-            list,
-            cover,
-        })
+        self.planned_in_room(alloc, list)
     }
 
     /// What is told of a file of this many bytes that is to be created for the users of these
@@ -103,5 +114,19 @@ impl<B: Graph<Base, W>, S: Graph<Surface, W>, const W: usize> State<B, S, W> {
             return Err(ChainFault::Refused(Refusal::NoUser));
         };
         self.planned(alloc, name, size, list)
+    }
+
+    /// What is told of a file of this many bytes that is to replace the file of this name, for the
+    /// users in its list. It is refused exactly where the replacement is.
+    pub fn replan(&self, alloc: Global, file: &Name, size: u32) -> Result<Planned<W>, ChainFault>
+        requires { size ≤ MAX_FILE_BYTES }
+        ensures { let c = self.now.catalogue in Replans c (file_named c file.now) size result }
+    {
+        self.known();
+        let number = self.file_or_next(file);
+        if let Some(why) = self.refusal_replace(number, size) {
+            return Err(ChainFault::Refused(why));
+        }
+        self.planned_in_room(alloc, self.list_of(number))
     }
 }

@@ -1,7 +1,8 @@
 //! Files by number, by name, and by base node.
-ghost use Rattle.std.specs.Prelude.{◌≡◌, ◌<◌, ◌≤◌, ◌++◌, ◌∷◌, [], false, length, option_map};
-ghost use Rattle.std.specs.Prelude.{is_some, true, IfSome, OnOk, Some};
+ghost use Rattle.std.specs.Prelude.{◌≡◌, ◌<◌, ◌≤◌, ◌++◌, ◌∷◌, ℕ, List, [], false, length};
+ghost use Rattle.std.specs.Prelude.{is_some, option_map, true, IfSome, OnOk, Some};
 ghost use Rattle.ov_base.specs.NameLists.{is_among};
+ghost use Rattle.ov_base.specs.Names.{IsName};
 ghost use Rattle.ov_base.specs.declared.limits.TheConstants.{MAX_FILES};
 ghost use Rattle.ov_history.specs.Places.{change_at, gone, living_at, IsNumber};
 ghost use Rattle.ov_state.specs.Entries.{filed_names, plain_file, plain_files};
@@ -148,7 +149,10 @@ impl Files {
     /// Takes a file away. Its number isn't given to another. It takes no memory.
     pub fn remove(&mut self, file: u32)
         requires { is_some (living_at self.old.files file) ≡ true }
-        ensures { self.new.files ≡ change_at gone file self.old.files }
+        ensures files { self.new.files ≡ change_at gone file self.old.files }
+        ensures fresh { (name : List ℕ) → IsName name → HasName self.old.files file name
+            → is_among name (filed_names self.new.files) ≡ false }
+        ensures room { self.old.spare ≤ self.new.spare }
     {
         // A map has each name once, as its length says: so the name leads to no other file.
         let _count = self.numbers.len();
@@ -156,6 +160,23 @@ impl Files {
         let _ = self.numbers.shift_remove(&name);
         take_out(&mut self.by_node, file);
         self.list[file as usize] = None;
+    }
+
+    /// Takes a file away and appends another of its name, for which there is room. It takes no
+    /// memory.
+    pub fn replace(&mut self, file: u32, new: FileEntry)
+        requires there { is_some (living_at self.old.files file) ≡ true }
+        requires named { HasName self.old.files file new.name }
+        requires few { length (change_at gone file self.old.files ++ Some (plain_file new) ∷ [])
+            ≤ MAX_FILES }
+        requires room { 1 ≤ self.old.spare }
+        ensures { self.new.files
+            ≡ change_at gone file self.old.files ++ Some (plain_file new) ∷ [] }
+    {
+        // A name isn't empty, so that no file has it when the old one is gone.
+        let _bytes = new.name.as_bytes();
+        self.remove(file);
+        self.push(new);
     }
 
     /// Gives a file its new surface, from this epoch on.

@@ -14,7 +14,8 @@
 //!   collecting  the wanted surface of each file that may move      │
 //!   rewrites    the files that get another surface by it           │
 //!   new_nodes   the surface nodes that these need                  │
-//!   plan_new, plan_list, plan_remove     all that as a change      │
+//!   plan_new, plan_list,                 all that as a change      │
+//!   plan_remove, plan_replace                                      │
 //!   room        the memory that it takes                           │
 //!        ┌──────────────────────────────────────────── Change ◄────┘
 //!        ├─► rewrites()   file, length, old and new surface, by number
@@ -30,12 +31,18 @@
 //! to another. Its base node and the access tokens to that node stay, since other files may be
 //! there. So the holders stay, and a removal rewrites no file.
 //!
+//! A file that is replaced is gone too, and a new one has its name, its list and the next number.
+//! The new one is at the base node of the list as it is now: who was taken off the list before
+//! holds that node only where another file of it was given to them.
+//!
 //! A state is given the surface master with each update and never the base master. It makes the
 //! surface layer's tokens; those of the base layer come with the update.
 //!
 //! **What a contract sees** is one value, `Held`: the catalogue (`Catalogue` of ov_history), and
 //! for how many more of each there is room.
 //!
+//! * `prepare` takes an update as it is spelled: a replacement names its file. A history has the
+//!   file's number there, by the names that the catalogue shows (`numbered_at`).
 //! * `prepare` gives a change only for an update that isn't refused and has its parts. What the
 //!   change makes is `catalogue_after`, the definition of one update, and its rewrites are
 //!   `rewrites_of`, each file once. Otherwise it names the refusal, or the place of the wrong
@@ -52,12 +59,12 @@
 //! * The queries give the epoch, the mode, sizes, numbers and names, files, the holders of a base
 //!   node, and the list of a file, which is read off the layers. They find no file that is gone. It
 //!   counts among the numbers that were given out, and its bytes don't count.
-//! * `ask_enrol`, `ask_grant`, `ask_revoke`, `ask_remove` and `cover` tell an owner, before an
-//!   update, the numbers that it needs, or why the update would be refused. They touch no bytes, and
-//!   plan no surface nodes: of these they only count which sets would be new. A question about a list
-//!   and its update take the same steps: one decision on the list, and one pass over the files that
-//!   may move, with two collectors. What `cover` told can be given back by [`State::remember`], so
-//!   that the creation needn't plan it again.
+//! * `ask_enrol`, `ask_grant`, `ask_revoke`, `ask_remove`, `cover` and `replan` tell an owner,
+//!   before an update, the numbers that it needs, or why the update would be refused. They touch no
+//!   bytes, and plan no surface nodes: of these they only count which sets would be new. A question
+//!   about a list and its update take the same steps: one decision on the list, and one pass over
+//!   the files that may move, with two collectors. What `cover` or `replan` told can be given back
+//!   by [`State::remember`], so that the creation or the replacement needn't plan it again.
 //! * [`State::chain`] is refused exactly where a read is, unless memory is. It gives a reader of a
 //!   file the chains from the reader's two roots to the file's keys ([`Chained`]); over true tokens
 //!   they lead to these keys, and [`access_key_by`] walks the one of the base layer.
@@ -87,8 +94,8 @@
 //! through the files of that node, since bare ones get a surface, and looks at none of another node
 //! after that. A creation looks at a few files to find its file's place among them, and moves the
 //! numbers behind it, four bytes each. A removal looks through these numbers for that of its file,
-//! and moves the names behind that of its file. All this is read off the code, and no contract says
-//! it.
+//! and moves the names behind that of its file. A replacement does what a removal and a creation do.
+//! All this is read off the code, and no contract says it.
 //!
 //! Nothing is claimed of secrecy, nor that memory isn't refused.
 #![tactic(auto)]
@@ -112,6 +119,7 @@ mod places;
 mod plan_list;
 mod plan_new;
 mod plan_remove;
+mod plan_replace;
 mod prepare;
 mod queries;
 mod relisting;

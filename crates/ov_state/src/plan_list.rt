@@ -1,8 +1,8 @@
 //! Grants and revocations as changes.
 ghost use Rattle.std.specs.Prelude.{◌≡◌, ◌*◌};
-ghost use Rattle.ov_history.specs.Briefs.{BriefGrant, BriefRevoke};
 ghost use Rattle.ov_history.specs.Lists.{byte_sum};
 ghost use Rattle.ov_history.specs.Catalogue.{matrix_shown};
+ghost use Rattle.ov_record.specs.Briefs.{BriefGrant, BriefRevoke};
 ghost use Rattle.ov_state.specs.Plans.{Prepares};
 ghost use Rattle.ov_state.specs.Relistings.{access_of, change_with};
 

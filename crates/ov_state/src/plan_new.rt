@@ -4,13 +4,14 @@ ghost use Rattle.std.specs.Prelude.{false, IfOk};
 ghost use Rattle.ov_base.specs.NameLists.{is_among};
 ghost use Rattle.ov_base.specs.declared.limits.TheConstants.{LAST_EPOCH, MAX_FILE_BYTES};
 ghost use Rattle.ov_base.specs.declared.limits.TheConstants.{MAX_SET_WORDS, MAX_USERS};
-ghost use Rattle.ov_history.specs.Briefs.{BriefCreate, BriefEnrol};
+ghost use Rattle.ov_history.specs.Asking.{refusal_at};
+ghost use Rattle.ov_history.specs.History.{Enrolled};
 ghost use Rattle.ov_history.specs.Refusals.{first_of_tests};
-ghost use Rattle.ov_history.specs.Sealed.{refusal_shown};
+ghost use Rattle.ov_record.specs.Briefs.{BriefCreate, BriefEnrol};
 ghost use Rattle.ov_state.specs.Entries.{filed_names};
 ghost use Rattle.ov_state.specs.Plans.{Prepares};
 ghost use Rattle.ov_state.specs.NewFiles.{tests_before};
-ghost use Rattle.ov_state.specs.Creations.{alone, IsCreation, IsEnrolment};
+ghost use Rattle.ov_state.specs.Creations.{alone, new_entry, IsCreation, IsEnrolment};
 
 use crate::change::{Change, Growth, NewNode, Rewrite};
 use crate::fault::PrepareFault;
@@ -40,7 +41,7 @@ fn alone<const W: usize>(alloc: Global, nodes: u32, user: u32) -> NewNode<W>
 }
 
 /// The list of one node, or of one rewrite.
-fn only<T: Drop>(alloc: Global, item: T) -> Result<Vec<T>, Memory>
+pub(crate) fn only<T: Drop>(alloc: Global, item: T) -> Result<Vec<T>, Memory>
     ensures { IfOk result (λ list. list.items ≡ item ∷ []) }
 {
     let mut list = Vec::new(alloc);
@@ -48,9 +49,9 @@ fn only<T: Drop>(alloc: Global, item: T) -> Result<Vec<T>, Memory>
     Ok(list)
 }
 
-/// The place of the number of tokens in the spelling of a creation of a file of this name, whose
-/// list has this many words.
-fn tokens_place(name: &Name, words: usize) -> u32
+/// The place of the number of tokens in the spelling of a new file of this name, where its list has
+/// this many words. A replacement spells no list.
+pub(crate) fn tokens_place(name: &Name, words: usize) -> u32
     requires { words ≤ MAX_SET_WORDS }
     ensures { result ≡ 1 + (1 + length name.now) + 8 * words }
 {
@@ -60,7 +61,7 @@ fn tokens_place(name: &Name, words: usize) -> u32
 impl<B: Graph<Base, W>, S: Graph<Surface, W>, const W: usize> State<B, S, W> {
     /// Why an enrolment is refused, if it is.
     pub(crate) fn refusal_enrol(&self, name: &Name) -> Option<Refusal>
-        ensures { result ≡ refusal_shown self.now.catalogue (BriefEnrol name.now) }
+        ensures { result ≡ refusal_at self.now.catalogue (Enrolled name.now) }
     {
         self.known();
         if self.has_user(name) {
@@ -133,6 +134,21 @@ impl<B: Graph<Base, W>, S: Graph<Surface, W>, const W: usize> State<B, S, W> {
         }
     }
 
+    /// A new file of this name and of this many bytes at its base node, before it has its surface.
+    pub(crate) fn new_entry(&self, name: Name, node: u32, tag: [u8; 32], size: u32) -> FileEntry
+        requires { self.now.catalogue.epoch < LAST_EPOCH }
+        ensures { result ≡ new_entry self.now.catalogue name node tag size }
+    {
+        FileEntry {
+            name,
+            node,
+            surface: None,
+            generation: self.epoch + 1,
+            tag,
+            length: size,
+        }
+    }
+
     /// The change that files a new file at its place.
     fn creation(
         &self,
@@ -157,14 +173,7 @@ impl<B: Graph<Base, W>, S: Graph<Surface, W>, const W: usize> State<B, S, W> {
             old: None,
             new: to,
         };
-        let entry = FileEntry {
-            name,
-            node: cover.node,
-            surface: None,
-            generation: self.epoch + 1,
-            tag,
-            length: size,
-        };
+        let entry = self.new_entry(name, cover.node, tag, size);
         Ok(Change {
             growth: Growth::File(entry),
             base: new_node(list, cover, tokens),

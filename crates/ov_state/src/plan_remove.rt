@@ -1,10 +1,12 @@
 //! Removals as changes.
-ghost use Rattle.std.specs.Prelude.{◌≡◌, ◌+◌, ◌*◌, ℕ, List, is_some, true, IfNone};
-ghost use Rattle.ov_history.specs.Briefs.{BriefRemove};
-ghost use Rattle.ov_history.specs.Catalogue.{filed_at, matrix_shown};
+ghost use Rattle.std.specs.Prelude.{◌≡◌, ◌≤◌, ◌*◌, ℕ, List, is_some, true, IfNone};
+ghost use Rattle.ov_base.specs.declared.limits.TheConstants.{MAX_STORE_BYTES};
+ghost use Rattle.ov_history.specs.Asking.{refusal_at};
+ghost use Rattle.ov_history.specs.Catalogue.{matrix_shown};
+ghost use Rattle.ov_history.specs.History.{Removed};
 ghost use Rattle.ov_history.specs.Lists.{byte_sum};
-ghost use Rattle.ov_history.specs.Places.{living_at};
-ghost use Rattle.ov_history.specs.Sealed.{refusal_shown};
+ghost use Rattle.ov_history.specs.Places.{change_at, gone, living_at};
+ghost use Rattle.ov_record.specs.Briefs.{BriefRemove};
 ghost use Rattle.ov_state.specs.Creations.{IsRemoval};
 ghost use Rattle.ov_state.specs.Plans.{Prepares};
 
@@ -19,7 +21,7 @@ use std::alloc::Global;
 impl<B: Graph<Base, W>, S: Graph<Surface, W>, const W: usize> State<B, S, W> {
     /// Why a removal is refused, if it is. It makes no nodes, so that they are never too many.
     pub(crate) fn refusal_remove(&self, file: u32) -> Option<Refusal>
-        ensures why { result ≡ refusal_shown self.now.catalogue (BriefRemove file) }
+        ensures why { result ≡ refusal_at self.now.catalogue (Removed file) }
         ensures there { IfNone result (is_some (living_at self.now.catalogue.files file) ≡ true) }
     {
         self.known();
@@ -33,11 +35,13 @@ impl<B: Graph<Base, W>, S: Graph<Surface, W>, const W: usize> State<B, S, W> {
     }
 
     /// How many bytes all files have but this one.
-    fn size_without(&self, file: u32) -> u64
+    pub(crate) fn size_without(&self, file: u32) -> u64
         requires { is_some (living_at self.now.catalogue.files file) ≡ true }
-        ensures { let c = self.now.catalogue in
-            result + (filed_at c file).length ≡ byte_sum (matrix_shown c).files }
+        ensures left { result ≡ byte_sum (change_at gone file
+            (matrix_shown self.now.catalogue).files) }
+        ensures few { result ≤ MAX_STORE_BYTES }
     {
+        self.known();
         self.size - u64::from(self.entry(file).length)
     }
 

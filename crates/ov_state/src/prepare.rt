@@ -1,7 +1,8 @@
 //! Changes that are prepared.
 ghost use Rattle.std.specs.Prelude.{◌≡◌, ◌*◌, IfOk};
 ghost use Rattle.ov_state.specs.Changes.{HasRoomFor};
-ghost use Rattle.ov_state.specs.Plans.{plain_brief, IsFitting, IsWithinLimits, Prepares};
+ghost use Rattle.ov_state.specs.Plans.{numbered_at, plain_brief, IsFitting, IsWithinLimits};
+ghost use Rattle.ov_state.specs.Plans.{Prepares};
 ghost use Rattle.ov_state.specs.Standing.{IsAnsweredAsItsHistory};
 
 use crate::brief::Brief;
@@ -39,6 +40,12 @@ impl<B: Graph<Base, W>, S: Graph<Surface, W>, const W: usize> State<B, S, W> {
             }
             Brief::Revoke { user, file } => self.plan_revoke(alloc, surface, user, file),
             Brief::Remove { file } => self.plan_remove(alloc, file),
+            Brief::Replace {
+                name,
+                tokens,
+                tag,
+                length,
+            } => self.plan_replace(alloc, surface, name, tokens, tag, length),
         }
     }
 
@@ -56,8 +63,8 @@ impl<B: Graph<Base, W>, S: Graph<Surface, W>, const W: usize> State<B, S, W> {
             Prepares (64 * W) surface.now.bytes self.old.catalogue b result }
         ensures limits { IfOk result (λ _. IsWithinLimits (plain_brief brief.entry)) }
         ensures room { IfOk result (λ change. HasRoomFor self.new.room change) }
-        ensures history { let b = plain_brief brief.entry in
-            IsAnsweredAsItsHistory self.old.catalogue b result }
+        ensures history { let c = self.old.catalogue in
+            IsAnsweredAsItsHistory c (numbered_at c (plain_brief brief.entry)) result }
     {
         self.known();
         match self.plan(alloc, surface, brief) {

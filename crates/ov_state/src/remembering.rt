@@ -1,4 +1,5 @@
-//! The cover that an owner asked for before a creation, which then isn't planned again.
+//! The cover that an owner asked for before a creation or a replacement, which then isn't planned
+//! again.
 ghost use Rattle.std.specs.Prelude.{◌≡◌, ◌↔◌, ◌*◌, length, Err, IfOk, IfSome, IsTrue};
 ghost use Rattle.ov_base.specs.declared.limits.TheConstants.{MAX_LAYER_NODES};
 ghost use Rattle.ov_graph.specs.Contents.{plan_of};
@@ -24,8 +25,9 @@ fn copy_of(alloc: Global, cover: &Cover) -> Result<Cover, Memory>
 }
 
 impl<B: Graph<Base, W>, S: Graph<Surface, W>, const W: usize> State<B, S, W> {
-    /// Keeps what [`State::cover`] told, until a change is made or another plan is kept: a creation
-    /// of a file for the same users then plans no cover of its own. It takes no memory.
+    /// Keeps what [`State::cover`] or [`State::replan`] told, until a change is made or another
+    /// plan is kept: a new file for the same users then plans no cover of its own. It takes no
+    /// memory.
     pub fn remember(&mut self, planned: Planned<W>)
         requires { IsPlannedIn self.old.catalogue.base.sets planned }
         ensures { self.new ≡ self.old }

@@ -45,6 +45,7 @@ fn reserve_growth<B: Graph<Base, W>, const W: usize>(
         Growth::Access(_) => layer.reserve_access()?,
         // A file that goes leaves room.
         Growth::Removal(_) => {}
+        Growth::Replacement(_, _) => files.reserve()?,
         Growth::Nothing => {}
     }
     Ok(())

@@ -1,7 +1,8 @@
-//! A history in both modes with the updates that it refuses, a file that is removed, chains over its
-//! tokens, a small team's day, and the last epoch.
+//! A history in both modes with the updates that it refuses, files that are removed and replaced,
+//! chains over its tokens, a small team's day, and the last epoch.
 ghost use Rattle.ov_state.specs.Plans.{plain_brief, IsFitting};
 
+mod replaced;
 mod rows;
 mod team;
 
@@ -68,6 +69,12 @@ fn brief(rt: &impl Abort, alloc: Global, step: Step) -> Brief<WIDTH>
         },
         Step::Revoke(user, file) => Brief::Revoke { user, file },
         Step::Remove(file) => Brief::Remove { file },
+        Step::Replace(text, count) => Brief::Replace {
+            name: name(rt, text),
+            tokens: tokens(rt, alloc, count),
+            tag: [0; 32],
+            length: LENGTH,
+        },
     }
 }
 
@@ -308,6 +315,7 @@ fn the_last_epoch(rt: HostRuntime) {
         (Step::Enrol(b"a"), Refusal::Taken),
         (Step::Create(b"f", &[], 1), Refusal::Spent),
         (Step::Remove(0), Refusal::NoFile),
+        (Step::Replace(b"f", 0), Refusal::NoFile),
     ];
     for (step, why) in rows {
         expect_fault(&rt, alloc, &mut catalogue, step, PrepareFault::Refused(why));

@@ -7,18 +7,20 @@ use Rattle.std.specs.Prelude.{IfOk}
 use Rattle.ov_disk.specs.Disk.{Image, Told}
 use Rattle.ov_disk.specs.Tells.{DiskTells}
 use Rattle.ov_record.specs.Forms.{Form}
-use Rattle.ov_record.specs.Updates.{SealedUpdate}
 use Rattle.ov_history.specs.Briefs.{Brief, brief}
+use Rattle.ov_history.specs.History.{Matrix, no_one}
+use Rattle.ov_history.specs.Lists.{file_names}
 use Rattle.ov_history.specs.Masters.{Masters}
 use Rattle.ov_history.specs.Placed.{PlacedHistory, PlacedUpdate, unplaced, unplaced_all}
 use Rattle.ov_history.specs.Sealed.{KeepsBytes, SealedHistory, with_sealed}
+use Rattle.ov_history.specs.Sent.{SealedUpdate}
 use Rattle.ov_history.specs.Texts.{BriefHistory, brief_all, brief_of}
 use Rattle.ov_history.proofs.Briefly.{brief_all-push}
 use Rattle.ov_journal.specs.Book.{Contents, contents_of, spelled}
 use Rattle.ov_journal.specs.Log.{Log}
 use Rattle.ov_images.specs.Images.{HasRecords, Keeps, Keys, header_of}
 use Rattle.ov_images.specs.Records.{AllHaveForm, AllHaveFormFrom, bodies_from, bodies_of}
-use Rattle.ov_images.specs.Records.{form_behind, record_spelling}
+use Rattle.ov_images.specs.Records.{form_behind, matrix_with, record_spelling}
 use Rattle.ov_images.proofs.Headers.{first_of-spelled, mode_of-spelled}
 use Rattle.ov_images.proofs.Records.{records_apart, room_behind}
 use Rattle.ov_placed.specs.Contents.{PlacedStore}
@@ -62,18 +64,24 @@ has_more k g u i (q, keeps) = record {
 }
 
 -- of the updates whose bodies begin with these, the first are these
-fronts_from : (step : Option ℕ) (count : ℕ) (us ps : List PlacedUpdate) (rest : List (List ℕ))
-    → AllHaveFormFrom step count us → AllHaveFormFrom step count ps
-    → bodies_from step count us ≡ bodies_from step count ps ++ rest
+fronts_from : (step : Option ℕ) (count : ℕ) (m : Matrix) (us ps : List PlacedUpdate)
+    (rest : List (List ℕ)) → AllHaveFormFrom step count m us → AllHaveFormFrom step count m ps
+    → bodies_from step count m us ≡ bodies_from step count m ps ++ rest
     → (more : List PlacedUpdate) × (us ≡ ps ++ more)
-fronts_from step count us [] rest fu fp same = (us, refl)
-fronts_from step count [] (p ∷ ps) rest fu fp same = absurd (cc same)
-fronts_from step count (u ∷ us) (p ∷ ps) rest fu fp same =
+fronts_from step count m us [] rest fu fp same = (us, refl)
+fronts_from step count m [] (p ∷ ps) rest fu fp same = absurd (cc same)
+fronts_from step count m (u ∷ us) (p ∷ ps) rest fu fp same =
     let form : Form = form_behind step count in
-    let one : record_spelling form u ≡ record_spelling form p = cc same in
-    let others : bodies_from step (count + 1) us ≡ bodies_from step (count + 1) ps ++ rest = cc same in
-    let first = records_apart form (room_behind step count) u p fu.0 fp.0 one in
-    let behind = fronts_from step (count + 1) us ps rest fu.1 fp.1 others in
+    let names : List (List ℕ) = file_names m.files in
+    let next : ℕ = count + 1 in
+    let one : record_spelling form names u ≡ record_spelling form names p = cc same in
+    let others : bodies_from step next (matrix_with m u) us
+    ≡ bodies_from step next (matrix_with m p) ps ++ rest = cc same in
+    let first = records_apart form (room_behind step count) names u p fu.0 fp.0 one in
+    let back : matrix_with m p ≡ matrix_with m u = ap (matrix_with m) (sym first) in
+    let behind = fronts_from step next (matrix_with m u) us ps rest fu.1
+    (subst (λ (n : Matrix). AllHaveFormFrom step next n ps) back fp.1)
+    (others ∙ ap (λ (n : Matrix). bodies_from step next n ps ++ rest) back) in
     (behind.0, λ j. first j ∷ behind.1 j)
 
 unplaced-append : (ps more : List PlacedUpdate)
@@ -143,8 +151,8 @@ module _ {D : Type 0} (tells : DiskTells D) (d : D) (k : Keys) (store : PlacedSt
         let form = subst (λ (s : Option ℕ). AllHaveForm s q.placed.updates) same_step q.has.form in
         let bodies = ap (λ (s : Option ℕ). bodies_of s q.placed.updates) (sym same_step)
         ∙ sym (ap (λ (c : Contents). c.records.bodies) q.has.book) ∙ begins.split in
-        let front = fronts_from log.step 0 q.placed.updates p.updates begins.rest form begins.form
-        bodies in
+        let front = fronts_from log.step 0 no_one q.placed.updates p.updates begins.rest form
+        begins.form bodies in
         same_front (length p.updates) (brief_all g.updates) (unplaced_all p.updates) q.extra
         (unplaced_all front.0) (length-briefs g.updates ∙ as_many) (length-unplaced p.updates)
         (sym q.briefs ∙ ap (λ (us : List PlacedUpdate). unplaced_all us) front.1

@@ -5,22 +5,25 @@ use Rattle.std.proofs.lemmas.List.{get_or_append_left, take_all, take_at}
 use Rattle.std.specs.Prelude.{is_some, not}
 use Rattle.ov_base.specs.declared.mode.Mode.{Mode}
 use Rattle.ov_disk.specs.Disk.{Image}
+use Rattle.ov_record.specs.Briefs.{Brief as SpelledBrief}
 use Rattle.ov_record.specs.Forms.{Form}
-use Rattle.ov_record.specs.Updates.{SealedUpdate}
-use Rattle.ov_history.specs.History.{File, History, Matrix, start_of, with_update}
+use Rattle.ov_history.specs.History.{File, History, Matrix, no_one, start_of, with_update}
 use Rattle.ov_history.specs.Layers.{Layers, layers_of}
-use Rattle.ov_history.specs.Lists.{is_file}
+use Rattle.ov_history.specs.Lists.{file_names, is_file}
 use Rattle.ov_history.specs.Places.{living_at}
-use Rattle.ov_history.specs.Briefs.{Brief, brief, outer}
-use Rattle.ov_history.specs.Catalogue.{Catalogue, catalogue_after, empty_catalogue, file_shown, outline}
+use Rattle.ov_history.specs.Briefs.{brief, numbered_brief, outer, spelled_brief}
+use Rattle.ov_history.specs.Catalogue.{Catalogue, catalogue_after, empty_catalogue, file_names_shown}
+use Rattle.ov_history.specs.Catalogue.{file_shown, outline}
 use Rattle.ov_history.specs.Fading.{is_gone_from}
 use Rattle.ov_history.specs.Masters.{Masters}
 use Rattle.ov_history.specs.Placed.{AllHaveFirsts, PlacedHistory, PlacedUpdate}
-use Rattle.ov_history.specs.Placed.{unplaced_all}
+use Rattle.ov_history.specs.Placed.{unplaced, unplaced_all}
 use Rattle.ov_history.specs.Sealed.{AllFit, IsSealed, SealedHistory, StandsFor, outer_all, outer_of}
 use Rattle.ov_history.specs.Sealed.{with_sealed}
-use Rattle.ov_history.specs.Texts.{BriefHistory, brief_all}
+use Rattle.ov_history.specs.Sent.{SealedUpdate}
+use Rattle.ov_history.specs.Texts.{BriefHistory, brief_all, brief_of}
 use Rattle.ov_history.proofs.GoingOn.{histories_go_on}
+use Rattle.ov_history.proofs.Numbering.{names_are_shown}
 use Rattle.ov_history.proofs.Outlining.{length-places}
 use Rattle.ov_history.proofs.Pushing.{with_updates, with_updates-all}
 use Rattle.ov_history.proofs.Replaying.{goes_taken}
@@ -30,11 +33,13 @@ use Rattle.ov_journal.specs.Book.{contents_of}
 use Rattle.ov_journal.specs.Log.{Log, IsLogOfFirst}
 use Rattle.ov_journal.specs.Steps.{gate_behind, gates_of}
 use Rattle.ov_journal.proofs.Steps.{gates_at, length-gates_of}
-use Rattle.ov_state.specs.Plans.{IsTaken}
+use Rattle.ov_state.specs.Plans.{IsTaken, numbered_at}
 use Rattle.ov_images.specs.Damage.{BeginsWith}
 use Rattle.ov_images.specs.Records.{AllHaveFormFrom, HasRecordForm, bodies_from, bodies_of}
-use Rattle.ov_images.specs.Records.{form_behind, record_spelling}
-use Rattle.ov_images.proofs.Records.{firsts_spelling, length-bodies_from}
+use Rattle.ov_images.specs.Records.{form_behind, matrix_after, matrix_with, names_after}
+use Rattle.ov_images.specs.Records.{record_spelling}
+use Rattle.ov_images.proofs.Names.{names_of_history}
+use Rattle.ov_images.proofs.Records.{firsts_spelling, length-bodies_of}
 use Rattle.ov_placed.specs.Contents.{PlacedStore}
 use Rattle.ov_store.specs.Owners.{AllAreOwned, FollowsUpdate, HasFalseUpdate, HasTextIn, IsHistoryOf}
 use Rattle.ov_store.specs.Owners.{IsOwners, is_gone_in, with_first}
@@ -44,27 +49,31 @@ use Rattle.ov_store.proofs.NewTexts.{has_text}
 
 -- ---- update number `i` and its record
 
+-- the names of the files after the first `i` of these updates, from this matrix on
+abbrev pub names_at : Matrix → List PlacedUpdate → ℕ → List (List ℕ)
+names_at m ps i = file_names (matrix_after m (take i ps)).files
+
 -- Update number `i` of these, and the record of it, which has its first blocks. The records are behind
--- so many others, and this one behind as many as `behind` says.
-pub record Nth (step : Option ℕ) (count behind : ℕ) (us : List SealedUpdate) (ps : List PlacedUpdate)
-    (i : ℕ) : Type 0 where
+-- so many others, which made this matrix, and this one behind as many as `behind` says.
+pub record Nth (step : Option ℕ) (count behind : ℕ) (m : Matrix) (us : List SealedUpdate)
+    (ps : List PlacedUpdate) (i : ℕ) : Type 0 where
   pub update : SealedUpdate
   pub rest : List SealedUpdate
   pub split : us ≡ take i us ++ update ∷ rest
   pub more : take (i + 1) us ≡ take i us ++ update ∷ []
   pub placed : PlacedUpdate
   pub same : brief update ≡ placed.update
-  pub body : get_or (bodies_from step count ps) i []
-      ≡ record_spelling (form_behind step behind) placed
-  pub form : HasRecordForm (form_behind step behind) placed
+  pub body : get_or (bodies_from step count m ps) i []
+      ≡ record_spelling (form_behind step behind) (names_at m ps i) placed
+  pub form : HasRecordForm (form_behind step behind) (names_at m ps i) placed
 
 module _ (step : Option ℕ) where
-  pub nth : (count behind : ℕ) (us : List SealedUpdate) (ps : List PlacedUpdate) (i : ℕ)
-      → count + i ≡ behind → AllHaveFormFrom step count ps → brief_all us ≡ unplaced_all ps
-      → i < length us → Nth step count behind us ps i
-  nth count behind [] ps i is all same lt = absurd (omega (arith, lt))
-  nth count behind (u ∷ us) [] i is all same lt = absurd (cc same)
-  nth count behind (u ∷ us) (p ∷ ps) zero is all same lt =
+  pub nth : (count behind : ℕ) (m : Matrix) (us : List SealedUpdate) (ps : List PlacedUpdate) (i : ℕ)
+      → count + i ≡ behind → AllHaveFormFrom step count m ps → brief_all us ≡ unplaced_all ps
+      → i < length us → Nth step count behind m us ps i
+  nth count behind m [] ps i is all same lt = absurd (omega (arith, lt))
+  nth count behind m (u ∷ us) [] i is all same lt = absurd (cc same)
+  nth count behind m (u ∷ us) (p ∷ ps) zero is all same lt =
       let update_is : brief u ≡ p.update = cc same in
       let here : count ≡ behind = omega (arith, is) in
       record {
@@ -74,12 +83,14 @@ module _ (step : Option ℕ) where
         more = refl;
         placed = p;
         same = update_is;
-        body = ap (λ (n : ℕ). record_spelling (form_behind step n) p) here;
-        form = subst (λ (n : ℕ). HasRecordForm (form_behind step n) p) here all.0;
+        body = ap (λ (n : ℕ). record_spelling (form_behind step n) (file_names m.files) p) here;
+        form = subst (λ (n : ℕ). HasRecordForm (form_behind step n) (file_names m.files) p) here
+            all.0;
       }
-  nth count behind (u ∷ us) (p ∷ ps) (suc i) is all same lt =
+  nth count behind m (u ∷ us) (p ∷ ps) (suc i) is all same lt =
       let rest_is : brief_all us ≡ unplaced_all ps = cc same in
-      let n = nth (count + 1) behind us ps i (omega (arith, is)) all.1 rest_is (omega (arith, lt)) in
+      let n = nth (count + 1) behind (matrix_with m p) us ps i (omega (arith, is)) all.1 rest_is
+      (omega (arith, lt)) in
       let one : suc i + 1 ≡ suc (i + 1) = omega arith in
       record {
         update = n.update;
@@ -93,13 +104,14 @@ module _ (step : Option ℕ) where
         form = n.form;
       }
 
-  take-bodies : (count : ℕ) (ps : List PlacedUpdate) (i : ℕ)
-      → take i (bodies_from step count ps) ≡ bodies_from step count (take i ps)
-  take-bodies count ps zero = refl
-  take-bodies count [] (suc i) = refl
-  take-bodies count (p ∷ ps) (suc i) =
-      ap (λ (l : List (List ℕ)). record_spelling (form_behind step count) p ∷ l)
-      (take-bodies (count + 1) ps i)
+  take-bodies : (count : ℕ) (m : Matrix) (ps : List PlacedUpdate) (i : ℕ)
+      → take i (bodies_from step count m ps) ≡ bodies_from step count m (take i ps)
+  take-bodies count m ps zero = refl
+  take-bodies count m [] (suc i) = refl
+  take-bodies count m (p ∷ ps) (suc i) =
+      ap (λ (l : List (List ℕ)).
+      record_spelling (form_behind step count) (file_names m.files) p ∷ l)
+      (take-bodies (count + 1) (matrix_with m p) ps i)
 
 pub take-briefs : (us : List SealedUpdate) (ps : List PlacedUpdate) (i : ℕ)
     → brief_all us ≡ unplaced_all ps → brief_all (take i us) ≡ unplaced_all (take i ps)
@@ -200,7 +212,7 @@ module _ (k : Masters) (log : Log) (store : PlacedStore) (g : SealedHistory) (d 
   bodies = bodies_of log.step ps
 
   length-bodies : length bodies ≡ length ps
-  length-bodies = length-bodies_from log.step 0 ps
+  length-bodies = length-bodies_of log.step ps
 
   -- the journal of the first records has those of the history
   first_bodies : (is : IsLogOfFirst log d.book) → is.front ≡ bodies
@@ -221,8 +233,8 @@ module _ (k : Masters) (log : Log) (store : PlacedStore) (g : SealedHistory) (d 
     bodies_are = ap (λ (l : List (List ℕ)). get_or l i []) history.split
         ∙ get_or_append_left bodies history.rest [] i low_body
 
-    abbrev n : Nth log.step 0 i g.updates ps i
-    n = nth log.step 0 i g.updates ps i (omega arith) history.form briefs_same low
+    abbrev n : Nth log.step 0 i no_one g.updates ps i
+    n = nth log.step 0 i no_one g.updates ps i (omega arith) history.form briefs_same low
 
     -- the form in which the record is
     abbrev form : Form
@@ -231,12 +243,40 @@ module _ (k : Masters) (log : Log) (store : PlacedStore) (g : SealedHistory) (d 
     abbrev front : List SealedUpdate
     front = take i g.updates
 
-    begins : BeginsWith form (brief n.update) body
-    begins = subst (λ (u : Brief). BeginsWith form u body) (sym n.same) (record {
-      has_form = n.form.0;
+    -- the history of the first records, with their first blocks
+    abbrev recorded : PlacedHistory
+    recorded = record history.placed { updates = take i ps }
+
+    recorded_briefs : brief_of (with_first g front) ≡ unplaced recorded
+    recorded_briefs =
+        let updates = take-briefs g.updates ps i briefs_same in
+        λ j. record {
+          mode = (history.briefs j).mode;
+          first = (history.briefs j).first;
+          updates = updates j;
+        }
+
+    -- the catalogue shows the names of the files behind these records
+    same_names : file_names_shown c ≡ names_after (take i ps)
+    same_names =
+        names_are_shown k.surface c (with_first g front) so_far.stands
+        ∙ names_of_history (with_first g front) recorded recorded_briefs
+
+    -- the update as its record has it
+    abbrev as_spelled : SpelledBrief
+    as_spelled = spelled_brief (names_after (take i ps)) n.placed.update
+
+    begins : BeginsWith form as_spelled body
+    begins = record {
+      has_form = n.form.spelled.0;
       rest = firsts_spelling n.placed.firsts;
       bytes = next.1 ∙ bodies_are ∙ n.body;
-    })
+    }
+
+    named : brief n.update ≡ numbered_at c as_spelled
+    named =
+        n.same ∙ sym n.form.told
+        ∙ ap (λ (names : List (List ℕ)). numbered_brief names as_spelled) (sym same_names)
 
     longer : IsSealed (with_sealed (with_first g front) n.update)
     longer =
@@ -265,13 +305,13 @@ module _ (k : Masters) (log : Log) (store : PlacedStore) (g : SealedHistory) (d 
     -- what was found of whatever update the body may be is so of this one
     abbrev Follows : Catalogue → Bool → Type 0
     Follows later found =
-        (u : SealedUpdate) → BeginsWith form (brief u) body
+        (u : SealedUpdate) (b : SpelledBrief) → BeginsWith form b body → brief u ≡ numbered_at c b
         → HasTextIn k.surface store (length c.files) d.blobs u → IsTaken c (brief u)
         → FollowsUpdate k c gone u later found
 
     pub followed_more : (later : Catalogue) → Follows later true → FollowedTo k g (i + 1) later
     followed_more later follows =
-        let one = follows n.update begins text taken in
+        let one = follows n.update as_spelled begins named text taken in
         let stands = subst (λ (x : Catalogue).
         StandsFor k.surface x (with_sealed (with_first g front) n.update)) (sym one.1)
         (histories_go_on k.surface c (with_first g front) n.update so_far.stands taken.0 taken.1) in
@@ -286,16 +326,11 @@ module _ (k : Masters) (log : Log) (store : PlacedStore) (g : SealedHistory) (d 
           owners = subst (AllAreOwned k (is_gone_from g) (start_of (outer_of g))) (sym n.more) owners;
         }
 
-    -- the history of the first records, with their first blocks
-    abbrev recorded : PlacedHistory
-    recorded = record history.placed { updates = take i ps }
-
     pub found_false : (later : Catalogue) (place : ℕ) → Follows later false
         → IsLogOfFirst log d.book → place ≡ get_or log.offsets i 0
         → HasFalseUpdate k log.step g place
     found_false later place follows is at_gate =
-        let wrong = follows n.update begins text taken in
-        let updates = take-briefs g.updates ps i briefs_same in
+        let wrong = follows n.update as_spelled begins named text taken in
         record {
           front = front;
           next = n.update;
@@ -306,11 +341,7 @@ module _ (k : Masters) (log : Log) (store : PlacedStore) (g : SealedHistory) (d 
               (subst (λ (b : Bool). IsOwners k (outline c) b n.update → ⊥) gone_here wrong);
           placed = recorded;
           recorded = record {
-            briefs = λ j. record {
-              mode = (history.briefs j).mode;
-              first = (history.briefs j).first;
-              updates = updates j;
-            };
+            briefs = recorded_briefs;
             firsts = take-firsts k.surface
                 (empty_catalogue history.placed.mode history.placed.first) ps i
                 history.replayed.firsts;
@@ -318,7 +349,7 @@ module _ (k : Masters) (log : Log) (store : PlacedStore) (g : SealedHistory) (d 
           gate = at_gate ∙ ap (λ (l : List ℕ). get_or l i 0) is.offsets
               ∙ ap (λ (l : List (List ℕ)). get_or (gates_of log.step l) i 0) (first_bodies is)
               ∙ gates_at log.step bodies i low_body
-              ∙ ap (gate_behind log.step) (take-bodies log.step 0 ps i);
+              ∙ ap (gate_behind log.step) (take-bodies log.step 0 no_one ps i);
         }
 
   -- after the last record

@@ -10,6 +10,7 @@ use Rattle.ov_history.specs.Catalogue.{Catalogue}
 use Rattle.ov_history.specs.Placed.{IsReplayedTo, PlacedHistory, PlacedUpdate, cut, unplaced}
 use Rattle.ov_history.specs.Placed.{unplaced_all}
 use Rattle.ov_history.specs.Sealed.{KeepsBytes, SealedHistory, StandsFor, outer_all}
+use Rattle.ov_history.specs.Sent.{SealedUpdate}
 use Rattle.ov_history.specs.Texts.{BriefHistory, StandsBriefly, brief_all, brief_of, with_texts}
 use Rattle.ov_history.specs.Texts.{zeros_of}
 use Rattle.ov_history.proofs.Briefly.{stands_fully}
@@ -23,7 +24,6 @@ use Rattle.ov_images.specs.Images.{HasRecords, Keeps, KeepsAt, Keys}
 use Rattle.ov_images.specs.Records.{bodies_of}
 use Rattle.ov_images.proofs.Keeping.{records_are_kept}
 use Rattle.ov_placed.specs.Contents.{PlacedStore}
-use Rattle.ov_record.specs.Updates.{SealedUpdate}
 use Rattle.ov_store.specs.Opened.{BeginsWith, IsSafe, Serves, open_with, stored_by}
 use Rattle.ov_store.proofs.Said.{cut_out, said, told_by}
 

@@ -1,23 +1,31 @@
 -- An update of an open store, for each clause of its contract.
 use Rattle.std.proofs.Common.{◌≡◌, inl, ℕ, Bool, true, false, Ok, Err, refl, sym, ◌∙◌, ap, subst, ◌*◌}
+use Rattle.std.specs.Prelude.{option_map}
 use Rattle.ov_disk.specs.Disk.{Image, Only, Told}
 use Rattle.ov_disk.specs.Moments.{LeavesOnly}
 use Rattle.ov_disk.specs.Tells.{DiskTells}
 use Rattle.ov_disk.proofs.Runs.{started}
-use Rattle.ov_history.specs.Catalogue.{Catalogue}
+use Rattle.ov_history.specs.Briefs.{Brief, brief, text_of}
+use Rattle.ov_history.specs.Catalogue.{Catalogue, catalogue_after, file_names_shown}
+use Rattle.ov_history.specs.Rewrites.{rewrites_of, stored_after, without_gone}
+use Rattle.ov_history.specs.Sealed.{file_names_of}
+use Rattle.ov_history.specs.Sent.{numbered}
+use Rattle.ov_history.proofs.Numbering.{updates_are_numbered}
 use Rattle.ov_images.specs.Images.{KeepsEither, Keys}
 use Rattle.ov_journal.specs.Book.{contents_of}
 use Rattle.ov_journal.specs.Log.{HasSameRecords, Log, Stands, appended}
 use Rattle.ov_moves.specs.Placing.{LiesIn}
 use Rattle.ov_moves.specs.Runs.{LeavesAtMost}
+use Rattle.ov_state.specs.Plans.{IsTaken, numbered_at}
 use Rattle.ov_state.specs.declared.state.TheConstants.{WIDTH}
 use Rattle.ov_placed.specs.Contents.{HoldsFiles, HoldsTheSame, PlacedStore}
 use Rattle.ov_placed.specs.Updating.{IsPrepared, KeepsOrGoesOn, MakesUpdate}
 use Rattle.ov_placed.specs.declared.preparing.Prepared.{Prepared}
+use Rattle.ov_record.specs.Briefs.{brief as brief_as_spelled, text_of as text_as_spelled}
 use Rattle.ov_record.specs.Updates.{SealedUpdate}
 use Rattle.ov_updating.specs.Updating.{HasSameStep}
 use Rattle.ov_store.specs.Carrying.{IsCarriedOver, LeavesStep}
-use Rattle.ov_store.specs.Opened.{IsSafe, Opened}
+use Rattle.ov_store.specs.Opened.{IsSafe, Opened, stored_by}
 use Rattle.ov_store.specs.Updating.{LeavesEither, ServesMore, Updates}
 use Rattle.ov_store.specs.declared.fault.StoreFault.TheVariants.{Disk as DiskFailed}
 use Rattle.ov_store.proofs.Going.{catalogue_more, leaves_either, leaves_step, lies_in, safe_failed, safe_more}
@@ -28,7 +36,8 @@ use Rattle.ov_store.proofs.Looking.{store_of}
 module _ {D : Type 0} (tells : DiskTells D) (k : Keys) (d0 d1 : D) (f : Bool) (sound : f ≡ false)
     (log : Log) (old mid : PlacedStore) (same : HoldsTheSame old mid)
     (safe : IsSafe tells log old (store_of tells d0 k old f)) (u : SealedUpdate)
-    (prepared : Prepared WIDTH) (is : IsPrepared (64 * WIDTH) k.surface old.catalogue u prepared)
+    (prepared : Prepared WIDTH) (is : IsPrepared (64 * WIDTH) k.surface old.catalogue
+    (numbered (file_names_shown old.catalogue) u) prepared)
     (leaves : LeavesAtMost tells (KeepsOrGoesOn (64 * WIDTH) k.surface mid prepared) d0 d1) where
   abbrev before : Opened D
   before = store_of tells d0 k old f
@@ -38,9 +47,18 @@ module _ {D : Type 0} (tells : DiskTells D) (k : Keys) (d0 d1 : D) (f : Bool) (s
       ap (λ (b : Bool). store_of tells d0 k mid b) (sym sound)
       ∙ same_view tells k d0 f old mid same
 
-  prepared_is : IsPrepared (64 * WIDTH) k.surface mid.catalogue u prepared
+  prepared_is : IsPrepared (64 * WIDTH) k.surface mid.catalogue
+      (numbered (file_names_shown mid.catalogue) u) prepared
   prepared_is =
-      subst (λ (c : Catalogue). IsPrepared (64 * WIDTH) k.surface c u prepared) (sym same.catalogue) is
+      subst (λ (c : Catalogue).
+      IsPrepared (64 * WIDTH) k.surface c (numbered (file_names_shown c) u) prepared)
+      (sym same.catalogue) is
+
+  -- the update by number has the brief and the text that are spelled
+  both : (brief (numbered (file_names_shown mid.catalogue) u)
+      ≡ numbered_at mid.catalogue (brief_as_spelled u))
+      × (text_of (numbered (file_names_shown mid.catalogue) u) ≡ text_as_spelled u)
+  both = updates_are_numbered (file_names_shown mid.catalogue) u
 
   still_safe : IsSafe tells log mid (store_of tells d0 k mid false)
   still_safe =
@@ -84,10 +102,14 @@ module _ {D : Type 0} (tells : DiskTells D) (k : Keys) (d0 d1 : D) (f : Bool) (s
     pub answered : (epoch : ℕ) → epoch ≡ new.catalogue.epoch → Updates u before after (Ok epoch)
     answered epoch epoch_is =
         subst (λ (s : Opened D). Updates u s after (Ok epoch)) view (
-          prepared_is.change.taken,
-          catalogue_more tells k d0 d1 mid log still_safe u prepared prepared_is leaves new made,
+          subst (IsTaken mid.catalogue) both.0 prepared_is.change.taken,
+          catalogue_more tells k d0 d1 mid log still_safe u prepared prepared_is leaves new made
+              ∙ ap (λ (b : Brief). catalogue_after k.surface mid.catalogue b) both.0,
           stored_more tells k d0 d1 mid log still_safe u prepared prepared_is leaves new made
-              (tells.reads d0) (tells.reads d1) refl refl,
+              (tells.reads d0) (tells.reads d1) refl refl
+              ∙ (λ j. option_map (λ stored. stored_after k.surface
+              (rewrites_of mid.catalogue (both.0 j)) (both.1 j) (without_gone stored (both.0 j)))
+              (stored_by (tells.reads d0) mid)),
           epoch_is,
         )
 
@@ -104,7 +126,7 @@ module _ {D : Type 0} (tells : DiskTells D) (k : Keys) (d0 d1 : D) (f : Bool) (s
     pub faulted : Updates u before after_fault (Err DiskFailed)
     faulted =
         subst (λ (s : Opened D). Updates u s after_fault (Err DiskFailed)) view (
-          prepared_is.change.taken,
+          subst (IsTaken mid.catalogue) both.0 prepared_is.change.taken,
           kept.catalogue,
           ap (λ (s : Opened D). s.stored) (same_view tells k d1 true mid new kept)
               ∙ stored_failed tells k d0 d1 mid log still_safe u prepared prepared_is leaves
@@ -117,8 +139,9 @@ module _ {D : Type 0} (tells : DiskTells D) (k : Keys) (d0 d1 : D) (f : Bool) (s
 pub not_begun : {D : Type 0} (tells : DiskTells D) (u : SealedUpdate) (s later : Opened D)
     → later.disk ≡ s.disk → LeavesEither tells u s later
 not_begun {D} tells u s later same g serves sound i read =
-    subst (λ (d : D). LeavesOnly tells s.disk d (KeepsEither s.keys g u)) (sym same)
-    (started tells s.disk (KeepsEither s.keys g u)
+    let v = numbered (file_names_of g) u in
+    subst (λ (d : D). LeavesOnly tells s.disk d (KeepsEither s.keys g v)) (sym same)
+    (started tells s.disk (KeepsEither s.keys g v)
     (λ x left. inl (serves.disk sound i read x left)))
 
 pub step_not_begun : {D : Type 0} (tells : DiskTells D) (s later : Opened D)

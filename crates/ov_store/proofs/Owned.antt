@@ -4,21 +4,22 @@ use Rattle.std.proofs.Common.{◌≡◌, ℕ, ◌+◌, Bool, true, false, List, 
 use Rattle.std.proofs.Common.{arith, length-append}
 use Rattle.std.specs.Prelude.{Some, not, option_map}
 use Rattle.std.proofs.lemmas.List.{length-replicate}
-use Rattle.ov_record.specs.Updates.{SealedUpdate, SealedEnrol, SealedCreate, SealedGrant, SealedRevoke}
-use Rattle.ov_record.specs.Updates.{SealedRemove}
 use Rattle.ov_history.specs.Briefs.{brief, outer}
 use Rattle.ov_history.specs.Fading.{AgreeButGone, faded_all, faded_if, faded_of, is_gone_from, made_by}
 use Rattle.ov_history.specs.FadingLaws.{IsRight}
-use Rattle.ov_history.specs.History.{Created, File, History, Matrix, Update, changed, delisted, listed}
-use Rattle.ov_history.specs.History.{matrix_of, start_of, with_update}
+use Rattle.ov_history.specs.History.{Created, File, History, Matrix, Replaced, Update, changed}
+use Rattle.ov_history.specs.History.{delisted, file_at, listed, matrix_of, resized, start_of}
+use Rattle.ov_history.specs.History.{with_update}
 use Rattle.ov_history.specs.Layers.{Layers, layers_of}
 use Rattle.ov_history.specs.Lists.{is_file}
 use Rattle.ov_history.specs.Masters.{Masters}
-use Rattle.ov_history.specs.Places.{gone}
+use Rattle.ov_history.specs.Places.{change_at, gone}
 use Rattle.ov_history.specs.Plain.{PlainHistory, PlainUpdate, history_of, measured, measured_all}
 use Rattle.ov_history.specs.Refusals.{AllAccepted, refusal_of}
 use Rattle.ov_history.specs.Sealed.{AllFit, IsSealed, SealedHistory, outer_all, outer_of}
 use Rattle.ov_history.specs.Sealing.{sealed, sealed_from, sealed_update}
+use Rattle.ov_history.specs.Sent.{SealedUpdate, SealedEnrol, SealedCreate, SealedGrant, SealedRevoke}
+use Rattle.ov_history.specs.Sent.{SealedRemove, SealedReplace}
 use Rattle.ov_history.proofs.ChangeLaws.{length-change_at}
 use Rattle.ov_history.proofs.MatrixLaws.{files_of-layers_of}
 use Rattle.ov_history.proofs.Pushing.{matrix_of-push}
@@ -35,6 +36,8 @@ outer_faded true (SealedCreate file list tokens tag text) =
 outer_faded true (SealedGrant user file token) = refl
 outer_faded true (SealedRevoke user file) = refl
 outer_faded true (SealedRemove file) = refl
+outer_faded true (SealedReplace file tokens tag text) =
+    ap (λ (size : ℕ). Replaced file size) (length-replicate (length text) 0)
 
 made_faded : (b : Bool) (u : SealedUpdate) → made_by (faded_if b u) ≡ made_by u
 made_faded false u = refl
@@ -43,6 +46,7 @@ made_faded true (SealedCreate file list tokens tag text) = refl
 made_faded true (SealedGrant user file token) = refl
 made_faded true (SealedRevoke user file) = refl
 made_faded true (SealedRemove file) = refl
+made_faded true (SealedReplace file tokens tag text) = refl
 
 outer_all-faded : (is_gone : ℕ → Bool) (number : ℕ) (updates : List SealedUpdate)
     → outer_all (faded_all is_gone number updates) ≡ outer_all updates
@@ -75,6 +79,13 @@ more_files m (SealedGrant user file token) =
 more_files m (SealedRevoke user file) =
     omega (arith, length-change_at (option_map (delisted user)) file m.files)
 more_files m (SealedRemove file) = omega (arith, length-change_at gone file m.files)
+more_files m (SealedReplace file tokens tag text) =
+    let f : File = resized (length text) (file_at m file) in
+    omega (
+      arith,
+      length-append (change_at gone file m.files) (Some f ∷ []),
+      length-change_at gone file m.files,
+    )
 
 -- how many numbers were given out
 abbrev count : History → ℕ

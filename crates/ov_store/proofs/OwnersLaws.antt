@@ -1,8 +1,8 @@
 -- When an update is as its owner seals it.
 use Rattle.std.proofs.Common.{◌≡◌, ℕ, ◌<◌, ◌≤◌, Bool, true, false, List, [], ◌∷◌, length, length-append, refl, sym, ◌∙◌, ap, subst, arith}
-use Rattle.std.specs.Prelude.{Option, Some, None, is_some, replicate}
+use Rattle.std.specs.Prelude.{IfOk, IfSome, Option, Some, None, is_some, replicate, Result, Ok, Err}
 use Rattle.std.proofs.lemmas.Bool.{false≢true}
-use Rattle.ov_history.specs.Places.{living_at}
+use Rattle.ov_history.specs.Places.{IsNumber, living_at, place_of}
 use Rattle.ov_base.specs.Sets.{has}
 use Rattle.ov_base.proofs.Tests.{false_of_not, true_of_not}
 use Rattle.ov_base.specs.declared.limits.TheConstants.{MAX_LAYER_NODES}
@@ -13,21 +13,25 @@ use Rattle.ov_graph.specs.Contents.{plan_of}
 use Rattle.ov_base_layer.specs.Seals.{access_token, cover_tokens}
 use Rattle.ov_surface.specs.Coats.{base_text}
 use Rattle.ov_surface.specs.Tags.{tag_of_file}
-use Rattle.ov_record.specs.Updates.{SealedUpdate, SealedEnrol, SealedCreate, SealedGrant, SealedRevoke}
-use Rattle.ov_record.specs.Updates.{SealedRemove}
-use Rattle.ov_history.specs.Briefs.{BriefCreate, BriefGrant}
-use Rattle.ov_history.specs.Catalogue.{Catalogue, Filed, outline}
+use Rattle.ov_history.specs.Briefs.{BriefCreate, BriefGrant, BriefReplace}
+use Rattle.ov_history.specs.Catalogue.{Catalogue, Filed, file_names_shown, filed_at, outline}
+use Rattle.ov_history.specs.Catalogue.{place_of_file}
 use Rattle.ov_history.specs.Fading.{faded_if, no_tag}
-use Rattle.ov_history.specs.Layers.{Layers, appended, holders, node_for, node_of, root_of, with_set}
+use Rattle.ov_history.specs.Layers.{Layers, appended, holders, list_at, list_in, node_for, node_of}
+use Rattle.ov_history.specs.Layers.{root_of, with_set}
 use Rattle.ov_history.specs.Masters.{Masters, access_key}
 use Rattle.ov_history.specs.Plain.{PlainEnrol, PlainCreate, PlainGrant, PlainRevoke}
-use Rattle.ov_history.specs.Plain.{PlainRemove}
-use Rattle.ov_history.specs.Sealing.{sealed_update, token_unless}
+use Rattle.ov_history.specs.Plain.{PlainRemove, PlainReplace}
+use Rattle.ov_history.specs.Sealing.{sealed_tag, sealed_text, sealed_tokens, sealed_update}
+use Rattle.ov_history.specs.Sealing.{token_unless}
+use Rattle.ov_history.specs.Sent.{SealedUpdate, SealedEnrol, SealedCreate, SealedGrant, SealedRevoke}
+use Rattle.ov_history.specs.Sent.{SealedRemove, SealedReplace}
 use Rattle.ov_history.proofs.Outlining.{node-shown}
 use Rattle.ov_history.proofs.SoundTests.{accepted}
 use Rattle.ov_state.specs.Plans.{IsTaken}
 use Rattle.ov_state.proofs.FilesByNumber.{filed-at}
-use Rattle.ov_store.specs.Owners.{IsOwners}
+use Rattle.ov_state.proofs.ListsLeft.{list_in-there}
+use Rattle.ov_store.specs.Owners.{HasRoomFor, IsOwners, TellsOwners}
 
 -- ---- enrolments, revocations and removals always are
 
@@ -60,6 +64,7 @@ grant_whole k y true user file token (PlainCreate name list bytes, is) = absurd 
 grant_whole k y true user file token (PlainGrant u f, is) = (PlainGrant u f, is)
 grant_whole k y true user file token (PlainRevoke u f, is) = absurd (cc is)
 grant_whole k y true user file token (PlainRemove f, is) = absurd (cc is)
+grant_whole k y true user file token (PlainReplace f bytes, is) = absurd (cc is)
 
 -- ---- grants
 
@@ -99,6 +104,7 @@ module _ (k : Masters) (c : Catalogue) (user file : ℕ) where
     whole_others apart (PlainCreate name list bytes, is) = absurd (cc is)
     whole_others apart (PlainRevoke u f, is) = absurd (cc is)
     whole_others apart (PlainRemove f, is) = absurd (cc is)
+    whole_others apart (PlainReplace f bytes, is) = absurd (cc is)
     whole_others apart (PlainGrant u f, is) =
         let one : user ≡ u = cc is in
         let other : file ≡ f = cc is in
@@ -167,6 +173,7 @@ module _ (k : Masters) (c : Catalogue) (name : List ℕ) (list : ℕ) (tokens : 
   gone_others apart (PlainGrant u f, is) = absurd (cc is)
   gone_others apart (PlainRevoke u f, is) = absurd (cc is)
   gone_others apart (PlainRemove f, is) = absurd (cc is)
+  gone_others apart (PlainReplace f bytes, is) = absurd (cc is)
   gone_others apart (PlainCreate n l p, is) =
       let el : list ≡ l = cc is in
       let et : tokens ≡ cover_tokens Derive k.base (plan_of c.base.sets l) = cc is in
@@ -178,6 +185,7 @@ module _ (k : Masters) (c : Catalogue) (name : List ℕ) (list : ℕ) (tokens : 
   creation_others apart (PlainEnrol n, is) = absurd (cc is)
   creation_others apart (PlainGrant u f, is) = absurd (cc is)
   creation_others apart (PlainRemove f, is) = absurd (cc is)
+  creation_others apart (PlainReplace f bytes, is) = absurd (cc is)
   creation_others apart (PlainRevoke u f, is) = absurd (cc is)
   creation_others apart (PlainCreate n l p, is) =
       let el : list ≡ l = cc is in
@@ -201,11 +209,140 @@ module _ (k : Masters) (c : Catalogue) (name : List ℕ) (list : ℕ) (tokens : 
   tokens_others false apart owners = creation_others (λ et eg. apart et) owners
 
   -- there is room for the list's node
-  pub has_room : IsTaken c (BriefCreate name list tokens tag (length text))
-      → length c.base.sets ≡ MAX_LAYER_NODES → (plan_of c.base.sets list).fresh ≡ true → ⊥
+  pub has_room : IsTaken c (BriefCreate name list tokens tag (length text)) → HasRoomFor c list
   has_room taken full fresh =
       let few : length (with_set c.base.sets list) ≤ MAX_LAYER_NODES =
       (accepted c (BriefCreate name list tokens tag (length text)) taken.0).1.base in
       let more : length (appended true c.base.sets list) ≤ MAX_LAYER_NODES =
       subst (λ (b : Bool). length (appended b c.base.sets list) ≤ MAX_LAYER_NODES) fresh few in
       omega (arith, more, full, length-append c.base.sets (list ∷ []))
+
+-- what is told of a new file is told of a creation
+pub tells_creation : {E : Type 0} (base : List ℕ) (c : Catalogue) (gone : Bool) (name : List ℕ)
+    (list : ℕ) (tokens : List Token) (tag text : List ℕ) (found : Result Bool E)
+    → IfOk found (λ yes. (k : Masters) (n : List ℕ) → k.base ≡ base → HasRoomFor c list
+    → TellsOwners k (outline c) gone (SealedCreate n list tokens tag text) yes)
+    → IfOk found (λ yes. (k : Masters) → k.base ≡ base
+    → IsTaken c (BriefCreate name list tokens tag (length text))
+    → TellsOwners k (outline c) gone (SealedCreate name list tokens tag text) yes)
+tells_creation base c gone name list tokens tag text (Ok yes) tells = λ k same taken.
+    tells k name same (has_room k c name list tokens tag text taken)
+tells_creation base c gone name list tokens tag text (Err why) none = none
+
+-- ---- replacements
+
+-- The file of a replacement is a new one for the list of the old one.
+module _ (k : Masters) (y : Layers) (name : List ℕ) (list file : ℕ) (tokens : List Token)
+    (tag text : List ℕ) (is_list : list ≡ list_in y file) where
+  abbrev now : ℕ
+  now = list_in y file
+
+  replaced_of : (gone : Bool) → IsOwners k y gone (SealedCreate name list tokens tag text)
+      → IsOwners k y gone (SealedReplace file tokens tag text)
+  replaced_of false (PlainEnrol n, is) = absurd (cc is)
+  replaced_of false (PlainGrant u f, is) = absurd (cc is)
+  replaced_of false (PlainRevoke u f, is) = absurd (cc is)
+  replaced_of false (PlainRemove f, is) = absurd (cc is)
+  replaced_of false (PlainReplace f p, is) = absurd (cc is)
+  replaced_of false (PlainCreate n l p, is) =
+      let el : list ≡ l = cc is in
+      let et : tokens ≡ sealed_tokens k y l = cc is in
+      let eg : tag ≡ sealed_tag k y l p = cc is in
+      let eb : text ≡ sealed_text k y l p = cc is in
+      let at : l ≡ now = sym el ∙ is_list in
+      let t = et ∙ ap (λ (x : ℕ). sealed_tokens k y x) at in
+      let g = eg ∙ ap (λ (x : ℕ). sealed_tag k y x p) at in
+      let b = eb ∙ ap (λ (x : ℕ). sealed_text k y x p) at in
+      (PlainReplace file p, λ j. SealedReplace file (t j) (g j) (b j))
+  replaced_of true (PlainEnrol n, is) = absurd (cc is)
+  replaced_of true (PlainGrant u f, is) = absurd (cc is)
+  replaced_of true (PlainRevoke u f, is) = absurd (cc is)
+  replaced_of true (PlainRemove f, is) = absurd (cc is)
+  replaced_of true (PlainReplace f p, is) = absurd (cc is)
+  replaced_of true (PlainCreate n l p, is) =
+      let el : list ≡ l = cc is in
+      let et : tokens ≡ sealed_tokens k y l = cc is in
+      let eb : replicate (length text) 0 ≡ replicate (length (sealed_text k y l p)) 0 = cc is in
+      let at : l ≡ now = sym el ∙ is_list in
+      let t = et ∙ ap (λ (x : ℕ). sealed_tokens k y x) at in
+      let b = eb ∙ ap (λ (x : ℕ). replicate (length (sealed_text k y x p)) 0) at in
+      (PlainReplace file p, λ j. SealedReplace file (t j) no_tag (b j))
+
+  created_of : (gone : Bool) → IsOwners k y gone (SealedReplace file tokens tag text)
+      → IsOwners k y gone (SealedCreate name list tokens tag text)
+  created_of false (PlainEnrol n, is) = absurd (cc is)
+  created_of false (PlainGrant u f, is) = absurd (cc is)
+  created_of false (PlainRevoke u f, is) = absurd (cc is)
+  created_of false (PlainRemove f, is) = absurd (cc is)
+  created_of false (PlainCreate n l p, is) = absurd (cc is)
+  created_of false (PlainReplace f p, is) =
+      let ef : file ≡ f = cc is in
+      let et : tokens ≡ sealed_tokens k y (list_in y f) = cc is in
+      let eg : tag ≡ sealed_tag k y (list_in y f) p = cc is in
+      let eb : text ≡ sealed_text k y (list_in y f) p = cc is in
+      let at : list_in y f ≡ list = ap (list_in y) (sym ef) ∙ sym is_list in
+      let t = et ∙ ap (λ (x : ℕ). sealed_tokens k y x) at in
+      let g = eg ∙ ap (λ (x : ℕ). sealed_tag k y x p) at in
+      let b = eb ∙ ap (λ (x : ℕ). sealed_text k y x p) at in
+      (PlainCreate name list p, λ j. SealedCreate name list (t j) (g j) (b j))
+  created_of true (PlainEnrol n, is) = absurd (cc is)
+  created_of true (PlainGrant u f, is) = absurd (cc is)
+  created_of true (PlainRevoke u f, is) = absurd (cc is)
+  created_of true (PlainRemove f, is) = absurd (cc is)
+  created_of true (PlainCreate n l p, is) = absurd (cc is)
+  created_of true (PlainReplace f p, is) =
+      let ef : file ≡ f = cc is in
+      let et : tokens ≡ sealed_tokens k y (list_in y f) = cc is in
+      let eb : replicate (length text) 0
+      ≡ replicate (length (sealed_text k y (list_in y f) p)) 0 = cc is in
+      let at : list_in y f ≡ list = ap (list_in y) (sym ef) ∙ sym is_list in
+      let t = et ∙ ap (λ (x : ℕ). sealed_tokens k y x) at in
+      let b = eb ∙ ap (λ (x : ℕ). replicate (length (sealed_text k y x p)) 0) at in
+      (PlainCreate name list p, λ j. SealedCreate name list (t j) no_tag (b j))
+
+  -- so what is told of the one is told of the other
+  tells_replaced : (gone found : Bool)
+      → TellsOwners k y gone (SealedCreate name list tokens tag text) found
+      → TellsOwners k y gone (SealedReplace file tokens tag text) found
+  tells_replaced gone true owners = replaced_of gone owners
+  tells_replaced gone false others = λ owners. others (created_of gone owners)
+
+-- there is room for the node of the list that the file has
+room_replaced : (c : Catalogue) (file list : ℕ) (tokens : List Token) (tag : List ℕ) (size : ℕ)
+    → list ≡ list_in (outline c) file → IsTaken c (BriefReplace file tokens tag size)
+    → HasRoomFor c list
+room_replaced c file list tokens tag size is taken full fresh =
+    let few : length (with_set c.base.sets (list_in (outline c) file)) ≤ MAX_LAYER_NODES =
+    (accepted c (BriefReplace file tokens tag size) taken.0).1.base in
+    let here : length (with_set c.base.sets list) ≤ MAX_LAYER_NODES =
+    subst (λ (l : ℕ). length (with_set c.base.sets l) ≤ MAX_LAYER_NODES) (sym is) few in
+    let more : length (appended true c.base.sets list) ≤ MAX_LAYER_NODES =
+    subst (λ (b : Bool). length (appended b c.base.sets list) ≤ MAX_LAYER_NODES) fresh here in
+    omega (arith, more, full, length-append c.base.sets (list ∷ []))
+
+-- the list of a file that is found by its name
+pub list_found : (c : Catalogue) (name : List ℕ) (found : Option ℕ) (file list : ℕ)
+    → IsNumber (file_names_shown c) name found
+    → IfSome found (λ n. is_some (living_at c.files n) ≡ true) → found ≡ Some file
+    → list ≡ list_at (outline c) (place_of_file (filed_at c file))
+    → list ≡ list_in (outline c) (place_of name (file_names_shown c))
+list_found c name None file list number there is list_is = absurd (cc is)
+list_found c name (Some n) file list number there is list_is =
+    let same : n ≡ file = cc is in
+    list_is
+    ∙ ap (λ (x : ℕ). list_at (outline c) (place_of_file (filed_at c x))) (sym same)
+    ∙ sym (list_in-there c n there) ∙ ap (list_in (outline c)) number.0
+
+-- what is told of a new file for the list of a file is told of its replacement
+pub tells_replacement : {E : Type 0} (base : List ℕ) (c : Catalogue) (gone : Bool)
+    (file list : ℕ) (tokens : List Token) (tag text : List ℕ) (found : Result Bool E)
+    → list ≡ list_in (outline c) file
+    → IfOk found (λ yes. (k : Masters) (n : List ℕ) → k.base ≡ base → HasRoomFor c list
+    → TellsOwners k (outline c) gone (SealedCreate n list tokens tag text) yes)
+    → IfOk found (λ yes. (k : Masters) → k.base ≡ base
+    → IsTaken c (BriefReplace file tokens tag (length text))
+    → TellsOwners k (outline c) gone (SealedReplace file tokens tag text) yes)
+tells_replacement base c gone file list tokens tag text (Ok yes) is tells = λ k same taken.
+    tells_replaced k (outline c) [] list file tokens tag text is gone yes
+    (tells k [] same (room_replaced c file list tokens tag (length text) is taken))
+tells_replacement base c gone file list tokens tag text (Err why) is none = none

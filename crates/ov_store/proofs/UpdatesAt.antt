@@ -1,25 +1,24 @@
 -- The update that stands in a record is that of each history for which a store stands.
-use Rattle.std.proofs.Common.{◌≡◌, ◌<◌, ◌≤◌, ℕ, Bool, List, [], ◌∷◌, length, get_or, refl, sym, ◌∙◌, ap, subst, arith}
+use Rattle.std.proofs.Common.{◌≡◌, ◌<◌, ◌≤◌, ℕ, Bool, List, [], length, get_or, refl, sym, ◌∙◌, ap, subst, arith}
 use Rattle.std.proofs.Common.{take}
 use Rattle.std.proofs.lemmas.List.{get_or_append_left}
 use Rattle.std.specs.Prelude.{Err, Option, Result, Some, slice_index}
 use Rattle.ov_disk.specs.Disk.{Image, Told}
 use Rattle.ov_disk.specs.Tells.{DiskTells}
 use Rattle.ov_record.specs.Briefs.{Brief as SpelledBrief}
-use Rattle.ov_history.specs.Briefs.{Brief, brief, numbered_brief, outer, spelled_brief}
-use Rattle.ov_history.specs.History.{Matrix, changed, changed_all, no_one}
-use Rattle.ov_history.specs.Lists.{file_names}
-use Rattle.ov_history.specs.Sent.{SealedUpdate}
+use Rattle.ov_history.specs.Briefs.{numbered_brief, spelled_brief}
+use Rattle.ov_history.specs.History.{no_one}
 use Rattle.ov_history.specs.Placed.{PlacedUpdate, unplaced_all}
 use Rattle.ov_history.specs.Texts.{BriefHistory, brief_all}
-use Rattle.ov_history.specs.Sealed.{SealedHistory, file_names_of, outer_all}
+use Rattle.ov_history.specs.Sealed.{SealedHistory, file_names_of}
 use Rattle.ov_images.specs.Damage.{BeginsWith}
 use Rattle.ov_images.specs.Images.{Keys}
-use Rattle.ov_images.specs.Records.{bodies_of, form_behind, matrix_after, names_after}
-use Rattle.ov_images.proofs.Damage.{one_front}
-use Rattle.ov_images.proofs.Records.{firsts_spelling, length-bodies_from, room_behind}
+use Rattle.ov_images.specs.Records.{bodies_of, form_behind, names_after}
+use Rattle.ov_images.proofs.Names.{names_of_history}
+use Rattle.ov_images.proofs.Records.{firsts_spelling, length-bodies_of, room_behind}
 use Rattle.ov_journal.specs.Book.{contents_of}
 use Rattle.ov_journal.specs.Log.{Log}
+use Rattle.ov_placed.proofs.Spots.{one_front}
 use Rattle.ov_placed.specs.Contents.{PlacedStore}
 use Rattle.ov_record.specs.declared.brief.Brief.{Brief as Written}
 use Rattle.ov_state.specs.declared.state.TheConstants.{WIDTH}
@@ -33,18 +32,6 @@ use Rattle.ov_store.proofs.Checked.{history_read}
 use Rattle.ov_store.proofs.Checking.{Nth, nth, take-briefs}
 use Rattle.ov_store.proofs.Histories.{same_length}
 use Rattle.ov_store.proofs.Looking.{store_of}
-
--- updates make the same matrix whether they are known with their first blocks or with their texts
-matrix_same : (m : Matrix) (us : List SealedUpdate) (ps : List PlacedUpdate)
-    → brief_all us ≡ unplaced_all ps → matrix_after m ps ≡ changed_all m (outer_all us)
-matrix_same m [] [] same = refl
-matrix_same m [] (p ∷ ps) same = absurd (cc same)
-matrix_same m (u ∷ us) [] same = absurd (cc same)
-matrix_same m (u ∷ us) (p ∷ ps) same =
-    let head : brief u ≡ p.update = cc same in
-    let rest : brief_all us ≡ unplaced_all ps = cc same in
-    ap (λ (b : Brief). matrix_after (changed m (outer b)) ps) (sym head)
-    ∙ matrix_same (changed m (outer (brief u))) us ps rest
 
 module _ {D : Type 0} (tells : DiskTells D) (d : D) (k : Keys) (store : PlacedStore) (f : Bool)
     (log : Log) (safe : IsSafe tells log store (store_of tells d k store f)) where
@@ -67,18 +54,32 @@ module _ {D : Type 0} (tells : DiskTells D) (d : D) (k : Keys) (store : PlacedSt
     abbrev names : List (List ℕ)
     names = names_after (take n ps)
 
-    one : Nth log.step 0 n g.updates ps n
+    updates_same : brief_all g.updates ≡ unplaced_all ps
+    updates_same = ap (λ (b : BriefHistory). b.updates) history.briefs
+
+    one : Nth log.step 0 n no_one g.updates ps n
     one =
-        nth log.step 0 n g.updates ps n (omega arith) history.form
-        (ap (λ (b : BriefHistory). b.updates) history.briefs)
+        nth log.step 0 n no_one g.updates ps n (omega arith) history.form updates_same
         (omega (arith, low, history.many, same_length g history.placed history.briefs))
+
+    -- the names are those of the history of the updates before it
+    names_same : file_names_of (with_first g (take n g.updates)) ≡ names
+    names_same =
+        names_of_history (with_first g (take n g.updates))
+        (record history.placed { updates = take n ps })
+        (let updates = take-briefs g.updates ps n updates_same in
+        λ j. record {
+          mode = (history.briefs j).mode;
+          first = (history.briefs j).first;
+          updates = updates j;
+        })
 
     -- the body of the record begins with the update, as it is spelled with these names
     pub first_front : BeginsWith (form_behind log.step n) (spelled_brief names one.placed.update)
         (get_or (contents_of i.book).records.bodies n [])
     first_front =
         let low_body : n < length (bodies_of log.step ps) =
-        omega (arith, low, length-bodies_from log.step 0 ps, history.many) in
+        omega (arith, low, length-bodies_of log.step ps, history.many) in
         let body : get_or (contents_of i.book).records.bodies n []
         ≡ get_or (bodies_of log.step ps) n [] =
         ap (λ (l : List (List ℕ)). get_or l n []) history.split
@@ -95,17 +96,14 @@ module _ {D : Type 0} (tells : DiskTells D) (d : D) (k : Keys) (store : PlacedSt
         → IsUpdateAt g n b
     front_at b begins =
         let same : b ≡ spelled_brief names one.placed.update =
-        one_front (form_behind log.step n) (room_behind log.step n) b (spelled_brief names one.placed.update)
-        (get_or (contents_of i.book).records.bodies n []) begins first_front in
-        let at_then : names ≡ file_names_of (with_first g (take n g.updates)) =
-        ap (λ (m : Matrix). file_names m.files)
-        (matrix_same no_one (take n g.updates) (take n ps)
-        (take-briefs g.updates ps n (ap (λ (b : BriefHistory). b.updates) history.briefs))) in record {
+        one_front (form_behind log.step n) (room_behind log.step n) b
+        (spelled_brief names one.placed.update) (get_or (contents_of i.book).records.bodies n [])
+        begins first_front in record {
           update = one.update;
           rest = one.rest;
           split = one.split;
           more = one.more;
-          told = ap (λ (these : List (List ℕ)). numbered_brief these b) (sym at_then)
+          told = ap (λ (these : List (List ℕ)). numbered_brief these b) names_same
               ∙ ap (λ (u : SpelledBrief). numbered_brief names u) same
               ∙ one.form.told ∙ sym one.same;
         }

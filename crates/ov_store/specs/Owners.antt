@@ -2,8 +2,9 @@
 -- at the end nobody can tell the bytes, and so not the tag.
 use Rattle.std.specs.Prelude.{◌≡◌, ℕ, Bool, true, false, not, List, [], ◌∷◌, ◌++◌, length}
 use Rattle.std.specs.Prelude.{Option, Some, None, IfSome, is_some, option_map}
+use Rattle.ov_base.specs.declared.limits.TheConstants.{MAX_LAYER_NODES}
+use Rattle.ov_graph.specs.Contents.{plan_of}
 use Rattle.ov_surface.specs.Coats.{stored_under}
-use Rattle.ov_record.specs.Updates.{SealedUpdate}
 use Rattle.ov_history.specs.History.{History, start_of, with_update}
 use Rattle.ov_history.specs.Plain.{PlainUpdate}
 use Rattle.ov_history.specs.Layers.{Layers, layers_of}
@@ -15,6 +16,7 @@ use Rattle.ov_history.specs.Rewrites.{surface_key}
 use Rattle.ov_history.specs.Masters.{Masters}
 use Rattle.ov_history.specs.Sealed.{KeepsBytes, SealedHistory, outer_of}
 use Rattle.ov_history.specs.Sealing.{sealed_update}
+use Rattle.ov_history.specs.Sent.{SealedUpdate}
 use Rattle.ov_history.specs.Fading.{faded_if, is_gone_from}
 use Rattle.ov_history.specs.Texts.{brief_of}
 use Rattle.ov_disk.specs.Disk.{Image}
@@ -29,7 +31,7 @@ abbrev pub masters : List ℕ → List ℕ → Masters
 masters base surface = record { base = base; surface = surface }
 
 -- The update is, in these layers, what its owner sends for some plain update. Where the file that it
--- creates is gone, its tag and its bytes may be any.
+-- makes is gone, its tag and its bytes may be any.
 abbrev pub IsOwners : Masters → Layers → Bool → SealedUpdate → Type 0
 IsOwners k y gone u =
     (plain : PlainUpdate) × (faded_if gone u ≡ faded_if gone (sealed_update k y plain))
@@ -38,6 +40,11 @@ IsOwners k y gone u =
 abbrev pub TellsOwners : Masters → Layers → Bool → SealedUpdate → Bool → Type 0
 TellsOwners k y gone u true = IsOwners k y gone u
 TellsOwners k y gone u false = IsOwners k y gone u → ⊥
+
+-- there is room for a base node of this list, where it has none
+abbrev pub HasRoomFor : Catalogue → ℕ → Type 0
+HasRoomFor c list =
+    length c.base.sets ≡ MAX_LAYER_NODES → (plan_of c.base.sets list).fresh ≡ true → ⊥
 
 -- each of these updates is, at its place behind this history, what its owner sends, but for the tags
 -- and the bytes of the files of which the test says that they are gone
@@ -112,7 +119,7 @@ abbrev pub IsTextIn : List ℕ → PlacedStore → ℕ → List ℕ → List ℕ
 IsTextIn master store file blobs text =
     IfSome (text_in master store file blobs) (λ there. there ≡ text)
 
--- the update creates no file, or its text is that of the file of this number, or this file is gone
+-- the update makes no file, or its text is that of the file of this number, or this file is gone
 abbrev pub HasTextIn : List ℕ → PlacedStore → ℕ → List ℕ → SealedUpdate → Type 0
 HasTextIn master store file blobs u = IfSome (text_of u) (IsTextIn master store file blobs)
 

@@ -7,8 +7,8 @@
 //! format each is, and no file's bytes. [`Store::update`] prepares an update, writes the new bytes
 //! of files into extents that were free, and then its record, and only then makes it, which can't
 //! fail: so what was answered with `Ok` outlasts each later stop, and a stop at any moment leaves
-//! the history from before or it with this update. The blocks of a file that an update removes are
-//! free for later ones once its record is on the disk. [`Store::chunk`] reads stored bytes,
+//! the history from before or it with this update. The blocks of a file that an update removes or
+//! replaces are free for later ones once its record is on the disk. [`Store::chunk`] reads stored bytes,
 //! [`Store::check`] looks whether all updates are as their owner seals them, for which it reads
 //! each file that is there once, and [`Store::close`] gives the disk back. [`Store::open`] opens a
 //! store that is there, in whichever mode, and begins none; [`Store::brief`] reads one update again.

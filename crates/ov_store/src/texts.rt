@@ -6,17 +6,20 @@ ghost use Rattle.ov_blocks.specs.Extents.{IsInside};
 ghost use Rattle.ov_disk.specs.Calls.{IsDiskCall};
 ghost use Rattle.ov_disk.specs.Disk.{Told};
 ghost use Rattle.ov_disk.specs.Moments.{IsUntouched};
-ghost use Rattle.ov_history.specs.Briefs.{brief};
+ghost use Rattle.ov_history.specs.Briefs.{BriefReplace, brief, numbered_brief};
 ghost use Rattle.ov_history.specs.Fading.{faded_if};
 ghost use Rattle.ov_history.specs.Placed.{AllEndWithin, EndsWithin, bytes_at};
+ghost use Rattle.ov_history.specs.Places.{place_of};
 ghost use Rattle.ov_history.specs.Rewrites.{surface_key};
+ghost use Rattle.ov_history.specs.Sent.{SealedUpdate, numbered};
 ghost use Rattle.ov_journal.specs.declared.fault.CheckFault.TheVariants.{Disk as DiskFailed};
+ghost use Rattle.ov_record.specs.Briefs.{BriefReplace as SpelledReplace, brief as brief_as_spelled};
 ghost use Rattle.ov_record.specs.Briefs.{plain_brief};
-ghost use Rattle.ov_record.specs.Updates.{SealedUpdate, sealed_update};
+ghost use Rattle.ov_record.specs.Updates.{sealed_update};
 ghost use Rattle.ov_surface.specs.Coats.{stored_under};
 ghost use Rattle.ov_store.specs.Owners.{HasTextIn, IsTextIn, is_gone_in, text_in};
 
-use ov_base::{Memory, Octets};
+use ov_base::{Memory, Name, Octets};
 use ov_blocks::Extents;
 use ov_disk::{Disk, DiskFault};
 use ov_journal::CheckFault;
@@ -24,7 +27,7 @@ use ov_placed::CataloguePlaces;
 use ov_record::{Brief, Update};
 use ov_state::WIDTH;
 use ov_surface::reencrypt;
-use ov_tokens::{Layer, Master, Surface};
+use ov_tokens::{Layer, Master, Surface, Tokens};
 use std::alloc::Global;
 
 // So many zeros.
@@ -132,7 +135,45 @@ fn text_for<D: Disk>(
     Ok(Some(bytes))
 }
 
-/// The update of a record, with the text of the file that it creates, whose number this is, or zeros
+// The replacement with these parts, with the text of its file, whose number this is, or zeros where this
+// file is gone; or none, where it has another number of bytes.
+fn whole_replacement<D: Disk>(
+    alloc: Global,
+    disk: &mut D,
+    placed: &CataloguePlaces,
+    surface: &Master,
+    file: u32,
+    name: Name,
+    tokens: Tokens,
+    tag: [u8; 32],
+    size: u32,
+) -> Result<Option<Update<WIDTH>>, CheckFault>
+    requires { Told (D.tells.reads disk.old) (λ i.
+        AllEndWithin (length i.blobs) placed.now.catalogue.files placed.now.placed) }
+    ensures brief { IfOk result (λ found. IfSome found (λ whole.
+        brief_as_spelled (sealed_update whole) ≡ SpelledReplace name tokens tag size)) }
+    ensures whole { let gone = is_gone_in placed.now.catalogue file in
+        IfOk result (λ found. Told (D.tells.reads disk.old) (λ i.
+        (names : List (List ℕ)) (u : SealedUpdate)
+        → brief u ≡ BriefReplace (place_of name names) tokens tag size
+        → HasTextIn surface.now.bytes placed.now file i.blobs u
+        → option_map (λ whole. faded_if gone (numbered names (sealed_update whole))) found
+        ≡ Some (faded_if gone u))) }
+    ensures untouched { IsUntouched D.tells disk.old disk.new }
+    ensures call { IsDiskCall D.tells (IsErrOf result DiskFailed) disk.old disk.new }
+{
+    match text_for(alloc, disk, placed, surface, file, size)? {
+        Some(bytes) => Ok(Some(Update::Replace {
+            name,
+            tokens,
+            tag,
+            bytes,
+        })),
+        None => Ok(None),
+    }
+}
+
+/// The update of a record, with the text of the file that it makes, whose number this is, or zeros
 /// where this file is gone; or none, where it has another number of bytes.
 pub(crate) fn whole_update<D: Disk>(
     alloc: Global,
@@ -145,12 +186,13 @@ pub(crate) fn whole_update<D: Disk>(
     requires { Told (D.tells.reads disk.old) (λ i.
         AllEndWithin (length i.blobs) placed.now.catalogue.files placed.now.placed) }
     ensures brief { IfOk result (λ found. IfSome found (λ whole.
-        brief (sealed_update whole) ≡ plain_brief update)) }
+        brief_as_spelled (sealed_update whole) ≡ plain_brief update)) }
     ensures whole { let gone = is_gone_in placed.now.catalogue file in
         IfOk result (λ found. Told (D.tells.reads disk.old) (λ i.
-        (u : SealedUpdate) → brief u ≡ plain_brief update
+        (names : List (List ℕ)) (u : SealedUpdate)
+        → brief u ≡ numbered_brief names (plain_brief update)
         → HasTextIn surface.now.bytes placed.now file i.blobs u
-        → option_map (λ whole. faded_if gone (sealed_update whole)) found
+        → option_map (λ whole. faded_if gone (numbered names (sealed_update whole))) found
         ≡ Some (faded_if gone u))) }
     ensures untouched { IsUntouched D.tells disk.old disk.new }
     ensures call { IsDiskCall D.tells (IsErrOf result DiskFailed) disk.old disk.new }
@@ -176,5 +218,13 @@ pub(crate) fn whole_update<D: Disk>(
         Brief::Grant { user, file, token } => Ok(Some(Update::Grant { user, file, token })),
         Brief::Revoke { user, file } => Ok(Some(Update::Revoke { user, file })),
         Brief::Remove { file } => Ok(Some(Update::Remove { file })),
+        Brief::Replace {
+            name,
+            tokens,
+            tag,
+            length,
+        } => whole_replacement(
+            alloc, disk, placed, surface, file, name, tokens, tag, length,
+        ),
     }
 }

@@ -1,8 +1,8 @@
 //! Updates, which are written down before they are made.
 ghost use Rattle.std.specs.Prelude.{◌≡◌, OnOk, IsErrOf};
 ghost use Rattle.ov_disk.specs.Disk.{StaysTold};
+ghost use Rattle.ov_record.specs.Briefs.{brief};
 ghost use Rattle.ov_record.specs.Updates.{sealed_update};
-ghost use Rattle.ov_history.specs.Briefs.{brief};
 ghost use Rattle.ov_state.specs.Plans.{IsFitting};
 ghost use Rattle.ov_store.specs.Carrying.{IsCarriedOver, LeavesStep};
 ghost use Rattle.ov_store.specs.Updating.{GoesOnAfter, IsCallOf, LeavesEither, ServesMore, Updates};

@@ -1,13 +1,14 @@
 //! Worked books, a stop after each call of a disk with each tear, a fault at each call, and stores
 //! on two files.
+ghost use Rattle.ov_record.specs.Briefs.{brief};
 ghost use Rattle.ov_record.specs.Updates.{sealed_update};
-ghost use Rattle.ov_history.specs.Briefs.{brief};
 ghost use Rattle.ov_state.specs.Plans.{IsFitting};
 
 mod callers;
 mod carried;
 mod damage;
 mod removed;
+mod replaced;
 mod stored;
 
 use ov_base::{Key, Mode, Name, Octets, UserSet};

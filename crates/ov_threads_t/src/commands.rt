@@ -95,8 +95,8 @@ fn expect_done<N: Abort + AllocGlobal + Net + Copy + Drop>(
 }
 
 /// At the server whose lines these are an owner enrols alice, creates a file and prints her key line,
-/// by which she reads the file; then the owner removes it. Each command names a server and files that
-/// only its hints would show.
+/// by which she reads the file; then the owner replaces it, she reads it again, and the owner removes
+/// it. Each command names a server and files that only its hints would show.
 fn ask_for_all<N: Abort + AllocGlobal + Net + Wait + Copy + Drop>(
     net: &N,
     alloc: Global,
@@ -109,6 +109,11 @@ fn ask_for_all<N: Abort + AllocGlobal + Net + Wait + Copy + Drop>(
         keys: KEYS,
         body: &report,
     };
+    let again = Client {
+        address,
+        keys: KEYS,
+        body: b"new",
+    };
     let alice = Client {
         address,
         keys: ALICE,
@@ -119,11 +124,13 @@ fn ask_for_all<N: Abort + AllocGlobal + Net + Wait + Copy + Drop>(
     expect_done(net, alloc, &owner, create, b"ok 2\n");
     expect_done(net, alloc, &owner, "key there keys alice", ALICE);
     expect_done(net, alloc, &alice, "read there key f", &report);
-    expect_done(net, alloc, &owner, "remove there keys f", b"ok 3\n");
+    expect_done(net, alloc, &again, "replace there keys f path", b"ok 3\n");
+    expect_done(net, alloc, &alice, "read there key f", b"new");
+    expect_done(net, alloc, &owner, "remove there keys f", b"ok 4\n");
 }
 
 #[test]
-fn five_commands_over_a_port(rt: HostRuntime) -> Result<(), Fail> {
+fn seven_commands_over_a_port(rt: HostRuntime) -> Result<(), Fail> {
     let alloc = rt.alloc();
     let lines = Lines::new();
     let lent = &lines;
@@ -134,6 +141,6 @@ fn five_commands_over_a_port(rt: HostRuntime) -> Result<(), Fail> {
     );
     assert_eq!(rt; status, 0);
     let served = lines.second().ok_or("a second line")?;
-    assert_eq!(rt; served, b"served 5\n".as_slice());
+    assert_eq!(rt; served, b"served 7\n".as_slice());
     Ok(())
 }

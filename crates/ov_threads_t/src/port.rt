@@ -87,7 +87,7 @@ impl<N: Net + AllocGlobal + Drop> Door for PortDoor<N> {
     }
 }
 
-/// What a server of five sessions is told, of which two may run at the same time.
+/// What a server of seven sessions is told, of which two may run at the same time.
 fn settings(alloc: Global) -> Settings
     ensures { result.workers ≡ 2 }
 {
@@ -98,12 +98,12 @@ fn settings(alloc: Global) -> Settings
         base_check: BASE_CHECK,
         book: Octets::new(alloc),
         blobs: Octets::new(alloc),
-        sessions: 5,
+        sessions: 7,
         workers: 2,
     }
 }
 
-/// Serves five sessions, and gives the status. Its lines are kept.
+/// Serves seven sessions, and gives the status. Its lines are kept.
 pub fn host_at_port<N: Abort + AllocGlobal + Net + Threads + Wait + Copy + Send + Drop + 'static>(
     net: &N,
     alloc: Global,

@@ -1,21 +1,27 @@
 -- What two histories that differ in their files' bytes alone have in common.
 use Rattle.std.proofs.Common.{◌≡◌, ◌∙◌, ℕ, ◌+◌, zero, suc, not, List, [], ◌∷◌, ◌++◌, length, refl}
 use Rattle.std.proofs.Common.{sym, ap}
-use Rattle.std.specs.Prelude.{nat_lt, Option, None, Some, is_some, option_map, unwrap_or}
+use Rattle.std.specs.Prelude.{nat_le, nat_lt, Option, None, Some, is_some, option_map, unwrap_or}
+use Rattle.std.specs.Prelude.{slice_index_or}
 use Rattle.std.proofs.Math.ListN.{get_or-map}
 use Rattle.ov_base.specs.Sets.{empty as nobody, has}
+use Rattle.ov_base.specs.declared.limits.TheConstants.{MAX_FILES, MAX_STORE_BYTES}
 use Rattle.ov_history.specs.History.{File, Granted, Matrix, Removed, Revoked, changed, changed_all}
-use Rattle.ov_history.specs.History.{delisted, epoch_of, listed, matrix_of, no_one}
+use Rattle.ov_history.specs.History.{Replaced, delisted, epoch_of, file_at, listed, matrix_of}
+use Rattle.ov_history.specs.History.{no_file, no_one}
 use Rattle.ov_history.specs.Layers.{Layers, layers_after, layers_all, layers_of, lists_after}
 use Rattle.ov_history.specs.Layers.{no_layers}
-use Rattle.ov_history.specs.Lists.{file_names, file_number, is_file, is_listed, is_user, name_left}
-use Rattle.ov_history.specs.Lists.{user_number}
+use Rattle.ov_history.specs.Lists.{byte_sum, file_names, file_number, is_file, is_listed, is_user}
+use Rattle.ov_history.specs.Lists.{name_left, user_number}
 use Rattle.ov_history.specs.Places.{change_at, gone, living_at, place_of}
 use Rattle.ov_history.specs.Plain.{PlainCreate, PlainEnrol, PlainGrant, PlainHistory, PlainRevoke}
-use Rattle.ov_history.specs.Plain.{PlainRemove, PlainUpdate, history_of, measured, measured_all}
-use Rattle.ov_base.specs.declared.refusal.Refusal.TheVariants.{Listed, NoFile, NoUser, NotListed}
+use Rattle.ov_history.specs.Plain.{PlainRemove, PlainReplace, PlainUpdate, history_of, measured}
+use Rattle.ov_history.specs.Plain.{measured_all}
+use Rattle.ov_base.specs.declared.refusal.Refusal.TheVariants.{BytesFull, FilesFull, Listed}
+use Rattle.ov_base.specs.declared.refusal.Refusal.TheVariants.{NoFile, NoUser, NotListed}
 use Rattle.ov_history.specs.Refusals.{tests_of, tests_of_room}
 use Rattle.ov_history.proofs.MatrixLaws.{file_lists, file_lists-changed, is_listed-list}
+use Rattle.ov_history.proofs.Numbering.{length-names, names_at}
 use Rattle.ov_history.proofs.SoundTests.{is_some-map}
 use Rattle.ov_transcript.specs.Bytes.{AreAlike, DifferInBytes, IsAlike}
 
@@ -56,6 +62,25 @@ names-gone file [] = refl
 names-gone zero (f ∷ files) = refl
 names-gone (suc file) (f ∷ files) =
     ap (λ (l : List (List ℕ)). name_left f ∷ l) (names-gone file files)
+
+-- of a file that isn't there, too, the name is what is left of it
+left-name : (m : Matrix) (file : ℕ)
+    → (file_at m file).name ≡ slice_index_or (file_names m.files) file []
+left-name m file = by_file (living_at m.files file) ∙ sym (names_at m.files file) where
+  by_file : (f : Option File) → (unwrap_or f no_file).name ≡ name_left f
+  by_file None = refl
+  by_file (Some f) = refl
+
+-- a replacement takes the name along
+names-replaced : (m : Matrix) (file size : ℕ)
+    → file_names (changed m (Replaced file size)).files
+    ≡ change_at unnamed file (file_names m.files)
+    ++ slice_index_or (file_names m.files) file [] ∷ []
+names-replaced m file size =
+    names-append (change_at gone file m.files) _
+    ∙ ap (λ (l : List (List ℕ)). l ++ (file_at m file).name ∷ []) (names-gone file m.files)
+    ∙ ap (λ (name : List ℕ). change_at unnamed file (file_names m.files) ++ name ∷ [])
+    (left-name m file)
 
 -- ---- lists of files
 
@@ -109,6 +134,16 @@ matches_on m n (PlainRemove file) (PlainRemove item) ms one = record {
       ∙ (λ i. lists_after (ms.lists i) (Removed (one i)))
       ∙ sym (file_lists-changed n (Removed item));
 }
+matches_on m n (PlainReplace file bytes) (PlainReplace item text) ms one = record {
+  users = ms.users;
+  names = names-replaced m file (length bytes)
+      ∙ (λ i. change_at unnamed (one i) (ms.names i)
+      ++ slice_index_or (ms.names i) (one i) [] ∷ [])
+      ∙ sym (names-replaced n item (length text));
+  lists = file_lists-changed m (Replaced file (length bytes))
+      ∙ (λ i. lists_after (ms.lists i) (Replaced (one i) (length bytes)))
+      ∙ sym (file_lists-changed n (Replaced item (length text)));
+}
 matches_on m n u v ms is = absurd is
 
 matches_all : (m n : Matrix) (us vs : List PlainUpdate) → Matches m n → AreAlike us vs
@@ -131,6 +166,8 @@ layers_on y (PlainGrant user file) (PlainGrant other item) (same, one) =
 layers_on y (PlainRevoke user file) (PlainRevoke other item) (same, one) =
     λ i. layers_after y (Revoked (same i) (one i))
 layers_on y (PlainRemove file) (PlainRemove item) one = λ i. layers_after y (Removed (one i))
+layers_on y (PlainReplace file bytes) (PlainReplace item text) one =
+    λ i. layers_after y (Replaced (one i) (length bytes))
 layers_on y u v is = absurd is
 
 layers_alike : (y : Layers) (us vs : List PlainUpdate) → AreAlike us vs
@@ -202,6 +239,24 @@ module _ (p q : PlainHistory) (d : DifferInBytes p q) where
   same_revocation y epoch user file =
       λ i. (NoUser, not (is_user_too user i)) ∷ (NoFile, not (is_file_too file i))
       ∷ (NotListed, not (is_listed_too user file i)) ∷ tests_of_room y epoch (Revoked user file)
+
+  pub same_names : file_names m.files ≡ file_names n.files
+  same_names = matches.names
+
+  -- as many numbers of files were given out
+  files_too : length m.files ≡ length n.files
+  files_too =
+      sym (length-names m.files) ∙ ap (λ (names : List (List ℕ)). length names) same_names
+      ∙ length-names n.files
+
+  -- a replacement is refused alike where the other files have as many bytes
+  pub same_replacement : (y : Layers) (epoch file size : ℕ)
+      → byte_sum (change_at gone file m.files) ≡ byte_sum (change_at gone file n.files)
+      → tests_of m y epoch (Replaced file size) ≡ tests_of n y epoch (Replaced file size)
+  same_replacement y epoch file size room =
+      λ i. (NoFile, not (is_file_too file i)) ∷ (FilesFull, nat_le MAX_FILES (files_too i))
+      ∷ (BytesFull, nat_lt MAX_STORE_BYTES (room i + size))
+      ∷ tests_of_room y epoch (Replaced file size)
 
   pub same_removal : (y : Layers) (epoch file : ℕ)
       → tests_of m y epoch (Removed file) ≡ tests_of n y epoch (Removed file)

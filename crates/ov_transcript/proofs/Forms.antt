@@ -2,7 +2,7 @@
 use Rattle.std.proofs.Common.{◌≡◌, ◌∙◌, ℕ, ◌+◌, ◌<◌, ◌^◌, Bool, true, false, List, [], ◌∷◌, ◌++◌, ◌*◌}
 use Rattle.std.proofs.Common.{length, length-append, map, refl, sym, ap, subst, arith}
 use Rattle.std.specs.List.{AllByRecursion}
-use Rattle.std.specs.Prelude.{IfSome}
+use Rattle.std.specs.Prelude.{IfSome, None}
 use Rattle.std.proofs.lemmas.List.{length-map}
 use Rattle.sha2.proofs.Facts256.{length-sha256}
 use Rattle.ov_base.specs.Names.{IsName}
@@ -20,20 +20,23 @@ use Rattle.ov_graph.specs.Contents.{plan_of}
 use Rattle.ov_base_layer.specs.Seals.{access_token, cover_tokens, edge_token}
 use Rattle.ov_surface.specs.Coats.{base_text}
 use Rattle.ov_record.specs.Spelling.{HasForm, spelling}
-use Rattle.ov_record.specs.Updates.{SealedUpdate}
+use Rattle.ov_record.specs.Updates.{SealedReplace, SealedUpdate}
 use Rattle.ov_record.proofs.UpdateLaws.{update_reads, second_has_room}
 use Rattle.ov_record.specs.Forms.{second_form}
 use Rattle.ov_history.specs.Asking.{file_named, user_named}
-use Rattle.ov_history.specs.Catalogue.{Catalogue}
-use Rattle.ov_history.specs.History.{Matrix, epoch_of, matrix_of}
-use Rattle.ov_history.specs.Layers.{Layers, holders, layers_of, node_for, node_of, root_of}
+use Rattle.ov_history.specs.Catalogue.{Catalogue, outline}
+use Rattle.ov_history.specs.History.{Matrix, Replaced, epoch_of, matrix_of}
+use Rattle.ov_history.specs.Layers.{Layers, holders, layers_of, list_in, node_for, node_of}
+use Rattle.ov_history.specs.Layers.{root_of}
 use Rattle.ov_history.specs.Lists.{file_number, set_named, user_number}
 use Rattle.ov_history.specs.Masters.{Masters, access_key}
 use Rattle.ov_history.specs.Plain.{PlainCreate, PlainEnrol, PlainGrant, PlainHistory, PlainRevoke}
-use Rattle.ov_history.specs.Plain.{PlainRemove, history_of}
-use Rattle.ov_history.specs.Refusals.{IsLegal}
+use Rattle.ov_history.specs.Plain.{PlainRemove, PlainReplace, history_of}
+use Rattle.ov_history.specs.Refusals.{IsLegal, refusal_of}
 use Rattle.ov_history.specs.Sealed.{catalogue_of}
-use Rattle.ov_history.specs.Sealing.{sealed, sealed_update, token_unless}
+use Rattle.ov_history.specs.Sealing.{sealed, sealed_tag, sealed_text, sealed_tokens}
+use Rattle.ov_history.specs.Sealing.{sealed_update, token_unless}
+use Rattle.ov_history.specs.Sent.{spelled}
 use Rattle.ov_history.specs.Laws.{ShowsHistory}
 use Rattle.ov_history.proofs.Keeping.{kept_shows}
 use Rattle.ov_model.proofs.Spellings.{is_spelling}
@@ -45,9 +48,10 @@ use Rattle.ov_wire.specs.declared.answer.Answer.TheVariants as answers
 use Rattle.ov_wire.specs.AnswerForm.{HasKnownForm}
 use Rattle.ov_wire.specs.AnswersTo.{IsPlan}
 use Rattle.ov_wire.specs.Requests.{HasRequestForm, request_bytes}
-use Rattle.ov_protocol.specs.Asking.{AnswersAsk, AnswersCover}
+use Rattle.ov_protocol.specs.Asking.{AnswersAsk, AnswersCover, AnswersReplan}
 use Rattle.ov_protocol.specs.Updating.{owner_tag}
 use Rattle.ov_owner.specs.Talks.{update_request}
+use Rattle.ov_owner.proofs.Telling.{names_after, refused_as, spelled_as}
 
 -- ---- tokens
 
@@ -133,7 +137,7 @@ module _ (k : Masters) (p : PlainHistory) (legal : IsLegal (history_of p)) where
 
   pub enrol_fits : (user : List ℕ) (known : Known) → IsName user
       → AnswersAsk c (questions.Enrol user) (answers.Known known) → HasKnownForm known
-      → Fits (sealed_update k y (PlainEnrol user))
+      → Fits (spelled (names_after p) (sealed_update k y (PlainEnrol user)))
   enrol_fits user known name (none, is) form = record {
     form = name;
     low = low_epoch known.epoch (ap (λ (x : Known). x.epoch) is) form.0;
@@ -141,7 +145,7 @@ module _ (k : Masters) (p : PlainHistory) (legal : IsLegal (history_of p)) where
 
   pub grant_fits : (user file : List ℕ) (known : Known)
       → AnswersAsk c (questions.Grant user file) (answers.Known known) → HasKnownForm known
-      → Fits (sealed_update k y (PlainGrant (user_number m user) (file_number m file)))
+      → Fits (spelled (names_after p) (sealed_update k y (PlainGrant (user_number m user) (file_number m file))))
   grant_fits user file known (none, is) form = record {
     form = (
       low_user known.user user (ap (λ (x : Known). x.user) is) (omega (arith, form.1)),
@@ -157,7 +161,7 @@ module _ (k : Masters) (p : PlainHistory) (legal : IsLegal (history_of p)) where
 
   pub revoke_fits : (user file : List ℕ) (known : Known)
       → AnswersAsk c (questions.Revoke user file) (answers.Known known) → HasKnownForm known
-      → Fits (sealed_update k y (PlainRevoke (user_number m user) (file_number m file)))
+      → Fits (spelled (names_after p) (sealed_update k y (PlainRevoke (user_number m user) (file_number m file))))
   revoke_fits user file known (none, is) form = record {
     form = (
       low_user known.user user (ap (λ (x : Known). x.user) is) (omega (arith, form.1)),
@@ -168,7 +172,7 @@ module _ (k : Masters) (p : PlainHistory) (legal : IsLegal (history_of p)) where
 
   pub remove_fits : (file : List ℕ) (known : Known)
       → AnswersAsk c (questions.Remove file) (answers.Known known) → HasKnownForm known
-      → Fits (sealed_update k y (PlainRemove (file_number m file)))
+      → Fits (spelled (names_after p) (sealed_update k y (PlainRemove (file_number m file))))
   remove_fits file known (none, is) form = record {
     form =
         (refl, low_file known.file file (ap (λ (x : Known). x.file) is) (omega (arith, form.4)));
@@ -179,7 +183,7 @@ module _ (k : Masters) (p : PlainHistory) (legal : IsLegal (history_of p)) where
       → HasRequestForm (requests.Cover file (length bytes) names)
       → AnswersCover c file (length bytes) (set_named c.users names) (answers.Plan plan)
       → IsPlan plan
-      → Fits (sealed_update k y (PlainCreate file (set_named m.users names) bytes))
+      → Fits (spelled (names_after p) (sealed_update k y (PlainCreate file (set_named m.users names) bytes)))
   create_fits file names bytes plan first (none, is) form =
       let list = set_named m.users names in
       let cover = plan_of y.base list in
@@ -203,5 +207,43 @@ module _ (k : Masters) (p : PlainHistory) (legal : IsLegal (history_of p)) where
           length-hmac _ _,
           omega (arith, text, first.is_request.1),
         );
+        low = low_epoch plan.epoch (ap (λ (x : Plan). x.epoch) is) form.0;
+      }
+
+  -- a replacement that isn't refused is spelled with the name that was asked for
+  pub replace_fits : (file bytes : List ℕ) (plan : Plan)
+      → HasRequestForm (requests.Replan file (length bytes))
+      → AnswersReplan c (file_named c file) (length bytes) (answers.Plan plan)
+      → IsPlan plan
+      → Fits (spelled (names_after p) (sealed_update k y (PlainReplace (file_number m file) bytes)))
+  replace_fits file bytes plan first (none, is) form =
+      let n = file_number m file in
+      let list = list_in y n in
+      let cover = plan_of y.base list in
+      let same_list : list_in (outline c) (file_named c file) ≡ list =
+      λ i. list_in (shows.layers i) (file_number (shows.matrix i) file) in
+      let same_from : plan.from ≡ cover.from =
+      ap (λ (x : Plan). x.from) is
+      ∙ (λ i. (plan_of (shows.layers i).base (same_list i)).from) in
+      let edges : length (sealed_tokens k y list) ≡ length cover.from = length-map cover.from _ in
+      let few : length cover.from ≡ length plan.from = ap length (sym same_from) in
+      let text : length (sealed_text k y list bytes) ≡ length bytes =
+      length-xor_pad (access_key k.base (node_for y.base list)) 0x42 (length y.files) 0 bytes in
+      let sent : SealedUpdate =
+      SealedReplace file (sealed_tokens k y list) (sealed_tag k y list bytes)
+      (sealed_text k y list bytes) in
+      let free : refusal_of (history_of p) (Replaced n (length bytes)) ≡ None =
+      sym (refused_as k p legal (λ (x : Matrix). Replaced (file_number x file) (length bytes)))
+      ∙ none in
+      record {
+        form = subst (HasForm second_form)
+            (sym (spelled_as k p legal (PlainReplace n bytes) sent refl free)) (
+              refl,
+              first.is_request.0,
+              omega (arith, edges, few, form.4),
+              edges_are_tokens k.base cover.node cover.from,
+              length-hmac _ _,
+              omega (arith, text, first.is_request.1),
+            );
         low = low_epoch plan.epoch (ap (λ (x : Plan). x.epoch) is) form.0;
       }

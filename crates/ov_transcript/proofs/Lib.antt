@@ -12,4 +12,6 @@ pub mod Forms
 pub mod Cutting
 pub mod Sizes
 pub mod Alike
+pub mod SameUpdates
 pub mod Grants
+pub mod Replacements

@@ -16,6 +16,7 @@ use Rattle.ov_history.specs.Plain.{PlainHistory, history_of}
 use Rattle.ov_history.specs.Refusals.{IsLegal}
 use Rattle.ov_history.specs.Sealed.{catalogue_of}
 use Rattle.ov_history.specs.Sealing.{sealed, sealed_update}
+use Rattle.ov_history.specs.Sent.{spelled}
 use Rattle.ov_wire.specs.declared.request.Request.{Request}
 use Rattle.ov_wire.specs.declared.answer.Answer.{Answer}
 use Rattle.ov_wire.specs.declared.answer.Answer.TheVariants as answers
@@ -38,8 +39,8 @@ use Rattle.ov_owner.specs.declared.fault.OwnerFault.{OwnerFault}
 use Rattle.ov_owner.specs.declared.fault.OwnerFault.TheVariants as faults
 use Rattle.ov_owner.proofs.Doing.{Does}
 use Rattle.ov_owner.proofs.Fitting.{reads_back}
-use Rattle.ov_owner.proofs.Leaving.{IsReady, is_first, is_update, nothing_due}
-use Rattle.ov_owner.proofs.Telling.{shows}
+use Rattle.ov_owner.proofs.Leaving.{IsReady, is_first, is_spelling, is_update, nothing_due}
+use Rattle.ov_owner.proofs.Telling.{names_after, shows}
 use Rattle.ov_transcript.specs.Transcripts.{left_unless, says_refused, service_of}
 use Rattle.ov_transcript.proofs.Engines.{IsNext, IsStepBy}
 use Rattle.ov_transcript.proofs.Refusing.{is_read, left_none, refused_kind, still_served}
@@ -67,7 +68,7 @@ module _ (k : Masters) (command : Command) (e : Errand) (d : Does k command e) (
   abbrev pub update_here : Request
   update_here =
       update_request k.surface (epoch_of (history_of p))
-      (sealed_update k (layers_of (history_of p)) (d.plain p))
+      (spelled (names_after p) (sealed_update k (layers_of (history_of p)) (d.plain p)))
 
   -- what is left to ask at a stage
   abbrev pub Due : Stage → Service → List Request → Type 0
@@ -82,7 +83,8 @@ module _ (k : Masters) (command : Command) (e : Errand) (d : Does k command e) (
       → update_here ≡ update_request k.surface epoch u
   same_update epoch u ready =
       let at_epoch = ready.at_epoch ∙ (shows k p legal).epoch in
-      λ i. update_request k.surface (sym at_epoch i) (sym ready.is_sealed i)
+      let is = is_spelling k command e d (check_value_of k.base) p legal epoch u ready in
+      λ i. update_request k.surface (sym at_epoch i) (is i)
 
   -- ---- the first ask
 

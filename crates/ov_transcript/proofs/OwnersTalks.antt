@@ -14,12 +14,13 @@ use Rattle.ov_protocol.specs.Serving.{Service}
 use Rattle.ov_peer.specs.Asks.{Ask}
 use Rattle.ov_peer.specs.Disks.{MayNeedDisk}
 use Rattle.ov_owner.specs.Alone.{AnsweredAlone}
-use Rattle.ov_owner.specs.Errands.{Errand, creating, enrolling, granting, removing, revoking}
+use Rattle.ov_owner.specs.Errands.{Errand, creating, enrolling, granting, removing, replacing}
+use Rattle.ov_owner.specs.Errands.{revoking}
 use Rattle.ov_owner.specs.Talks.{Closes, Ends, Goes, Moves, Stage, Talks, start}
 use Rattle.ov_owner.specs.declared.fault.OwnerFault.{OwnerFault}
 use Rattle.ov_owner.specs.declared.fault.OwnerFault.TheVariants as faults
 use Rattle.ov_owner.proofs.Doing.{Does, create_does, enrol_does, grant_does, remove_does}
-use Rattle.ov_owner.proofs.Doing.{revoke_does}
+use Rattle.ov_owner.proofs.Doing.{replace_does, revoke_does}
 use Rattle.ov_transcript.specs.Laws.{TalksAreFronts, TalksAreTranscripts}
 use Rattle.ov_transcript.specs.Talking.{ArePut, IsAnswered, IsPut}
 use Rattle.ov_transcript.specs.Transcripts.{Begins, IsFrontFrom, frames, service_of}
@@ -148,6 +149,13 @@ talks_are_transcripts k p (commands.Remove file) e asks o result m is talks lega
     p legal (λ why. refl) (λ disk. disk)
     asks o result m (subst (λ (x : Errand). Talks k.surface x asks o result) is talks) alone
     answered
+talks_are_transcripts k p (commands.Replace file bytes) e asks o result m is talks legal alone
+    answered =
+    talk_is_transcript k (commands.Replace file bytes) (replacing k.base file bytes)
+    (replace_does k file bytes)
+    p legal (λ why. refl) (λ disk. disk)
+    asks o result m (subst (λ (x : Errand). Talks k.surface x asks o result) is talks) alone
+    answered
 talks_are_transcripts k p command e asks o result m is talks legal alone answered = absurd is
 
 pub talks_are_fronts : TalksAreFronts
@@ -171,6 +179,11 @@ talks_are_fronts k p (commands.Revoke user file) e asks o result m put is talks 
     asks o result m put (subst (λ (x : Errand). Talks k.surface x asks o result) is talks) alone are
 talks_are_fronts k p (commands.Remove file) e asks o result m put is talks legal alone are =
     talk_is_front k (commands.Remove file) (removing file) (remove_does k file)
+    p legal (λ why. refl) (λ disk. disk)
+    asks o result m put (subst (λ (x : Errand). Talks k.surface x asks o result) is talks) alone are
+talks_are_fronts k p (commands.Replace file bytes) e asks o result m put is talks legal alone are =
+    talk_is_front k (commands.Replace file bytes) (replacing k.base file bytes)
+    (replace_does k file bytes)
     p legal (λ why. refl) (λ disk. disk)
     asks o result m put (subst (λ (x : Errand). Talks k.surface x asks o result) is talks) alone are
 talks_are_fronts k p command e asks o result m put is talks legal alone are = absurd is

@@ -1,23 +1,26 @@
 -- How long the transcripts of updates are.
 use Rattle.std.proofs.Common.{◌≡◌, ◌∙◌, ℕ, ◌+◌, ◌*◌, ◌≤◌, false, List, [], ◌∷◌, length}
-use Rattle.std.proofs.Common.{length-append, Result, sym, ap, subst, inl, inr, arith}
+use Rattle.std.proofs.Common.{length-append, Result, refl, sym, ap, subst, inl, inr, arith}
 use Rattle.std.specs.Prelude.{◌⊎◌}
+use Rattle.ov_base.specs.Sets.{size}
 use Rattle.ov_base.specs.declared.limits.TheConstants.{SET_BYTES}
 use Rattle.ov_record.specs.Reading.{update_of}
 use Rattle.ov_record.specs.Spelling.{HasForm, spelling}
 use Rattle.ov_record.specs.Updates.{SealedUpdate}
 use Rattle.ov_record.specs.Forms.{second_form}
 use Rattle.ov_script.specs.declared.command.Command.TheVariants as commands
-use Rattle.ov_history.specs.Catalogue.{Catalogue}
+use Rattle.ov_history.specs.Asking.{file_named}
+use Rattle.ov_history.specs.Catalogue.{Catalogue, outline}
 use Rattle.ov_history.specs.History.{Matrix, epoch_of, matrix_of}
-use Rattle.ov_history.specs.Layers.{Layers, layers_of}
+use Rattle.ov_history.specs.Layers.{Layers, layers_of, list_in}
 use Rattle.ov_history.specs.Lists.{file_number, set_named, user_number}
 use Rattle.ov_history.specs.Masters.{Masters}
 use Rattle.ov_history.specs.Plain.{PlainCreate, PlainEnrol, PlainGrant, PlainHistory, PlainRevoke}
-use Rattle.ov_history.specs.Plain.{PlainRemove, history_of}
+use Rattle.ov_history.specs.Plain.{PlainRemove, PlainReplace, history_of}
 use Rattle.ov_history.specs.Refusals.{IsLegal}
 use Rattle.ov_history.specs.Sealed.{catalogue_of}
 use Rattle.ov_history.specs.Sealing.{sealed, sealed_update}
+use Rattle.ov_history.specs.Sent.{spelled}
 use Rattle.ov_wire.specs.declared.request.Question.{Question}
 use Rattle.ov_wire.specs.declared.request.Question.TheVariants as questions
 use Rattle.ov_wire.specs.declared.request.Request.{Request}
@@ -32,19 +35,22 @@ use Rattle.ov_wire.specs.RequestReading.{request_of}
 use Rattle.ov_wire.specs.Requests.{HasRequestForm, request_bytes}
 use Rattle.ov_protocol.specs.Serving.{Service, later, served}
 use Rattle.ov_protocol.specs.Answers.{Answers}
-use Rattle.ov_protocol.specs.Asking.{AnswersAsk, AnswersCover}
+use Rattle.ov_protocol.specs.Asking.{AnswersAsk, AnswersCover, AnswersReplan}
 use Rattle.ov_protocol.specs.Replies.{AnswersRead, Replies}
 use Rattle.ov_protocol.specs.Updating.{AnswersUpdate, owner_tag}
 use Rattle.ov_protocol.proofs.Reading.{request_back}
 use Rattle.ov_peer.specs.Asks.{Ask}
+use Rattle.ov_owner.specs.Laws.{list_size}
 use Rattle.ov_owner.specs.Talks.{update_request}
 use Rattle.ov_owner.proofs.Sizes.{ask_answer_short, cover_answer_short, cover_short, creation_short}
-use Rattle.ov_owner.proofs.Sizes.{list_few, question_short, short_update, spelled_answer_short}
+use Rattle.ov_owner.proofs.Sizes.{list_few, question_short, replacement_short, replan_answer_short}
+use Rattle.ov_owner.proofs.Sizes.{replan_short, short_update, spelled_answer_short}
+use Rattle.ov_owner.proofs.Telling.{list_here, list_shown, names_after}
 use Rattle.ov_transcript.specs.Laws.{TranscriptsAreShort}
 use Rattle.ov_transcript.specs.Transcripts.{Begins, frames, frames_of, says_refused, service_of}
 use Rattle.ov_transcript.proofs.Cutting.{AreTwoAsks, IsRefusedAsk, one_or_two}
 use Rattle.ov_transcript.proofs.Forms.{Fits, create_fits, enrol_fits, fits_form, grant_fits}
-use Rattle.ov_transcript.proofs.Forms.{remove_fits, revoke_fits, update_length}
+use Rattle.ov_transcript.proofs.Forms.{remove_fits, replace_fits, revoke_fits, update_length}
 
 -- the answer in a reply to a request that can be sent
 pub answers_so : (v : Service) (request : Request) (frame reply : List ℕ) (made : List SealedUpdate)
@@ -179,84 +185,95 @@ module _ (k : Masters) (p : PlainHistory) (legal : IsLegal (history_of p)) where
       → (x : Answer) → AnswersCover c file (length bytes) (set_named c.users names) x
       → HasAnswerForm x
       → says_refused (answer_bytes x) ≡ false
-      → Fits k p legal (sealed_update k y (PlainCreate file (set_named m.users names) bytes))
+      → Fits k p legal (spelled (names_after p)
+      (sealed_update k y (PlainCreate file (set_named m.users names) bytes)))
   plan_fits file names bytes first (answers.Plan plan) is form free =
       create_fits k p legal file names bytes plan first is form
   plan_fits file names bytes first (answers.Refused why) is form free = absurd (cc free)
   plan_fits file names bytes first x is form free = absurd is
 
+  replan_fits : (file bytes : List ℕ) → HasRequestForm (requests.Replan file (length bytes))
+      → (x : Answer) → AnswersReplan c (file_named c file) (length bytes) x → HasAnswerForm x
+      → says_refused (answer_bytes x) ≡ false
+      → Fits k p legal (spelled (names_after p)
+      (sealed_update k y (PlainReplace (file_number m file) bytes)))
+  replan_fits file bytes first (answers.Plan plan) is form free =
+      replace_fits k p legal file bytes plan first is form
+  replan_fits file bytes first (answers.Refused why) is form free = absurd (cc free)
+  replan_fits file bytes first x is form free = absurd is
+
   pub enrol_short : (user : List ℕ) (asks : List Ask)
       → HasRequestForm (requests.Ask (questions.Enrol user))
-      → let u = sealed_update k y (PlainEnrol user) in
+      → let u = spelled (names_after p) (sealed_update k y (PlainEnrol user)) in
       Begins here (requests.Ask (questions.Enrol user) ∷ update_request k.surface
       (epoch_of (history_of p)) u ∷ []) asks []
       → length (frames asks) ≤ 512
   enrol_short user asks form begins =
-      let u = sealed_update k y (PlainEnrol user) in
+      let u = spelled (names_after p) (sealed_update k y (PlainEnrol user)) in
       let n = all_short (requests.Ask (questions.Enrol user)) form u
       (known_fits (questions.Enrol user) u
       (λ known is told. enrol_fits k p legal user known form.is_request is told))
       132 26 66 (question_short (questions.Enrol user) form)
       (ask_answer_short c (questions.Enrol user))
-      (λ f. short_update u f (λ name list tokens tag bytes wrong. cc wrong)) asks begins in
+      (λ f. short_update u f refl) asks begins in
       omega (arith, n)
 
   pub grant_short : (user file : List ℕ) (asks : List Ask)
       → HasRequestForm (requests.Ask (questions.Grant user file))
-      → let u = sealed_update k y (PlainGrant (user_number m user) (file_number m file)) in
+      → let u = spelled (names_after p) (sealed_update k y (PlainGrant (user_number m user) (file_number m file))) in
       Begins here (requests.Ask (questions.Grant user file) ∷ update_request k.surface
       (epoch_of (history_of p)) u ∷ []) asks []
       → length (frames asks) ≤ 512
   grant_short user file asks form begins =
-      let u = sealed_update k y (PlainGrant (user_number m user) (file_number m file)) in
+      let u = spelled (names_after p) (sealed_update k y (PlainGrant (user_number m user) (file_number m file))) in
       let n = all_short (requests.Ask (questions.Grant user file)) form u
       (known_fits (questions.Grant user file) u
       (λ known is told. grant_fits k p legal user file known is told))
       132 26 66 (question_short (questions.Grant user file) form)
       (ask_answer_short c (questions.Grant user file))
-      (λ f. short_update u f (λ name list tokens tag bytes wrong. cc wrong)) asks begins in
+      (λ f. short_update u f refl) asks begins in
       omega (arith, n)
 
   pub revoke_short : (user file : List ℕ) (asks : List Ask)
       → HasRequestForm (requests.Ask (questions.Revoke user file))
-      → let u = sealed_update k y (PlainRevoke (user_number m user) (file_number m file)) in
+      → let u = spelled (names_after p) (sealed_update k y (PlainRevoke (user_number m user) (file_number m file))) in
       Begins here (requests.Ask (questions.Revoke user file) ∷ update_request k.surface
       (epoch_of (history_of p)) u ∷ []) asks []
       → length (frames asks) ≤ 512
   revoke_short user file asks form begins =
-      let u = sealed_update k y (PlainRevoke (user_number m user) (file_number m file)) in
+      let u = spelled (names_after p) (sealed_update k y (PlainRevoke (user_number m user) (file_number m file))) in
       let n = all_short (requests.Ask (questions.Revoke user file)) form u
       (known_fits (questions.Revoke user file) u
       (λ known is told. revoke_fits k p legal user file known is told))
       132 26 66 (question_short (questions.Revoke user file) form)
       (ask_answer_short c (questions.Revoke user file))
-      (λ f. short_update u f (λ name list tokens tag bytes wrong. cc wrong)) asks begins in
+      (λ f. short_update u f refl) asks begins in
       omega (arith, n)
 
   pub remove_short : (file : List ℕ) (asks : List Ask)
       → HasRequestForm (requests.Ask (questions.Remove file))
-      → let u = sealed_update k y (PlainRemove (file_number m file)) in
+      → let u = spelled (names_after p) (sealed_update k y (PlainRemove (file_number m file))) in
       Begins here (requests.Ask (questions.Remove file) ∷ update_request k.surface
       (epoch_of (history_of p)) u ∷ []) asks []
       → length (frames asks) ≤ 512
   remove_short file asks form begins =
-      let u = sealed_update k y (PlainRemove (file_number m file)) in
+      let u = spelled (names_after p) (sealed_update k y (PlainRemove (file_number m file))) in
       let n = all_short (requests.Ask (questions.Remove file)) form u
       (known_fits (questions.Remove file) u
       (λ known is told. remove_fits k p legal file known is told))
       132 26 66 (question_short (questions.Remove file) form)
       (ask_answer_short c (questions.Remove file))
-      (λ f. short_update u f (λ name list tokens tag bytes wrong. cc wrong)) asks begins in
+      (λ f. short_update u f refl) asks begins in
       omega (arith, n)
 
   pub create_short : (file : List ℕ) (names : List (List ℕ)) (bytes : List ℕ) (asks : List Ask)
       → HasRequestForm (requests.Cover file (length bytes) names)
-      → let u = sealed_update k y (PlainCreate file (set_named m.users names) bytes) in
+      → let u = spelled (names_after p) (sealed_update k y (PlainCreate file (set_named m.users names) bytes)) in
       Begins here (requests.Cover file (length bytes) names ∷ update_request k.surface
       (epoch_of (history_of p)) u ∷ []) asks []
       → length (frames asks) ≤ 512 + 101 * length names + length bytes
   create_short file names bytes asks form begins =
-      let u = sealed_update k y (PlainCreate file (set_named m.users names) bytes) in
+      let u = spelled (names_after p) (sealed_update k y (PlainCreate file (set_named m.users names) bytes)) in
       let shown = list_few c.users names in
       let list = list_few m.users names in
       let n = all_short (requests.Cover file (length bytes) names) form u
@@ -266,7 +283,29 @@ module _ (k : Masters) (p : PlainHistory) (legal : IsLegal (history_of p)) where
       (cover_short file (length bytes) names form)
       (λ x is. cover_answer_short c file (length bytes) (set_named c.users names)
       (length names) x is shown)
-      (creation_short k y file (set_named m.users names) (length names) bytes list) asks begins in
+      (creation_short k y (names_after p) file (set_named m.users names) (length names) bytes list)
+      asks begins in
+      omega (arith, n)
+
+  pub replace_short : (file bytes : List ℕ) (asks : List Ask)
+      → HasRequestForm (requests.Replan file (length bytes))
+      → let u = spelled (names_after p) (sealed_update k y (PlainReplace (file_number m file) bytes)) in
+      Begins here (requests.Replan file (length bytes) ∷ update_request k.surface
+      (epoch_of (history_of p)) u ∷ []) asks []
+      → length (frames asks) ≤ 384 + 36 * list_size p file + length bytes
+  replace_short file bytes asks form begins =
+      let number = file_number m file in
+      let u = spelled (names_after p) (sealed_update k y (PlainReplace number bytes)) in
+      let most = list_size p file in
+      let few : size (list_in y number) ≤ most = omega (arith, ap size (list_here k p legal file)) in
+      let few_shown : size (list_in (outline c) (file_named c file)) ≤ most =
+      omega (arith, ap size (list_shown k p legal file)) in
+      let n = all_short (requests.Replan file (length bytes)) form u
+      (replan_fits file bytes form)
+      70 (16 + SET_BYTES + 4 * most) (104 + 32 * most + length bytes)
+      (replan_short file (length bytes) form)
+      (λ x is. replan_answer_short c (file_named c file) (length bytes) most x is few_shown)
+      (replacement_short k y (names_after p) number most bytes few) asks begins in
       omega (arith, n)
 
 pub transcripts_are_short : TranscriptsAreShort
@@ -280,4 +319,6 @@ transcripts_are_short k p (commands.Revoke user file) asks is form legal begins 
     revoke_short k p legal user file asks form begins
 transcripts_are_short k p (commands.Remove file) asks is form legal begins =
     remove_short k p legal file asks form begins
+transcripts_are_short k p (commands.Replace file bytes) asks is form legal begins =
+    replace_short k p legal file bytes asks form begins
 transcripts_are_short k p command asks is form legal begins = absurd is

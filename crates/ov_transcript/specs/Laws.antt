@@ -2,7 +2,7 @@
 use Rattle.std.specs.Prelude.{◌≡◌, ℕ, ◌≤◌, List, [], ◌∷◌, ◌++◌, length, Option, Result}
 use Rattle.ov_base.specs.declared.refusal.Refusal.{Refusal}
 use Rattle.ov_script.specs.declared.command.Command.{Command}
-use Rattle.ov_script.specs.declared.command.Command.TheVariants.{Read}
+use Rattle.ov_script.specs.declared.command.Command.TheVariants.{Read, Replace}
 use Rattle.ov_history.specs.Masters.{Masters}
 use Rattle.ov_history.specs.Plain.{PlainHistory, history_of}
 use Rattle.ov_history.specs.Refusals.{IsLegal}
@@ -20,7 +20,7 @@ use Rattle.ov_owner.specs.Laws.{most_bytes}
 use Rattle.ov_owner.specs.Steps.{IsErrandFor}
 use Rattle.ov_owner.specs.Talks.{Talks}
 use Rattle.ov_owner.specs.declared.fault.OwnerFault.{OwnerFault}
-use Rattle.ov_transcript.specs.Bytes.{DifferInBytes, IsOfFile, IsOfUpdate}
+use Rattle.ov_transcript.specs.Bytes.{DifferInBytes, IsOfFile, IsOfUpdate, other_bytes}
 use Rattle.ov_transcript.specs.Talking.{ArePut, IsAnswered, IsFirstAsk, IsOneQuestion, IsPut}
 use Rattle.ov_transcript.specs.Talking.{IsReadAnswered, ReadsAs}
 use Rattle.ov_transcript.specs.Transcripts.{IsTranscript, IsTranscriptFront, first_request, frames}
@@ -128,9 +128,19 @@ GrantsSendNoBytes =
     → IsLegal (history_of q) → DifferInBytes p q → IsTranscript k p command asks
     → IsTranscript k q command asks
 
--- the transcript of an update is short: only a creation's is as long as its list and its file
+-- The transcript of a replacement is the same at histories that differ in their files' bytes alone,
+-- and in which the files that it leaves have as many: it has the new bytes and no others.
+abbrev pub ReplacementsSendNewBytes : Type 0
+ReplacementsSendNewBytes =
+    (k : Masters) (p q : PlainHistory) (file bytes : List ℕ) (asks : List Ask)
+    → HasRequestForm (first_request (Replace file bytes)) → IsLegal (history_of p)
+    → IsLegal (history_of q) → DifferInBytes p q → other_bytes p file ≡ other_bytes q file
+    → IsTranscript k p (Replace file bytes) asks → IsTranscript k q (Replace file bytes) asks
+
+-- the transcript of an update is short: only a creation's and a replacement's are as long as the
+-- list and the new file
 abbrev pub TranscriptsAreShort : Type 0
 TranscriptsAreShort =
     (k : Masters) (p : PlainHistory) (command : Command) (asks : List Ask)
     → IsOfUpdate command → HasRequestForm (first_request command) → IsLegal (history_of p)
-    → IsTranscript k p command asks → length (frames asks) ≤ most_bytes command
+    → IsTranscript k p command asks → length (frames asks) ≤ most_bytes p command

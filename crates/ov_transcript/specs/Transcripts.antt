@@ -8,12 +8,13 @@ use Rattle.ov_script.specs.declared.command.Command.{Command}
 use Rattle.ov_script.specs.declared.command.Command.TheVariants as commands
 use Rattle.ov_history.specs.History.{History, Matrix, epoch_of, matrix_of}
 use Rattle.ov_history.specs.Layers.{Layers, layers_of, no_place}
-use Rattle.ov_history.specs.Lists.{file_at, file_number, set_named, user_number}
+use Rattle.ov_history.specs.Lists.{file_at, file_names, file_number, set_named, user_number}
 use Rattle.ov_history.specs.Masters.{Masters}
 use Rattle.ov_history.specs.Places.{living_at}
 use Rattle.ov_history.specs.Plain.{PlainUpdate, PlainEnrol, PlainCreate, PlainGrant, PlainRevoke}
-use Rattle.ov_history.specs.Plain.{PlainRemove, PlainHistory, history_of}
+use Rattle.ov_history.specs.Plain.{PlainRemove, PlainReplace, PlainHistory, history_of}
 use Rattle.ov_history.specs.Sealing.{sealed, sealed_update}
+use Rattle.ov_history.specs.Sent.{spelled}
 use Rattle.ov_model.specs.Step.{after}
 use Rattle.ov_wire.specs.declared.request.Question.TheVariants as questions
 use Rattle.ov_wire.specs.declared.request.Request.{Request}
@@ -61,10 +62,11 @@ chunks_at h file =
     chunks_from file (generation_of (layers_of h) file) 0
     (chunk_count (file_at (matrix_of h) file).length)
 
--- the update of a history's owner, as it is sealed and sent there
+-- the update of a history's owner, as it is sealed and spelled there, and sent
 abbrev pub update_at : Masters → History → PlainUpdate → List Request
 update_at k h u =
-    update_request k.surface (epoch_of h) (sealed_update k (layers_of h) u) ∷ []
+    update_request k.surface (epoch_of h)
+    (spelled (file_names (matrix_of h).files) (sealed_update k (layers_of h) u)) ∷ []
 
 -- what is asked first for a command
 abbrev pub first_request : Command → Request
@@ -73,6 +75,7 @@ first_request (commands.Create file names bytes) = requests.Cover file (length b
 first_request (commands.Grant user file) = requests.Ask (questions.Grant user file)
 first_request (commands.Revoke user file) = requests.Ask (questions.Revoke user file)
 first_request (commands.Remove file) = requests.Ask (questions.Remove file)
+first_request (commands.Replace file bytes) = requests.Replan file (length bytes)
 first_request (commands.Read user file) = requests.Ask (questions.Key user)
 first_request (commands.List file) = requests.List file
 first_request commands.Epoch = requests.Hello
@@ -88,6 +91,8 @@ later_requests k h m (commands.Grant user file) =
 later_requests k h m (commands.Revoke user file) =
     update_at k h (PlainRevoke (user_number m user) (file_number m file))
 later_requests k h m (commands.Remove file) = update_at k h (PlainRemove (file_number m file))
+later_requests k h m (commands.Replace file bytes) =
+    update_at k h (PlainReplace (file_number m file) bytes)
 later_requests k h m (commands.Read user file) =
     requests.Chain user file ∷ chunks_at h (file_number m file)
 later_requests k h m (commands.List file) = []

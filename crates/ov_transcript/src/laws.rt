@@ -2,7 +2,8 @@
 ghost use Rattle.ov_transcript.specs.Laws.{FirstAnswersAreFronts, FirstAsksAreFronts};
 ghost use Rattle.ov_transcript.specs.Laws.{GrantsSendNoBytes, QuestionsAreTranscripts};
 ghost use Rattle.ov_transcript.specs.Laws.{ReadsAreFronts, ReadsAreTranscripts};
-ghost use Rattle.ov_transcript.specs.Laws.{RefusalsAreTranscripts, RunsHaveOneTranscript};
+ghost use Rattle.ov_transcript.specs.Laws.{RefusalsAreTranscripts, ReplacementsSendNewBytes};
+ghost use Rattle.ov_transcript.specs.Laws.{RunsHaveOneTranscript};
 ghost use Rattle.ov_transcript.specs.Laws.{TalksAreFronts, TalksAreTranscripts};
 ghost use Rattle.ov_transcript.specs.Laws.{TranscriptsAreShort, TranscriptsAreUnique};
 
@@ -36,8 +37,10 @@ pub fn transcripts_are_unique()
 {}
 
 /// The transcript of a grant, a revocation or a removal is the same whatever the files' bytes are,
-/// and that of an update is short: only a creation's is as long as its list and its file.
+/// and that of a replacement has the new bytes and no others. The transcript of an update is short:
+/// only a creation's and a replacement's are as long as the list and the new file.
 pub fn transcripts_are_short()
     ensures same { GrantsSendNoBytes }
+    ensures new_bytes { ReplacementsSendNewBytes }
     ensures short { TranscriptsAreShort }
 {}

@@ -1,9 +1,10 @@
 -- Rows of transcripts and of servers.
-use Rattle.std.specs.Prelude.{◌≡◌, ℕ, List, [], ◌∷◌, length, replicate}
+use Rattle.std.specs.Prelude.{◌≡◌, ℕ, true, List, [], ◌∷◌, ◌++◌, length, replicate}
 use Rattle.ov_base.specs.declared.refusal.Refusal.TheVariants.{NoFile}
 use Rattle.ov_script.specs.declared.command.Command.TheVariants as commands
 use Rattle.ov_history.specs.History.{History}
 use Rattle.ov_history.specs.Masters.{Masters}
+use Rattle.ov_wire.specs.declared.answer.Plan.{Plan}
 use Rattle.ov_wire.specs.declared.answer.Answer.TheVariants as answers
 use Rattle.ov_wire.specs.declared.request.Question.TheVariants as questions
 use Rattle.ov_wire.specs.declared.request.Request.TheVariants as requests
@@ -43,6 +44,41 @@ pub record RemovalsAreShort : Type 0 where
   pub asks : length (framed (request_bytes (requests.Ask (questions.Remove (102 ∷ []))))) ≡ 8
   pub sends : length (framed (request_bytes
       (requests.Update 5 (6 ∷ 0 ∷ 0 ∷ 0 ∷ 0 ∷ []) (replicate 32 0)))) ≡ 46
+
+-- A replacement is two requests at any history, whatever the bytes. With a removal and a creation
+-- in its place it would be four.
+abbrev pub ReplacementsAreTwoRequests : Type 0
+ReplacementsAreTwoRequests =
+    (k : Masters) (h : History) (file bytes : List ℕ)
+    → length (requests_at k h (commands.Replace file bytes)) ≡ 2
+
+-- The spelling of a replacement of a file with a name of one byte by three bytes, with two tokens.
+-- The tokens and the tag are zeros.
+abbrev pub spelled_replacement : List ℕ
+spelled_replacement =
+    (7 ∷ 1 ∷ 102 ∷ 0 ∷ 2 ∷ []) ++ replicate 64 0 ++ replicate 32 0
+    ++ (0 ∷ 0 ∷ 0 ∷ 3 ∷ 97 ∷ 98 ∷ 99 ∷ [])
+
+-- The plan that is told for it: file 1, at the new base node 2 of the users 0 and 1.
+abbrev pub plan_of_two : Plan
+plan_of_two = record {
+  epoch = 4;
+  file = 1;
+  list = 3;
+  node = 2;
+  fresh = true;
+  from = 0 ∷ 1 ∷ [];
+}
+
+-- Its frames, which are 325 bytes together: the question has ten bytes beside the name, and the
+-- update, at epoch 4, has 81 beside name, tokens and bytes. With the list, as a creation has it, the
+-- update would have 128 more.
+pub record ReplacementsAreShort : Type 0 where
+  pub asks : length (framed (request_bytes (requests.Replan (102 ∷ []) 3))) ≡ 11
+  pub told : length (framed (answer_bytes (answers.Plan plan_of_two))) ≡ 156
+  pub sends : length (framed (request_bytes
+      (requests.Update 4 spelled_replacement (replicate 32 0)))) ≡ 149
+  pub made : length (framed (answer_bytes (answers.Accepted 5))) ≡ 9
 
 -- A chunk has 65,536 bytes at most. If the last chunk had to be whole, a file of one byte would be
 -- asked for in none, and one of 65,537 in one.

@@ -11,6 +11,7 @@ mod rows;
 
 pub use rows::{
     a_refusal_ends_a_command, a_removal_asks_for_its_update_alone,
-    a_revocation_asks_for_its_update_alone, a_server_answers_by_its_check_value,
-    each_byte_of_a_file_is_in_a_chunk, the_frames_of_a_removal_are_short,
+    a_replacement_asks_for_its_update_alone, a_revocation_asks_for_its_update_alone,
+    a_server_answers_by_its_check_value, each_byte_of_a_file_is_in_a_chunk,
+    the_frames_of_a_removal_are_short, the_frames_of_a_replacement_are_short,
 };

@@ -1,7 +1,8 @@
 //! Rows of transcripts and of servers.
 ghost use Rattle.ov_transcript_t.specs.Rows.{AnswersByCheckValue, ChunksReachTheEnd};
 ghost use Rattle.ov_transcript_t.specs.Rows.{RefusalsEnd, RemovalsAreShort};
-ghost use Rattle.ov_transcript_t.specs.Rows.{RemovalsAreTwoRequests, RevocationsAreTwoRequests};
+ghost use Rattle.ov_transcript_t.specs.Rows.{RemovalsAreTwoRequests, ReplacementsAreShort};
+ghost use Rattle.ov_transcript_t.specs.Rows.{ReplacementsAreTwoRequests, RevocationsAreTwoRequests};
 
 /// After a refusal nothing more is asked for the command.
 pub fn a_refusal_ends_a_command()
@@ -21,6 +22,17 @@ pub fn a_removal_asks_for_its_update_alone()
 /// What is sent for a removal has few bytes beside the name of the file.
 pub fn the_frames_of_a_removal_are_short()
     ensures { RemovalsAreShort }
+{}
+
+/// For a replacement two things are asked: the plan of the file's list, and the update.
+pub fn a_replacement_asks_for_its_update_alone()
+    ensures { ReplacementsAreTwoRequests }
+{}
+
+/// What is sent for a replacement has few bytes beside the name of the file, the tokens of its node
+/// and the new bytes.
+pub fn the_frames_of_a_replacement_are_short()
+    ensures { ReplacementsAreShort }
 {}
 
 /// A file is asked for in as many chunks as its bytes need, the last of which may be a short one.

@@ -7,13 +7,13 @@ use Rattle.ov_blocks.specs.declared.extents.Extent.{Extent}
 use Rattle.ov_journal.specs.Book.{contents_of}
 use Rattle.ov_record.specs.Forms.{second_form}
 use Rattle.ov_record.specs.Stored.{HasBriefForm, brief_spelling}
-use Rattle.ov_record.specs.Updates.{SealedUpdate}
-use Rattle.ov_history.specs.Briefs.{brief, text_of}
-use Rattle.ov_history.specs.Catalogue.{Catalogue, Filed}
+use Rattle.ov_history.specs.Briefs.{Brief, brief, numbered_brief, spelled_brief, text_of}
+use Rattle.ov_history.specs.Catalogue.{Catalogue, Filed, file_names_shown}
 use Rattle.ov_history.specs.Places.{living_at}
 use Rattle.ov_history.specs.Placed.{PlacedHistory, placed_after, placed_of, with_placed}
 use Rattle.ov_history.specs.Rewrites.{Rewrite, files_after, rewrites_of}
 use Rattle.ov_history.specs.Sealed.{SealedHistory, with_sealed}
+use Rattle.ov_history.specs.Sent.{SealedUpdate}
 use Rattle.ov_images.specs.Images.{Keys}
 use Rattle.ov_images.specs.Extents.{catalogue_at, stored_in}
 use Rattle.ov_images.specs.Images.{KeepsAt}
@@ -27,7 +27,7 @@ use Rattle.ov_updating.specs.Files.{AreHeldFor, firsts_of, removed_by}
 
 -- The rewrites of an update, the first blocks of all files by number, the extents that are held, the
 -- spelling of the update before its own first blocks, the bytes of a new file, and the number of the
--- file that is removed, where one is.
+-- file that is removed or replaced, where one is.
 pub record Asked : Type 0 where
   pub rewrites : List Rewrite
   pub placed : List (Option ℕ)
@@ -47,14 +47,20 @@ asked rewrites placed held front text removed = record {
   removed = removed;
 }
 
+-- The update is spelled so, with the names of files that this catalogue shows, and its spelling tells
+-- it.
+pub record IsSpelledAs (c : Catalogue) (b : Brief) (front : List ℕ) : Type 0 where
+  pub form : HasBriefForm second_form (spelled_brief (file_names_shown c) b)
+  pub front_is : front ≡ brief_spelling second_form (spelled_brief (file_names_shown c) b)
+  pub told : numbered_brief (file_names_shown c) (spelled_brief (file_names_shown c) b) ≡ b
+
 -- A store with this catalogue takes the update, and this is what the update is made from. After it
 -- there are no more files than a store may have, and each is no longer than a file may be; nor was one
 -- before it.
 pub record IsAskedFor (c : Catalogue) (u : SealedUpdate) (a : Asked) : Type 0 where
   pub taken : IsTaken c (brief u)
   pub rewrites : a.rewrites ≡ rewrites_of c (brief u)
-  pub form : HasBriefForm second_form (brief u)
-  pub front : a.front ≡ brief_spelling second_form (brief u)
+  pub spelled : IsSpelledAs c (brief u) a.front
   pub text : (text : List ℕ) → text_of u ≡ Some text → a.text ≡ text
   pub removed : a.removed ≡ removed_by (brief u)
   pub files : length (files_after c (brief u)) ≤ MAX_FILES

@@ -10,14 +10,14 @@
 //!
 //! * [`update`] is the whole of an update but for the catalogue: it finds new extents, writes the new
 //!   bytes of each file there, appends the record, and gives up the old extents, and that of a file
-//!   that is removed. Its caller has the rewrites of a change that its catalogue prepared, and commits
+//!   that is removed or replaced. Its caller has the rewrites of a change that its catalogue prepared, and commits
 //!   that change at `Ok`.
 //! * [`spell_update`] spells an update before it is prepared, as its record begins.
 //! * [`Recording`] spells the record, once the new extents are known.
 //!
 //! **What a contract sees** is what the update is made from (`Asked`): its rewrites, the first blocks
 //! of all files, the extents that are held, the update's spelling, the text of a new file, and the
-//! number of a file that is removed.
+//! number of a file that is removed or replaced. A spelling has the name of a file that is replaced.
 //! `IsAskedFor` says of which catalogue and update this is. A history, of which there may be several
 //! under several keys, is never an argument: the clauses hold of each that the disk's image keeps.
 //!
@@ -29,12 +29,12 @@
 //!   the update and with the first blocks that are answered (`UpdateLasts`). Each file has gone into
 //!   the lowest free run (`GoToFree`), and Blobs has grown into the new extents alone.
 //! * At `Ok` just the extents of the files after the update are held (`AreHeldAfter`), so that the
-//!   next one may be made in the same way. The extent of a file that is removed is given up after the
-//!   last sync: until then a crash may leave a store that still has the file.
+//!   next one may be made in the same way. The extent of a file that is removed or replaced is given up
+//!   after the last sync: until then a crash may leave a store that still has the file.
 //!
 //! | file in `specs/` | says |
 //! |---|---|
-//! | `Files` | the files whose bytes are written, the file that is removed, and the extents that files have |
+//! | `Files` | the files whose bytes are written, the one removed or replaced, and the extents that files have |
 //! | `Counting` | extents that are counted |
 //! | `Recording` | the body of the record |
 //! | `Updating` | what an update is made from, and which history is kept |
@@ -54,8 +54,8 @@
 //! fault of the disk comes only where its count rose; after it the journal has the same records and
 //! what is held is as before, but the disk may have the update: the store has to be opened again.
 //!
-//! Nothing is claimed of secrecy. Blocks that were given up, those of a removed file too, keep their
-//! old bytes until they are used again.
+//! Nothing is claimed of secrecy. Blocks that were given up, those of a file that is gone too, keep
+//! their old bytes until they are used again.
 #![tactic(auto)]
 
 mod counting;

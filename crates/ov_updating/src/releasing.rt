@@ -1,4 +1,4 @@
-//! The extent of a file that is removed, which is given up.
+//! The extent of a file that is removed or replaced, which is given up.
 ghost use Rattle.std.specs.Prelude.{◌≡◌, ◌≤◌, IfSome, Some, length};
 ghost use Rattle.ov_blocks.specs.Extents.{BeginsOne, end_from};
 ghost use Rattle.ov_moves.specs.Releasing.{GivesUp};

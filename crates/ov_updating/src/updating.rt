@@ -22,11 +22,11 @@ use std::alloc::Global;
 
 /// Makes an update on the disk: finds new extents for the files of these rewrites, writes their bytes
 /// there under their new surfaces, and then the record, and gives up the old extents, and that of the
-/// file that the update removes. It answers where the files went.
+/// file that the update removes or replaces. It answers where the files went.
 ///
 /// The first blocks of all files are by number; `front` is the update's spelling, `text` the bytes of
-/// a new file, and `removed` the number of the file that is removed, where one is. All memory is taken
-/// before the first call of the disk.
+/// a new file, and `removed` the number of the file that is removed or replaced, where one is. All
+/// memory is taken before the first call of the disk.
 pub fn update<D: Disk>(
     alloc: Global,
     extents: &mut Extents,
@@ -61,7 +61,8 @@ pub fn update<D: Disk>(
         (asked recoat.now.rewrites placed.now extents.old front.now text.now removed)
         moves.items disk.new)) }
 
-    // The next one may be made in the same way. The blocks of a file that is removed are free for it.
+    // The next one may be made in the same way. The blocks of a file that is removed or replaced are
+    // free for it.
     ensures held { IfOk result (λ moves. AreHeldAfter
         (asked recoat.now.rewrites placed.now extents.old front.now text.now removed)
         (firsts_of moves.items) extents.new) }

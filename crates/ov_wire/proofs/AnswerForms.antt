@@ -231,6 +231,7 @@ answer_is_any (requests.Update made_at spelling tag) (answers.Stale epoch) is = 
 answer_is_any (requests.Chain u f) (answers.Chained c) is = is
 answer_is_any (requests.Chunk f asked start count) (answers.Moved generation) is = is.1
 answer_is_any (requests.List file) (answers.Listed names) is = is
+answer_is_any (requests.Replan f l) (answers.Plan p) is = is
 answer_is_any request (answers.Bytes bytes) is = tt
 answer_is_any request (answers.PageOf entry) is = tt
 answer_is_any request (answers.Refused refusal) is = tt

@@ -21,7 +21,7 @@ use Rattle.ov_wire.specs.declared.answer.Answer.{Answer}
 use Rattle.ov_wire.specs.declared.answer.Answer.TheVariants as answers
 use Rattle.ov_wire.specs.AnswerBytes.{answer_bytes, HasAnswerCounts}
 use Rattle.ov_wire.specs.AnswerReading.{bare, refused, welcome, known, plan, chained, up_to, answer_rows}
-use Rattle.ov_wire.specs.AnswersTo.{IsAnswer, create_refusals, read_refusals, ask_refusals, update_refusals, most_chunk}
+use Rattle.ov_wire.specs.AnswersTo.{IsAnswer, create_refusals, replace_refusals, read_refusals, ask_refusals, update_refusals, most_chunk}
 use Rattle.ov_wire.specs.Chains.{IsChain, surface_kinds}
 use Rattle.ov_wire.specs.Requests.{AreNames}
 use Rattle.ov_wire.proofs.EntryLaws.{entry_or_none_reads}
@@ -132,6 +132,14 @@ rows_read (requests.List file) = (
     (bare_row (requests.List file) 0x8e answers.NoMemory tt refl, tt),
   ),
 )
+rows_read (requests.Replan file len) = (
+  row_reads 0x83 plan most_bytes plan_reads (omega arith)
+      (record { form = λ f fits. (fits.0.0.0.0.0, fits.0.0.0.0.1, fits.0.0.0.1, fits.0.0.1, count_is (2 ^ 16) MAX_USERS (length f.1) fits.1.0, fits.1.1); spelled = λ f. refl }),
+  (
+    refused_row (requests.Replan file len) replace_refusals (λ r is. is),
+    (bare_row (requests.Replan file len) 0x8e answers.NoMemory tt refl, tt),
+  ),
+)
 
 -- what is read is spelled so
 pub answer_takes : (request : Request) (bytes : List ℕ) (answer : Answer) → AreBytes bytes → all_of (by_rows (answer_rows request) bytes) ≡ Ok answer → IsAnswer request answer × (bytes ≡ answer_bytes answer)
@@ -151,6 +159,7 @@ answer_again (requests.Chain user file) answers.NoMemory is = refl
 answer_again (requests.Chunk file generation start count) answers.NoMemory is = refl
 answer_again (requests.Page part number) answers.NoMemory is = refl
 answer_again (requests.List file) answers.NoMemory is = refl
+answer_again (requests.Replan file len) answers.NoMemory is = refl
 answer_again requests.Hello (answers.Welcome w) is = row_again welcome welcome_reads ((w.mode, w.epoch), w.base_check) ((each_mode w.mode, is.0), is.1)
 answer_again (requests.Ask question) (answers.Known k) is =
     row_again known (known_reads question) ((((((k.epoch, k.user), k.base_root), k.surface_root), k.file), k.node), k.wants) ((((((is.0, is.1), is.2), is.3), is.4), is.5), is.6)
@@ -174,6 +183,10 @@ answer_again (requests.Chunk f asked start count) answers.DeviceFault is = refl
 answer_again (requests.Page part number) (answers.PageOf entry) is = row_again answers.PageOf (entry_or_none_reads part) entry is
 answer_again (requests.List file) (answers.Listed names) is = row_again answers.Listed (names_reads MAX_USERS (omega arith)) names (record { few = is.0; are_names = is.1 })
 answer_again (requests.List file) (answers.Refused refusal) is = row_again answers.Refused (refusal_reads (NoFile ∷ [])) refusal is
+answer_again (requests.Replan f l) (answers.Plan p) is =
+    row_again plan plan_reads (((((p.epoch, p.file), p.list), p.node), p.fresh), p.from)
+    (((((is.0, is.1), is.2), is.3), each_flag p.fresh), (is_count (2 ^ 16) MAX_USERS (length p.from) (omega arith) is.4, is.5))
+answer_again (requests.Replan f l) (answers.Refused refusal) is = row_again answers.Refused (refusal_reads replace_refusals) refusal is
 answer_again request answer is = absurd is
 
 -- ---- what is an answer can be written
@@ -184,6 +197,7 @@ few_steps (Some chain) is = omega (arith, is.1.0)
 
 pub answer_counts : (request : Request) (answer : Answer) → IsAnswer request answer → HasAnswerCounts answer
 answer_counts (requests.Cover f l ns) (answers.Plan plan) is = omega (arith, is.4)
+answer_counts (requests.Replan f l) (answers.Plan plan) is = omega (arith, is.4)
 answer_counts (requests.Chain u f) (answers.Chained chained) is = (omega (arith, is.5.1.0), few_steps chained.surface is.6)
 answer_counts (requests.List file) (answers.Listed names) is = omega (arith, is.0)
 answer_counts request (answers.Welcome welcome) is = tt

@@ -29,7 +29,7 @@ use Rattle.ov_wire.specs.declared.answer.Answer.{Answer}
 use Rattle.ov_wire.specs.declared.answer.Answer.TheVariants as answers
 use Rattle.ov_wire.specs.AnswerBytes.{answer_bytes}
 use Rattle.ov_wire.specs.AnswerReading.{Row, bare, refused, welcome_at, welcome, known_at, known, plan_at, plan, chained_at, chained, up_to, answer_rows, answer_of}
-use Rattle.ov_wire.specs.AnswersTo.{IsAnswer, create_refusals, read_refusals, ask_refusals, update_refusals, users_of, roots_of, files_of, nodes_of, names_user, names_file, wants_of, most_chunk}
+use Rattle.ov_wire.specs.AnswersTo.{IsAnswer, create_refusals, replace_refusals, read_refusals, ask_refusals, update_refusals, users_of, roots_of, files_of, nodes_of, names_user, names_file, wants_of, most_chunk}
 use Rattle.ov_wire.specs.Chains.{base_kinds, surface_kinds}
 use Rattle.ov_wire.specs.Laws.{HasKind, HasEachAnswer}
 use Rattle.ov_wire.specs.Updates.{Has32}
@@ -261,6 +261,14 @@ rows_placed (requests.List file) has = (
   (
     refused_row (requests.List file) (NoFile ∷ []) NoFile (inl refl) (λ r is. is),
     (bare_row (requests.List file) 0x8e answers.NoMemory tt refl, tt),
+  ),
+)
+rows_placed (requests.Replan file len) has = (
+  row_places 0x83 plan plan_reads plan_places
+      (record { form = λ f fits. (fits.0.0.0.0.0, fits.0.0.0.0.1, fits.0.0.0.1, fits.0.0.1, count_is (2 ^ 16) MAX_USERS (length f.1) fits.1.0, fits.1.1); spelled = λ f. refl }),
+  (
+    refused_row (requests.Replan file len) replace_refusals NoFile (inl refl) (λ r is. is),
+    (bare_row (requests.Replan file len) 0x8e answers.NoMemory tt refl, tt),
   ),
 )
 

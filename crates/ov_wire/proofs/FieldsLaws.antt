@@ -12,7 +12,7 @@ use Rattle.ov_fields.proofs.NameLaws.{longest_name, name_reads}
 use Rattle.ov_fields.proofs.TestLaws.{IsCount, count_is, is_count}
 use Rattle.ov_fields.proofs.TagLaws.{spanned_reads}
 use Rattle.ov_fields.proofs.KindLaws.{IsKind, kind_takes, kind_again, kind_near, kind_none}
-use Rattle.ov_wire.specs.Updates.{Fields, Enrolment, Creation, Grant, Revocation, Removal, plain, Has32, HasSet, token_fields, AreTokens, tokens_at, fields_bytes, HasFields, IsSpelling, creation, creation_at, grant, grant_at, revocation, revocation_at, fields_at}
+use Rattle.ov_wire.specs.Updates.{Fields, Enrolment, Creation, Grant, Revocation, Removal, Replacement, plain, Has32, HasSet, token_fields, AreTokens, tokens_at, fields_bytes, HasFields, IsSpelling, creation, creation_at, grant, grant_at, revocation, revocation_at, replacement, replacement_at, fields_at}
 use Rattle.ov_wire.specs.RequestReading.{spelling_at}
 
 abbrev pub creation_fields : (((List ℕ × List ℕ) × List ℕ) × List ℕ) × List ℕ → List ℕ
@@ -82,6 +82,23 @@ revocation_kind = record { form = λ f fits. fits; spelled = λ f. refl }
 pub removal_kind : IsKind u32 (λ n. n < 2 ^ 32) fields_bytes HasFields 6 Removal
 removal_kind = record { form = λ n fits. fits; spelled = λ n. refl }
 
+abbrev pub replacement_fields : ((List ℕ × List ℕ) × List ℕ) × List ℕ → List ℕ
+replacement_fields f = name_field f.0.0.0 ++ token_fields f.0.0.1 ++ f.0.1 ++ sized f.1
+
+abbrev pub ReplacementFits : ((List ℕ × List ℕ) × List ℕ) × List ℕ → Type 0
+ReplacementFits f =
+    ((IsName f.0.0.0 × AreTokens MAX_USERS f.0.0.1) × Has32 f.0.1)
+    × (IsCount (2 ^ 32) MAX_FILE_BYTES (length f.1) × Unit {0})
+
+pub replacement_reads : Reads replacement_at replacement_fields ReplacementFits (longest_name + (2 + 32 * MAX_USERS) + 32 + (4 + MAX_FILE_BYTES))
+replacement_reads = then_reads (then_reads (then_reads name_reads (tokens_reads MAX_USERS (omega arith))) (bytes_reads 32)) (sized_reads MAX_FILE_BYTES)
+
+pub replacement_kind : IsKind replacement_fields ReplacementFits fields_bytes HasFields 7 replacement
+replacement_kind = record {
+  form = λ f fits. (fits.0.0.0, fits.0.0.1, fits.0.1, count_is (2 ^ 32) MAX_FILE_BYTES (length f.1) fits.1.0);
+  spelled = λ f. refl;
+}
+
 pub enrolment_kind : IsKind name_field IsName fields_bytes HasFields 1 Enrolment
 enrolment_kind = record { form = λ name is. is; spelled = λ name. refl }
 
@@ -99,7 +116,8 @@ fields_takes (suc (suc (suc zero)) ∷ bytes) x fits e = kind_takes 3 grant gran
 fields_takes (suc (suc (suc (suc zero))) ∷ bytes) x fits e = kind_takes 4 revocation revocation_reads revocation_kind bytes x fits e
 fields_takes (suc (suc (suc (suc (suc zero)))) ∷ bytes) x fits e = absurd cc
 fields_takes (suc (suc (suc (suc (suc (suc zero))))) ∷ bytes) x fits e = kind_takes 6 Removal (number_reads wide32) removal_kind bytes x fits e
-fields_takes (suc (suc (suc (suc (suc (suc (suc kind)))))) ∷ bytes) x fits e = absurd cc
+fields_takes (suc (suc (suc (suc (suc (suc (suc zero)))))) ∷ bytes) x fits e = kind_takes 7 replacement replacement_reads replacement_kind bytes x fits e
+fields_takes (suc (suc (suc (suc (suc (suc (suc (suc kind))))))) ∷ bytes) x fits e = absurd cc
 
 abbrev creation_values : (name list tokens tag bytes : List ℕ) → (((List ℕ × List ℕ) × List ℕ) × List ℕ) × List ℕ
 creation_values name list tokens tag bytes = ((((name, list), tokens), tag), bytes)
@@ -107,6 +125,13 @@ creation_values name list tokens tag bytes = ((((name, list), tokens), tag), byt
 creation_fits : (name list tokens tag bytes : List ℕ) → HasFields (Creation name list tokens tag bytes) → CreationFits (creation_values name list tokens tag bytes)
 creation_fits name list tokens tag bytes fits =
     ((((fits.0, fits.1), fits.2), fits.3), (is_count (2 ^ 32) MAX_FILE_BYTES (length bytes) (omega arith) fits.4, tt))
+
+abbrev replacement_values : (name tokens tag bytes : List ℕ) → ((List ℕ × List ℕ) × List ℕ) × List ℕ
+replacement_values name tokens tag bytes = (((name, tokens), tag), bytes)
+
+replacement_fits : (name tokens tag bytes : List ℕ) → HasFields (Replacement name tokens tag bytes) → ReplacementFits (replacement_values name tokens tag bytes)
+replacement_fits name tokens tag bytes fits =
+    (((fits.0, fits.1), fits.2), (is_count (2 ^ 32) MAX_FILE_BYTES (length bytes) (omega arith) fits.3, tt))
 
 fields_again : (f : Fields) (rest : List ℕ) → HasFields f → fields_at (fields_bytes f ++ rest) ≡ Ok (f, rest)
 unfolding fields_at
@@ -116,6 +141,8 @@ fields_again (Creation name list tokens tag bytes) rest fits =
 fields_again (Grant user file token) rest fits = kind_again grant grant_reads ((user, file), token) rest ((fits.0, fits.1), fits.2)
 fields_again (Revocation user file) rest fits = kind_again revocation revocation_reads (user, file) rest fits
 fields_again (Removal file) rest fits = kind_again Removal (number_reads wide32) file rest fits
+fields_again (Replacement name tokens tag bytes) rest fits =
+    kind_again replacement replacement_reads (replacement_values name tokens tag bytes) rest (replacement_fits name tokens tag bytes fits)
 
 fields_near : (bytes : List ℕ) (left : ℕ) → AreBytes bytes → fields_at bytes ≡ Err left → (left ≤ length bytes) × (length bytes ≤ left + longest)
 unfolding fields_at
@@ -127,8 +154,9 @@ fields_near (suc (suc (suc zero)) ∷ bytes) left fits e = kind_near 3 grant lon
 fields_near (suc (suc (suc (suc zero))) ∷ bytes) left fits e = kind_near 4 revocation longest revocation_reads (omega arith) bytes left fits e
 fields_near (suc (suc (suc (suc (suc zero)))) ∷ bytes) left fits e = kind_none 5 bytes left longest (omega arith) cc
 fields_near (suc (suc (suc (suc (suc (suc zero))))) ∷ bytes) left fits e = kind_near 6 Removal longest (number_reads wide32) (omega arith) bytes left fits e
-fields_near (suc (suc (suc (suc (suc (suc (suc kind)))))) ∷ bytes) left fits e =
-    kind_none (suc (suc (suc (suc (suc (suc (suc kind))))))) bytes left longest (omega arith) cc
+fields_near (suc (suc (suc (suc (suc (suc (suc zero)))))) ∷ bytes) left fits e = kind_near 7 replacement longest replacement_reads (omega arith) bytes left fits e
+fields_near (suc (suc (suc (suc (suc (suc (suc (suc kind))))))) ∷ bytes) left fits e =
+    kind_none (suc (suc (suc (suc (suc (suc (suc (suc kind)))))))) bytes left longest (omega arith) cc
 
 fields_short : (f : Fields) → HasFields f → length (fields_bytes f) ≤ longest
 fields_short (Enrolment name) fits = omega (arith, name_reads.short name fits)
@@ -137,6 +165,8 @@ fields_short (Creation name list tokens tag bytes) fits =
 fields_short (Grant user file token) fits = let k = grant_reads.short ((user, file), token) ((fits.0, fits.1), fits.2) in omega (arith, k)
 fields_short (Revocation user file) fits = omega arith
 fields_short (Removal file) fits = omega arith
+fields_short (Replacement name tokens tag bytes) fits =
+    let k = replacement_reads.short (replacement_values name tokens tag bytes) (replacement_fits name tokens tag bytes fits) in omega (arith, k)
 
 pub fields_reads : Reads fields_at fields_bytes HasFields longest
 fields_reads = record {

@@ -16,10 +16,22 @@ use Rattle.ov_wire.specs.declared.request.Request.TheVariants as requests
 use Rattle.ov_wire.specs.Frames.{IsFrame}
 use Rattle.ov_wire.specs.Updates.{Has32, IsSpelling}
 use Rattle.ov_wire.specs.Requests.{request_bytes, IsRequest, HasRequestForm, HasRequestLimits}
-use Rattle.ov_wire.specs.RequestReading.{cover, cover_at, update, update_at, chain, chunk, chunk_at, page, page_at, request_rows}
+use Rattle.ov_wire.specs.RequestReading.{cover, cover_at, update, update_at, chain, chunk, chunk_at, page, page_at, replan, replan_at, request_rows}
 use Rattle.ov_wire.proofs.FieldsLaws.{spelling_reads, longest}
 use Rattle.ov_wire.proofs.NamesLaws.{AreFewNames, names_reads}
 use Rattle.ov_wire.proofs.QuestionLaws.{question_reads, two_names_read}
+
+abbrev pub replan_fields : List ℕ × ℕ → List ℕ
+replan_fields f = name_field f.0 ++ u32 f.1
+
+abbrev pub ReplanFits : List ℕ × ℕ → Type 0
+ReplanFits f = IsName f.0 × ((f.1 < 2 ^ 32) × IsTrue (at_most MAX_FILE_BYTES f.1))
+
+pub replan_reads : Reads replan_at replan_fields ReplanFits (longest_name + 4)
+replan_reads = then_reads name_reads (that_reads wide32 (at_most MAX_FILE_BYTES))
+
+replan_fits : (file : List ℕ) (len : ℕ) → IsRequest (requests.Replan file len) → ReplanFits (file, len)
+replan_fits file len is = (is.0, (omega (arith, is.1), of_le MAX_FILE_BYTES len is.1))
 
 abbrev pub cover_fields : (List ℕ × ℕ) × List (List ℕ) → List ℕ
 cover_fields f = name_field f.0.0 ++ u32 f.0.1 ++ counted name_field f.1
@@ -28,7 +40,7 @@ abbrev pub CoverFits : (List ℕ × ℕ) × List (List ℕ) → Type 0
 CoverFits f = (IsName f.0.0 × ((f.0.1 < 2 ^ 32) × IsTrue (at_most MAX_FILE_BYTES f.0.1))) × AreFewNames 65535 f.1
 
 pub cover_reads : Reads cover_at cover_fields CoverFits (longest_name + 4 + (2 + 65535 * longest_name))
-cover_reads = then_reads (then_reads name_reads (that_reads wide32 (at_most MAX_FILE_BYTES))) (names_reads 65535 (omega arith))
+cover_reads = then_reads replan_reads (names_reads 65535 (omega arith))
 
 pub update_reads : Reads update_at (λ f. u32 f.0.0 ++ f.0.1 ++ f.1) (λ f. ((f.0.0 < 2 ^ 32) × IsSpelling f.0.1) × Has32 f.1) (4 + longest + 32)
 update_reads = then_reads (then_reads (number_reads wide32) spelling_reads) (bytes_reads 32)
@@ -63,7 +75,11 @@ rows_read = (
               row_reads 7 page most_bytes page_reads (omega arith) (record { form = λ f fits. fits.1; spelled = λ f. refl }),
               (
                 row_reads 8 requests.List most_bytes name_reads (omega arith) (record { form = λ f fits. fits; spelled = λ f. refl }),
-                tt,
+                (
+                  row_reads 9 replan most_bytes replan_reads (omega arith)
+                      (record { form = λ f fits. (fits.0, le_of MAX_FILE_BYTES f.1 fits.1.1); spelled = λ f. refl }),
+                  tt,
+                ),
               ),
             ),
           ),
@@ -92,6 +108,7 @@ request_again (requests.Chunk file generation start count) is =
     row_again chunk chunk_reads (((file, generation), start), count) (((is.0, is.1), is.2), (omega (arith, is.4), of_between 1 MAX_CHUNK_BYTES count is.3 is.4))
 request_again (requests.Page part number) is = row_again page page_reads (part, number) (refl, is)
 request_again (requests.List file) is = row_again requests.List name_reads file is
+request_again (requests.Replan file len) is = row_again replan replan_reads (file, len) (replan_fits file len is)
 
 -- a wrong byte is near
 pub request_near : (bytes : List ℕ) (left : ℕ) → AreBytes bytes → all_of (by_rows request_rows bytes) ≡ Err left → (left ≤ length bytes) × (length bytes ≤ left + (1 + most_bytes))
@@ -107,6 +124,7 @@ request_limits (requests.Chain user file) form = tt
 request_limits (requests.Chunk file generation start count) form = (form.is_request.3, form.is_request.4)
 request_limits (requests.Page part number) form = tt
 request_limits (requests.List file) form = tt
+request_limits (requests.Replan file len) form = form.is_request.1
 
 -- a frame has room for a request within the limits
 pub request_fits : (request : Request) → IsRequest request → HasRequestLimits request → length (request_bytes request) ≤ MAX_FRAME_BYTES
@@ -119,6 +137,8 @@ request_fits (requests.Chain user file) is within = let k = two_names_read.short
 request_fits (requests.Chunk file generation start count) is within = omega arith
 request_fits (requests.Page part number) is within = omega arith
 request_fits (requests.List file) is within = omega (arith, name_reads.short file is)
+request_fits (requests.Replan file len) is within =
+    let k = replan_reads.short (file, len) (replan_fits file len is) in omega (arith, k)
 
 -- a request has a byte at least
 some_bytes : (request : Request) → 1 ≤ length (request_bytes request)
@@ -130,6 +150,7 @@ some_bytes (requests.Chain user file) = omega arith
 some_bytes (requests.Chunk file generation start count) = omega arith
 some_bytes (requests.Page part number) = omega arith
 some_bytes (requests.List file) = omega arith
+some_bytes (requests.Replan file len) = omega arith
 
 pub request_is_frame : (request : Request) → HasRequestForm request → IsFrame (request_bytes request)
 request_is_frame request form = (some_bytes request, form.fits)

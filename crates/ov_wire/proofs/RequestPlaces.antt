@@ -6,7 +6,7 @@ use Rattle.ov_fields.specs.Spelling.{u8, u32}
 use Rattle.ov_fields.specs.Fronts.{IsFront, AreAllBytes, IsWrongPlace}
 use Rattle.ov_fields.specs.Reading.{all_of, by_rows, placed, any, at_most, between}
 use Rattle.ov_fields.proofs.ReadingLaws.{then_reads}
-use Rattle.ov_fields.proofs.FieldLaws.{byte_reads, number_reads, that_reads, wide32}
+use Rattle.ov_fields.proofs.FieldLaws.{byte_reads, number_reads, wide32}
 use Rattle.ov_fields.proofs.NameLaws.{name_reads}
 use Rattle.ov_fields.proofs.TagLaws.{nothing_reads}
 use Rattle.ov_fields.proofs.TestLaws.{le_of, between_of}
@@ -20,11 +20,11 @@ use Rattle.ov_wire.specs.declared.request.Request.TheVariants as requests
 use Rattle.ov_wire.specs.Laws.{HasKind}
 use Rattle.ov_wire.specs.Updates.{Has32, IsSpelling}
 use Rattle.ov_wire.specs.Requests.{request_bytes, IsRequest}
-use Rattle.ov_wire.specs.RequestReading.{cover, cover_at, update, update_at, chain, chunk, chunk_at, page, page_at, request_rows, request_of}
+use Rattle.ov_wire.specs.RequestReading.{cover, cover_at, update, update_at, chain, chunk, chunk_at, page, page_at, replan, replan_at, request_rows, request_of}
 use Rattle.ov_wire.proofs.FieldsLaws.{spelling_reads}
 use Rattle.ov_wire.proofs.NamePlaces.{names_places}
 use Rattle.ov_wire.proofs.QuestionLaws.{question_reads, two_names_read}
-use Rattle.ov_wire.proofs.RequestLaws.{cover_fields, CoverFits, cover_reads, update_reads, chunk_reads, page_reads, request_again}
+use Rattle.ov_wire.proofs.RequestLaws.{replan_fields, ReplanFits, replan_reads, cover_fields, CoverFits, cover_reads, update_reads, chunk_reads, page_reads, request_again}
 use Rattle.ov_wire.proofs.UpdatePlaces.{two_names_places, question_places, spelling_places}
 use Rattle.ov_wire.proofs.LongFrames.{not_long}
 
@@ -36,11 +36,11 @@ InCover kind = kind ≡ 3
 abbrev Limits : Type 0
 Limits = Unit {0}
 
+replan_places : {Once : Type 0} → HasPlaces Once Limits replan_at replan_fields ReplanFits
+replan_places = then_places name_reads name_places (u32_places (at_most MAX_FILE_BYTES) 0 MAX_FILE_BYTES tt (at_most_limits MAX_FILE_BYTES (2 ^ 32) (omega arith)))
+
 cover_places : {Once : Type 0} → Once → HasPlaces Once Limits cover_at cover_fields CoverFits
-cover_places once =
-    then_places (then_reads name_reads (that_reads wide32 (at_most MAX_FILE_BYTES)))
-    (then_places name_reads name_places (u32_places (at_most MAX_FILE_BYTES) 0 MAX_FILE_BYTES tt (at_most_limits MAX_FILE_BYTES (2 ^ 32) (omega arith))))
-    (names_places 65535 (omega arith) once tt)
+cover_places once = then_places replan_reads replan_places (names_places 65535 (omega arith) once tt)
 
 update_places : {Once : Type 0} → HasPlaces Once Limits update_at (λ f. u32 f.0.0 ++ f.0.1 ++ f.1) (λ f. ((f.0.0 < 2 ^ 32) × IsSpelling f.0.1) × Has32 f.1)
 update_places = then_places (then_reads (number_reads wide32) spelling_reads) (then_places (number_reads wide32) (number_places wide32) (spelling_places tt)) (bytes_places 32)
@@ -74,7 +74,10 @@ rows_placed = (
               row_places 7 page page_reads page_places (record { form = λ f fits. fits.1; spelled = λ f. refl }),
               (
                 row_places 8 requests.List name_reads name_places (record { form = λ f fits. fits; spelled = λ f. refl }),
-                tt,
+                (
+                  row_places 9 replan replan_reads replan_places (record { form = λ f fits. (fits.0, le_of MAX_FILE_BYTES f.1 fits.1.1); spelled = λ f. refl }),
+                  tt,
+                ),
               ),
             ),
           ),

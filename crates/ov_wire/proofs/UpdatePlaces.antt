@@ -17,7 +17,7 @@ use Rattle.ov_fields.proofs.ListPlaces.{name_places, optional_places, sized_plac
 use Rattle.ov_fields.proofs.RowPlaces.{kind_fault, no_kind_fault}
 use Rattle.ov_wire.specs.declared.request.Question.TheVariants as questions
 use Rattle.ov_wire.specs.Requests.{question_bytes, HasQuestionForm}
-use Rattle.ov_wire.specs.Updates.{Enrolment, Removal, plain, token_fields, AreTokens, tokens_at, fields_bytes, HasFields, IsSpelling, creation, creation_at, grant, grant_at, revocation, revocation_at, fields_at}
+use Rattle.ov_wire.specs.Updates.{Enrolment, Removal, plain, token_fields, AreTokens, tokens_at, fields_bytes, HasFields, IsSpelling, creation, creation_at, grant, grant_at, revocation, revocation_at, replacement, replacement_at, fields_at}
 use Rattle.ov_wire.specs.RequestReading as requests
 use Rattle.ov_wire.specs.RequestReading.{question_at, spelling_at}
 use Rattle.ov_wire.proofs.FieldsLaws as fields
@@ -82,6 +82,13 @@ grant_places = then_places (then_reads (number_reads wide32) (number_reads wide3
 revocation_places : {Once Limited : Type 0} → HasPlaces Once Limited revocation_at fields.revocation_fields fields.RevocationFits
 revocation_places = then_places (number_reads wide32) (number_places wide32) (number_places wide32)
 
+replacement_places : {Once Limited : Type 0} → Limited → HasPlaces Once Limited replacement_at fields.replacement_fields fields.ReplacementFits
+replacement_places limited =
+    let two = then_reads name_reads (fields.tokens_reads MAX_USERS (omega arith)) in
+    then_places (then_reads two (bytes_reads 32))
+    (then_places two (then_places name_reads name_places (tokens_places MAX_USERS (omega arith) limited)) (bytes_places 32))
+    (sized_places MAX_FILE_BYTES (omega arith) limited)
+
 no_fields : IsFront fields_bytes HasFields []
 no_fields = let P = name_places {Once = ⊥} {Limited = ⊥} in none_before (Enrolment P.value) P.form (AreBytes-cons 1 (name_field P.value) (omega arith) P.bytes)
 
@@ -96,8 +103,10 @@ fields_fault limited (suc (suc (suc zero)) ∷ bytes) left fits e = kind_fault 3
 fields_fault limited (suc (suc (suc (suc zero))) ∷ bytes) left fits e = kind_fault 4 revocation revocation_places fields.revocation_kind (λ t. refl) bytes left fits e
 fields_fault limited (suc (suc (suc (suc (suc zero)))) ∷ bytes) left fits e = no_kind_fault 5 no_fields (λ t x bad. absurd cc) bytes left cc
 fields_fault limited (suc (suc (suc (suc (suc (suc zero))))) ∷ bytes) left fits e = kind_fault 6 Removal (number_places wide32) fields.removal_kind (λ t. refl) bytes left fits e
-fields_fault limited (suc (suc (suc (suc (suc (suc (suc kind)))))) ∷ bytes) left fits e =
-    no_kind_fault (suc (suc (suc (suc (suc (suc (suc kind))))))) no_fields (λ t x bad. absurd cc) bytes left cc
+fields_fault limited (suc (suc (suc (suc (suc (suc (suc zero)))))) ∷ bytes) left fits e =
+    kind_fault 7 replacement (replacement_places limited) fields.replacement_kind (λ t. refl) bytes left fits e
+fields_fault limited (suc (suc (suc (suc (suc (suc (suc (suc kind))))))) ∷ bytes) left fits e =
+    no_kind_fault (suc (suc (suc (suc (suc (suc (suc (suc kind)))))))) no_fields (λ t x bad. absurd cc) bytes left cc
 
 fields_places : {Once Limited : Type 0} → Limited → HasPlaces Once Limited fields_at fields_bytes HasFields
 fields_places limited =

@@ -19,7 +19,7 @@ use Rattle.ov_wire.specs.declared.answer.Answer.TheVariants as answers
 use Rattle.ov_wire.specs.Chains.{chain_at, base_kinds, surface_kinds}
 use Rattle.ov_wire.specs.Entries.{node_at, entry_at}
 use Rattle.ov_wire.specs.RequestReading.{names_at}
-use Rattle.ov_wire.specs.AnswersTo.{create_refusals, read_refusals, ask_refusals, update_refusals, users_of, roots_of, files_of, nodes_of, most_chunk, wants_of}
+use Rattle.ov_wire.specs.AnswersTo.{create_refusals, replace_refusals, read_refusals, ask_refusals, update_refusals, users_of, roots_of, files_of, nodes_of, most_chunk, wants_of}
 use Rattle.ov_wire.specs.Places.{in_frame}
 
 -- a row of a table: a kind byte, and how what follows it is read
@@ -139,9 +139,9 @@ abbrev pub ask_rows : Question → List Row
 ask_rows question =
     (0x82, making known (known_at question)) ∷ refused (ask_refusals question) ∷ no_memory ∷ []
 
--- the rows of an answer to Cover
-abbrev pub cover_rows : List Row
-cover_rows = (0x83, making plan plan_at) ∷ refused create_refusals ∷ no_memory ∷ []
+-- the rows of an answer to a request for a plan that has these refusals
+abbrev pub plan_rows : List Refusal → List Row
+plan_rows refusals = (0x83, making plan plan_at) ∷ refused refusals ∷ no_memory ∷ []
 
 -- the rows of an answer to Update
 abbrev pub update_rows : ℕ → List ℕ → List Row
@@ -173,12 +173,13 @@ list_rows =
 abbrev pub answer_rows : Request → List Row
 answer_rows requests.Hello = hello_rows
 answer_rows (requests.Ask question) = ask_rows question
-answer_rows (requests.Cover file len names) = cover_rows
+answer_rows (requests.Cover file len names) = plan_rows create_refusals
 answer_rows (requests.Update epoch spelling tag) = update_rows epoch spelling
 answer_rows (requests.Chain user file) = chain_rows
 answer_rows (requests.Chunk file generation start count) = chunk_rows generation count
 answer_rows (requests.Page part number) = page_rows part
 answer_rows (requests.List file) = list_rows
+answer_rows (requests.Replan file len) = plan_rows replace_refusals
 
 -- the answer that the bytes are, or the place of the first wrong byte
 abbrev pub answer_of : Request → List ℕ → Result Answer ℕ

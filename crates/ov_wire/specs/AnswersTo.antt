@@ -39,9 +39,13 @@ grant_refusals = NoUser ∷ NoFile ∷ Listed ∷ NodesFull ∷ Spent ∷ []
 abbrev pub revoke_refusals : List Refusal
 revoke_refusals = NoUser ∷ NoFile ∷ NotListed ∷ NodesFull ∷ Spent ∷ []
 
--- the refusals of a removal
+-- the refusals of a removal, which needs no node
 abbrev pub remove_refusals : List Refusal
-remove_refusals = NoFile ∷ NodesFull ∷ Spent ∷ []
+remove_refusals = NoFile ∷ Spent ∷ []
+
+-- the refusals of a replacement, which may need a node in each layer
+abbrev pub replace_refusals : List Refusal
+replace_refusals = NoFile ∷ FilesFull ∷ BytesFull ∷ NodesFull ∷ Spent ∷ []
 
 -- the refusals of a reading
 abbrev pub read_refusals : List Refusal
@@ -64,6 +68,7 @@ update_refusals (kind ∷ bytes) =
     else if kind == 3 then grant_refusals
     else if kind == 4 then revoke_refusals
     else if kind == 6 then remove_refusals
+    else if kind == 7 then replace_refusals
     else []
 
 -- ---- the fields of Known that are 0 where the command is about no user, or about no file
@@ -123,7 +128,7 @@ IsKnown question known =
     × (known.file < files_of question) × (known.node < nodes_of question)
     × IsOneOf known.wants (wants_of question)
 
--- the fields of an answer to Cover
+-- the fields of an answer to Cover or to Replan
 abbrev pub IsPlan : Plan → Type 0
 IsPlan plan =
     (plan.epoch < 2 ^ 32) × (plan.file < MAX_FILES) × IsBelow MAX_USERS plan.list
@@ -167,4 +172,6 @@ IsAnswer (requests.Page part number) (answers.PageOf entry) = IfSome entry (IsEn
 IsAnswer (requests.List file) (answers.Listed names) =
     (length names ≤ MAX_USERS) × AreNames names
 IsAnswer (requests.List file) (answers.Refused refusal) = IsOneOf refusal (NoFile ∷ [])
+IsAnswer (requests.Replan file len) (answers.Plan plan) = IsPlan plan
+IsAnswer (requests.Replan file len) (answers.Refused refusal) = IsOneOf refusal replace_refusals
 IsAnswer request answer = ⊥

@@ -92,6 +92,14 @@ page_at = byte_at any >> number_at w32
 abbrev pub page : ℕ × ℕ → Request
 page (part, number) = requests.Page part number
 
+-- name and length of a Replan
+abbrev pub replan_at : List ℕ → Read (List ℕ × ℕ)
+replan_at = name_at >> number_that w32 (at_most MAX_FILE_BYTES)
+
+-- the Replan with these fields
+abbrev pub replan : List ℕ × ℕ → Request
+replan (file, len) = requests.Replan file len
+
 -- each kind byte, and how what follows it is read
 abbrev pub request_rows : List (ℕ × (List ℕ → Read Request))
 request_rows =
@@ -103,6 +111,7 @@ request_rows =
     ∷ (6, making chunk chunk_at)
     ∷ (7, making page page_at)
     ∷ (8, making requests.List name_at)
+    ∷ (9, making replan replan_at)
     ∷ []
 
 -- the request that the bytes are, or the place of the first wrong byte

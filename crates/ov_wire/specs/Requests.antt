@@ -31,6 +31,7 @@ request_bytes (requests.Chunk file generation start count) =
     6 ∷ u32 file ++ u32 generation ++ u32 start ++ u32 count
 request_bytes (requests.Page part number) = 7 ∷ u8 part ++ u32 number
 request_bytes (requests.List file) = 8 ∷ name_field file
+request_bytes (requests.Replan file len) = 9 ∷ name_field file ++ u32 len
 
 -- names of which none comes twice
 abbrev pub AreNames : List (List ℕ) → Type 0
@@ -57,6 +58,7 @@ IsRequest (requests.Chunk file generation start count) =
     × (1 ≤ count) × (count ≤ MAX_CHUNK_BYTES)
 IsRequest (requests.Page part number) = number < 2 ^ 32
 IsRequest (requests.List file) = IsName file
+IsRequest (requests.Replan file len) = IsName file × (len ≤ MAX_FILE_BYTES)
 
 -- which requests can be sent: a frame has room for them
 pub record HasRequestForm (request : Request) : Type 0 where
@@ -71,6 +73,7 @@ HasRequestLimits (requests.Cover file len names) =
 HasRequestLimits (requests.Update epoch spelling tag) = IsSpelling spelling
 HasRequestLimits (requests.Chunk file generation start count) =
     (1 ≤ count) × (count ≤ MAX_CHUNK_BYTES)
+HasRequestLimits (requests.Replan file len) = len ≤ MAX_FILE_BYTES
 HasRequestLimits request = Unit {0}
 
 -- the update's spelling and the owner's tag, with which an Update ends

@@ -13,6 +13,7 @@ pub data Fields : Type 0 where
   Grant : (user file : ℕ) → (token : Option (List ℕ)) → Fields
   Revocation : (user file : ℕ) → Fields
   Removal : (file : ℕ) → Fields
+  Replacement : (name tokens tag bytes : List ℕ) → Fields
 
 -- bytes as they are
 abbrev pub plain : List ℕ → List ℕ
@@ -43,6 +44,8 @@ fields_bytes (Creation name list tokens tag bytes) =
 fields_bytes (Grant user file token) = 3 ∷ u32 user ++ u32 file ++ optional plain token
 fields_bytes (Revocation user file) = 4 ∷ u32 user ++ u32 file
 fields_bytes (Removal file) = 6 ∷ u32 file
+fields_bytes (Replacement name tokens tag bytes) =
+    7 ∷ name_field name ++ token_fields tokens ++ tag ++ sized bytes
 
 -- which fields make an update
 abbrev pub HasFields : Fields → Type 0
@@ -53,6 +56,8 @@ HasFields (Creation name list tokens tag bytes) =
 HasFields (Grant user file token) = (user < 2 ^ 32) × (file < 2 ^ 32) × IfSome token Has32
 HasFields (Revocation user file) = (user < 2 ^ 32) × (file < 2 ^ 32)
 HasFields (Removal file) = file < 2 ^ 32
+HasFields (Replacement name tokens tag bytes) =
+    IsName name × AreTokens MAX_USERS tokens × Has32 tag × (length bytes ≤ MAX_FILE_BYTES)
 
 -- the bytes spell an update
 pub record IsSpelling (bytes : List ℕ) : Type 0 where
@@ -93,7 +98,15 @@ revocation_at = number_at w32 >> number_at w32
 abbrev pub revocation : ℕ × ℕ → Fields
 revocation (user, file) = Revocation user file
 
--- the kind byte, from 1 to 4 or 6, and the fields of this kind
+-- name, tokens, tag and bytes of a replacement
+abbrev pub replacement_at : List ℕ → Read (((List ℕ × List ℕ) × List ℕ) × List ℕ)
+replacement_at = name_at >> tokens_at MAX_USERS >> bytes_at 32 >> sized_at MAX_FILE_BYTES
+
+-- the replacement with these fields
+abbrev pub replacement : ((List ℕ × List ℕ) × List ℕ) × List ℕ → Fields
+replacement (((name, tokens), tag), bytes) = Replacement name tokens tag bytes
+
+-- the kind byte, from 1 to 4 or 6 or 7, and the fields of this kind
 unfoldable pub fields_at : List ℕ → Read Fields
 fields_at [] = Err 0
 fields_at (suc zero ∷ bytes) = made Enrolment (name_at bytes)
@@ -101,4 +114,6 @@ fields_at (suc (suc zero) ∷ bytes) = made creation (creation_at bytes)
 fields_at (suc (suc (suc zero)) ∷ bytes) = made grant (grant_at bytes)
 fields_at (suc (suc (suc (suc zero))) ∷ bytes) = made revocation (revocation_at bytes)
 fields_at (suc (suc (suc (suc (suc (suc zero))))) ∷ bytes) = made Removal (number_at w32 bytes)
+fields_at (suc (suc (suc (suc (suc (suc (suc zero)))))) ∷ bytes) =
+    made replacement (replacement_at bytes)
 fields_at (kind ∷ bytes) = Err (length (kind ∷ bytes))

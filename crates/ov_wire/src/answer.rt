@@ -55,7 +55,7 @@ pub enum Answer {
     Welcome(Welcome),
     /// The answer to Ask.
     Known(Known),
-    /// The answer to Cover.
+    /// The answer to Cover and to Replan.
     Plan(Plan),
     /// An answer to Update: the epoch that it made.
     Accepted { epoch: u32 },

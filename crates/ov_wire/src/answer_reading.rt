@@ -6,7 +6,7 @@ ghost use Rattle.ov_fields.specs.Reading.{all_of, by_kind, by_rows};
 ghost use Rattle.ov_fields.specs.declared.fault.FieldFault.TheVariants.{Bad};
 ghost use Rattle.ov_wire.specs.declared.answer.Answer.{Answer};
 ghost use Rattle.ov_wire.specs.AnswerBytes.{answer_bytes, HasAnswerCounts};
-ghost use Rattle.ov_wire.specs.AnswerReading.{answer_of, answer_rows, ask_rows, chain_rows, chunk_rows, cover_rows, hello_rows, list_rows, page_rows, update_rows};
+ghost use Rattle.ov_wire.specs.AnswerReading.{answer_of, answer_rows, ask_rows, chain_rows, chunk_rows, hello_rows, list_rows, page_rows, plan_rows, update_rows};
 ghost use Rattle.ov_wire.specs.AnswersTo.{IsAnswer};
 ghost use Rattle.ov_base.specs.declared.limits.TheConstants.{MAX_FRAME_BYTES};
 ghost use Rattle.ov_wire.specs.Places.{place_of};
@@ -15,7 +15,9 @@ use crate::answer_bodies::{
     take_accepted, take_chained, take_chunk, take_known, take_listed, take_moved, take_page_of,
     take_plan, take_refused, take_stale, take_welcome,
 };
-use crate::refusals::{ask_refusals, create_refusals, read_refusals, update_refusals};
+use crate::refusals::{
+    ask_refusals, create_refusals, read_refusals, replace_refusals, update_refusals,
+};
 use crate::{Answer, Question, Request, WireFault, kinds};
 use ov_base::Refusal;
 use ov_base::limits::MAX_FRAME_BYTES;
@@ -58,13 +60,18 @@ fn to_ask<'a>(
     }
 }
 
-/// The answer to Cover that follows this kind byte.
-fn to_cover(alloc: Global, kind: u8, body: &[u8]) -> Result<(Answer, &[u8]), FieldFault>
-    ensures { GivesField (λ a. a) result (by_kind cover_rows kind body.now) }
+/// The answer that follows this kind byte, to a request for a plan that has these refusals.
+fn to_plan<'a>(
+    alloc: Global,
+    refusals: &[Refusal],
+    kind: u8,
+    body: &'a [u8],
+) -> Result<(Answer, &'a [u8]), FieldFault>
+    ensures { GivesField (λ a. a) result (by_kind (plan_rows refusals.now) kind body.now) }
 {
     match kind {
         kinds::PLAN => take_plan(alloc, body),
-        kinds::REFUSED => take_refused(create_refusals(), body),
+        kinds::REFUSED => take_refused(refusals, body),
         kinds::NO_MEMORY => Ok((Answer::NoMemory, body)),
         _ => Err(no_answer(body)),
     }
@@ -172,7 +179,7 @@ fn answer_to<'a>(
     match request {
         Request::Hello => to_hello(kind, body),
         Request::Ask { question } => to_ask(question, kind, body),
-        Request::Cover { .. } => to_cover(alloc, kind, body),
+        Request::Cover { .. } => to_plan(alloc, create_refusals(), kind, body),
         Request::Update {
             epoch,
             spelling,
@@ -186,6 +193,7 @@ fn answer_to<'a>(
         } => to_chunk(alloc, *generation, *count, kind, body),
         Request::Page { part, .. } => to_page(alloc, *part, kind, body),
         Request::List { .. } => to_list(alloc, kind, body),
+        Request::Replan { .. } => to_plan(alloc, replace_refusals(), kind, body),
     }
 }
 

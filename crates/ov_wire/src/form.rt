@@ -56,5 +56,6 @@ pub fn known_request_form(request: &Request)
             let _number = *number;
         }
         Request::List { file } => known_name(file),
+        Request::Replan { file, .. } => known_name(file),
     }
 }

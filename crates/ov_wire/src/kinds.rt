@@ -24,13 +24,16 @@ pub const PAGE: u8 = 0x07;
 /// A List.
 pub const LIST: u8 = 0x08;
 
+/// A Replan.
+pub const REPLAN: u8 = 0x09;
+
 /// A Welcome, the answer to a Hello.
 pub const WELCOME: u8 = 0x81;
 
 /// A Known, the answer to an Ask.
 pub const KNOWN: u8 = 0x82;
 
-/// A Plan, the answer to a Cover.
+/// A Plan, the answer to a Cover or a Replan.
 pub const PLAN: u8 = 0x83;
 
 /// An Accepted, the answer to an Update.

@@ -4,7 +4,7 @@ ghost use Rattle.std.specs.Prelude.{◌≡◌};
 ghost use Rattle.ov_base.specs.Refusals.{refusal_number};
 ghost use Rattle.ov_fields.specs.Answers.{GivesField};
 ghost use Rattle.ov_fields.specs.Reading.{one_of_at, tagged_by};
-ghost use Rattle.ov_wire.specs.AnswersTo.{ask_refusals, create_refusals, enrol_refusals, grant_refusals, read_refusals, remove_refusals, revoke_refusals, update_refusals};
+ghost use Rattle.ov_wire.specs.AnswersTo.{ask_refusals, create_refusals, enrol_refusals, grant_refusals, read_refusals, remove_refusals, replace_refusals, revoke_refusals, update_refusals};
 
 use crate::Question;
 use ov_base::Refusal;
@@ -62,11 +62,24 @@ fn revoke_refusals() -> &'static [Refusal]
     ]
 }
 
-/// The refusals of a removal.
+/// The refusals of a removal, which needs no node.
 fn remove_refusals() -> &'static [Refusal]
     ensures { result.now ≡ remove_refusals }
 {
-    &[Refusal::NoFile, Refusal::NodesFull, Refusal::Spent]
+    &[Refusal::NoFile, Refusal::Spent]
+}
+
+/// The refusals of a replacement, which may need a node in each layer.
+pub fn replace_refusals() -> &'static [Refusal]
+    ensures { result.now ≡ replace_refusals }
+{
+    &[
+        Refusal::NoFile,
+        Refusal::FilesFull,
+        Refusal::BytesFull,
+        Refusal::NodesFull,
+        Refusal::Spent,
+    ]
 }
 
 /// The refusals of a reading.
@@ -101,6 +114,7 @@ pub fn update_refusals(spelling: &[u8]) -> &'static [Refusal]
             3 => grant_refusals(),
             4 => revoke_refusals(),
             6 => remove_refusals(),
+            7 => replace_refusals(),
             _ => &[],
         },
     }

@@ -59,4 +59,10 @@ pub enum Request {
     List {
         file: Name,
     },
+    /// Asks where the list of a file would be in the base layer, were the file replaced by one of
+    /// this length.
+    Replan {
+        file: Name,
+        length: u32,
+    },
 }

@@ -6,7 +6,7 @@ ghost use Rattle.ov_fields.specs.Reading.{all_of, by_rows, making, name_at};
 ghost use Rattle.ov_wire.specs.declared.request.Request.{Request};
 ghost use Rattle.ov_wire.specs.declared.request.Request.TheVariants as requests;
 ghost use Rattle.ov_wire.specs.Places.{place_of};
-ghost use Rattle.ov_wire.specs.RequestReading.{chain, chain_at, chunk, chunk_at, cover, cover_at, page, page_at, question_at, request_of, request_rows, update, update_at};
+ghost use Rattle.ov_wire.specs.RequestReading.{chain, chain_at, chunk, chunk_at, cover, cover_at, page, page_at, question_at, replan, replan_at, request_of, request_rows, update, update_at};
 ghost use Rattle.ov_wire.specs.Requests.{request_bytes, HasRequestForm, HasRequestLimits};
 
 use crate::names::take_names;
@@ -139,6 +139,15 @@ fn take_list(bytes: &[u8]) -> Result<(Request, &[u8]), FieldFault>
     Ok((Request::List { file }, rest))
 }
 
+/// What follows the kind byte of a Replan.
+fn take_replan(bytes: &[u8]) -> Result<(Request, &[u8]), FieldFault>
+    ensures { GivesField (λ r. r) result (making replan replan_at bytes.now) }
+{
+    let (file, rest) = take_name(bytes)?;
+    let (length, rest) = take_u32_at_most(MAX_FILE_BYTES, rest)?;
+    Ok((Request::Replan { file, length }, rest))
+}
+
 /// A request.
 fn take_request(alloc: Global, bytes: &[u8]) -> Result<(Request, &[u8]), FieldFault>
     ensures { GivesField (λ r. r) result (by_rows request_rows bytes.now) }
@@ -154,6 +163,7 @@ fn take_request(alloc: Global, bytes: &[u8]) -> Result<(Request, &[u8]), FieldFa
             kinds::CHUNK => take_chunk(body),
             kinds::PAGE => take_page(body),
             kinds::LIST => take_list(body),
+            kinds::REPLAN => take_replan(body),
             _ => Err(FieldFault::Bad { left: bytes.len() }),
         },
     }

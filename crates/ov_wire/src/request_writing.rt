@@ -53,6 +53,15 @@ fn put_cover(file: &Name, len: u32, names: &Names, out: &mut Vec<u8>) -> Result<
     put_names(names, out)
 }
 
+/// Appends a Replan.
+fn put_replan(file: &Name, len: u32, out: &mut Vec<u8>) -> Result<(), Memory>
+    ensures { OnOk result (out.new.items
+        ≡ out.old.items ++ (9 ∷ name_field file.now ++ u32 len)) }
+{
+    put_byte_and_name(kinds::REPLAN, file, out)?;
+    put_u32(len, out)
+}
+
 /// Appends a Chunk.
 fn put_chunk(
     file: u32,
@@ -112,6 +121,7 @@ fn put_front(request: &Request, out: &mut Vec<u8>) -> Result<(), Memory>
             put_u32(*number, out)?;
         }
         Request::List { file } => put_byte_and_name(kinds::LIST, file, out)?,
+        Request::Replan { file, length } => put_replan(file, *length, out)?,
     }
     Ok(())
 }

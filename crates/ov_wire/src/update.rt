@@ -5,7 +5,7 @@ ghost use Rattle.ov_base.specs.declared.limits.TheConstants.{MAX_USERS};
 ghost use Rattle.ov_fields.specs.Answers.{Gives, GivesField, left_of};
 ghost use Rattle.ov_fields.specs.Reading.{made, rest_of};
 ghost use Rattle.ov_wire.specs.RequestReading.{spelling_at};
-ghost use Rattle.ov_wire.specs.Updates.{creation_at, fields_at, grant_at, revocation_at, tokens_at};
+ghost use Rattle.ov_wire.specs.Updates.{creation_at, fields_at, grant_at, replacement_at, revocation_at, tokens_at};
 
 use ov_base::limits::{MAX_FILE_BYTES, MAX_USERS, SET_BYTES};
 use ov_fields::{
@@ -53,6 +53,17 @@ fn skip_revocation(bytes: &[u8]) -> Result<&[u8], FieldFault>
     Ok(rest)
 }
 
+/// The bytes after the fields of a replacement.
+fn skip_replacement(bytes: &[u8]) -> Result<&[u8], FieldFault>
+    ensures { Gives left_of (λ r. r.now) result (rest_of (replacement_at bytes.now)) }
+{
+    let (_, rest) = take_name(bytes)?;
+    let (_, rest) = take_tokens(rest)?;
+    let (_, rest) = take_bytes(32, rest)?;
+    let (_, rest) = take_sized(MAX_FILE_BYTES, rest)?;
+    Ok(rest)
+}
+
 /// The bytes after an update's spelling.
 #[tactic(auto, unfolding(crate::specs::Updates::fields_at))]
 fn skip_update(bytes: &[u8]) -> Result<&[u8], FieldFault>
@@ -70,6 +81,7 @@ fn skip_update(bytes: &[u8]) -> Result<&[u8], FieldFault>
             let (_, rest) = take_u32(rest)?;
             Ok(rest)
         }
+        [7, rest @ ..] => skip_replacement(rest),
         _ => Err(FieldFault::Bad { left: bytes.len() }),
     }
 }

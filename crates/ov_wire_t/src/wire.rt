@@ -147,7 +147,7 @@ fn each_request_has_its_own_answers(rt: HostRuntime) -> Result<(), Fail> {
 }
 
 /// Requests that are none, with the place of the first wrong byte.
-const WRONG: [(&[u8], u32); 10] = [
+const WRONG: [(&[u8], u32); 13] = [
     (b"", 0),
     (b"\x01\0", 1),
     (b"\x06\0\0\0\x01\0\0\0\x01\0\0\0\0\0\0\0\0", 13),
@@ -159,6 +159,10 @@ const WRONG: [(&[u8], u32); 10] = [
     // No update is of kind 5, and a removal names a file alone.
     (b"\x04\0\0\0\x07\x05\0\0\0\x02", 5),
     (b"\x02\x06\x01f\x01g", 4),
+    // A Replan has the length of a file, and no list.
+    (b"\x09\x01f\x01\0\0\x01", 3),
+    (b"\x09\x01f\x01\0\0\0", 65_535),
+    (b"\x09\x01f\0\0\0\0\0\0", 7),
 ];
 
 #[test]

@@ -10,6 +10,8 @@ pub enum Asks {
     User,
     /// A new file, whose bytes are sent.
     File,
+    /// New bytes of a file, which are sent.
+    Replacement,
     /// Another list of a file.
     List,
     /// That a file goes.
@@ -29,6 +31,7 @@ pub fn asks_of(act: &Act) -> Asks {
     match act {
         Act::Enrol { user: _ } => Asks::User,
         Act::Create { file: _, list: _ } => Asks::File,
+        Act::Replace { file: _ } => Asks::Replacement,
         Act::Grant { user: _, file: _ } | Act::Revoke { user: _, file: _ } => Asks::List,
         Act::Remove { file: _ } => Asks::Removal,
         Act::List { file: _ } | Act::Key { user: _ } => Asks::Answer,
@@ -39,7 +42,10 @@ pub fn asks_of(act: &Act) -> Asks {
 
 /// Whether the act stores the bytes of a file.
 pub fn stores(act: &Act) -> bool {
-    matches!(act, Act::Create { file: _, list: _ })
+    matches!(
+        act,
+        Act::Create { file: _, list: _ } | Act::Replace { file: _ }
+    )
 }
 
 /// The text of a name.
@@ -55,6 +61,7 @@ pub fn file_of(act: &Act) -> &str {
         | Act::Revoke { user: _, file }
         | Act::Remove { file }
         | Act::Create { file, list: _ }
+        | Act::Replace { file }
         | Act::List { file }
         | Act::Read { file } => text_of(file),
     }

@@ -118,11 +118,24 @@ const FILE_IN_DOUBT: &str = concat!(
 // What to do where a file may have been sent and wasn't made.
 const FILE_FIRST: &str = "; then create this file, before any other for its list";
 
+// What to do where new bytes were sent and what came of it isn't known. Where the file wasn't replaced
+// the number and the pad of its replacement go to the next file for its list; where it was, the same
+// bytes again are one replacement more.
+const REPLACEMENT_IN_DOUBT: &str = concat!(
+    "it may be done: repeat it, with the same bytes, ",
+    "before you send any other file for its list"
+);
+
+// What to do where new bytes may have been sent and the file wasn't replaced.
+const REPLACEMENT_FIRST: &str =
+    "; then repeat this, with the same bytes, before you send any other file for its list";
+
 // What to do where a command was sent and what came of it isn't known.
 fn doubt_of(asks: Asks) -> &'static str {
     match asks {
         Asks::User => "it may be done: repeat it, and `refused 1 Taken` says that it was",
         Asks::File => FILE_IN_DOUBT,
+        Asks::Replacement => REPLACEMENT_IN_DOUBT,
         Asks::List => "it may be done: look with `overctl list` before you repeat it",
         Asks::Removal => "it may be done: repeat it, and `refused 3 NoFile` says that it was",
         Asks::Answer | Asks::Names | Asks::Bytes => "the store is as it was: try again",
@@ -156,7 +169,7 @@ fn say_hint_of_link<W: Write>(end: &Ending<'_>, f: &mut Formatter<W>) -> fmt::Re
 fn say_hint_of_reply<W: Write>(end: &Ending<'_>, f: &mut Formatter<W>) -> fmt::Result {
     f.write_str("see that overstored listens there, with the `--version` of overctl")?;
     match end.asks {
-        Asks::User | Asks::File | Asks::List | Asks::Removal => {
+        Asks::User | Asks::File | Asks::Replacement | Asks::List | Asks::Removal => {
             write!(f, "; if it does, {}", doubt_of(end.asks))
         }
         Asks::Bytes => write!(f, ", and that {} is of its store", end.keys),
@@ -168,7 +181,7 @@ fn say_hint_of_reply<W: Write>(end: &Ending<'_>, f: &mut Formatter<W>) -> fmt::R
 fn say_hint_of_disk<W: Write>(asks: Asks, f: &mut Formatter<W>) -> fmt::Result {
     let doubt = doubt_of(asks);
     match asks {
-        Asks::User | Asks::File | Asks::List | Asks::Removal => {
+        Asks::User | Asks::File | Asks::Replacement | Asks::List | Asks::Removal => {
             write!(f, "have the server started again; {doubt}")
         }
         Asks::Answer | Asks::Names | Asks::Bytes | Asks::Nothing => f.write_str(doubt),
@@ -178,7 +191,7 @@ fn say_hint_of_disk<W: Write>(asks: Asks, f: &mut Formatter<W>) -> fmt::Result {
 // What to do where standard output isn't written.
 fn hint_of_output(asks: Asks) -> &'static str {
     match asks {
-        Asks::User | Asks::File | Asks::List | Asks::Removal => doubt_of(asks),
+        Asks::User | Asks::File | Asks::Replacement | Asks::List | Asks::Removal => doubt_of(asks),
         Asks::Answer | Asks::Names | Asks::Bytes | Asks::Nothing => WRITABLE,
     }
 }
@@ -214,6 +227,9 @@ impl Display for Hint<'_> {
             Status::OtherKeys if end.asks == Asks::File => {
                 write!(f, "{KEYS_OF_SETTINGS}{FILE_FIRST}")
             }
+            Status::OtherKeys if end.asks == Asks::Replacement => {
+                write!(f, "{KEYS_OF_SETTINGS}{REPLACEMENT_FIRST}")
+            }
             Status::OtherKeys => f.write_str(KEYS_OF_SETTINGS),
             Status::BadKeys if end.asks == Asks::Bytes => {
                 f.write_str("the owner prints one with `overctl key`")
@@ -227,6 +243,9 @@ impl Display for Hint<'_> {
             }
             Status::Unsettled if end.asks == Asks::File => {
                 f.write_str("try again, before you create any other file for its list")
+            }
+            Status::Unsettled if end.asks == Asks::Replacement => {
+                f.write_str("try again, before you send any other file for its list")
             }
             Status::Unsettled => f.write_str("try again"),
             Status::TooLong => f.write_str("store it as several files"),

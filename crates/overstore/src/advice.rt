@@ -38,9 +38,9 @@ const AUDIT_WORDS: &str = "unknown words behind `audit`; it takes a list of name
 
 const BAD_LINE: &str = "standard output names a bad line of the script, where one command stands \
     on each line: `enrol USER`, `list FILE`, `read USER FILE`, `grant USER FILE`, \
-    `revoke USER FILE`, `remove FILE`, `epoch`, or `create FILE LIST LENGTH` with so many bytes and \
-    an LF behind it; overstore-script(5) has their forms; what was answered before lasts; correct it, and run \
-    from there on as a script of its own";
+    `revoke USER FILE`, `remove FILE`, `epoch`, or `create FILE LIST LENGTH` or \
+    `replace FILE LENGTH` with so many bytes and an LF behind it; overstore-script(5) has their \
+    forms; what was answered before lasts; correct it, and run from there on as a script of its own";
 
 const DISK_AT_FIRST: &str = "store.book or store.blobs failed or is in use; nothing was answered; \
     ask for the epoch before you run the script again";
@@ -192,8 +192,8 @@ pub fn on_lack(lack: Lack) -> &'static str {
         Lack::LineFeedAlone => "a CR stands on it, where an LF alone ends a line",
         Lack::Command => concat!(
             "it begins with none of `enrol USER`, `list FILE`, `read USER FILE`, ",
-            "`grant USER FILE`, `revoke USER FILE`, `remove FILE`, `epoch` and ",
-            "`create FILE LIST LENGTH`"
+            "`grant USER FILE`, `revoke USER FILE`, `remove FILE`, `epoch`, ",
+            "`create FILE LIST LENGTH` and `replace FILE LENGTH`"
         ),
         Lack::Words => "it doesn't have just the words of its command, with one space between two",
         Lack::Name => {

@@ -41,6 +41,7 @@ fn forms_of(command: &str) -> Option<&'static [Form]> {
         "enrol" | "remove" | "list" => Some(&[Form::Name]),
         "grant" | "revoke" | "read" => Some(&[Form::Name, Form::Name]),
         "create" => Some(&[Form::Name, Form::List, Form::Length]),
+        "replace" => Some(&[Form::Name, Form::Length]),
         "epoch" => Some(&[]),
         _ => None,
     }

@@ -14,12 +14,14 @@
 //! | module | what it does |
 //! |---|---|
 //! | `progress` | the count of replies |
+//! | `frames` | the frames, the first of which comes once the store was opened |
 //! | `recent`, `lacks` | the last lines of the script; what a bad one lacks |
 //! | `told` | what standard error is told beside it |
 //! | `texts`, `advice` | what `--help` prints; how an end is explained |
 #![tactic(auto)]
 
 mod advice;
+mod frames;
 mod lacks;
 mod progress;
 mod recent;
@@ -27,6 +29,7 @@ mod texts;
 mod told;
 
 use advice::Stage;
+use frames::Frames;
 use lacks::{Lack, lack_of};
 use ov_answering::Status;
 use ov_auditing::audit;
@@ -45,7 +48,7 @@ use std::io::{ErrorKind, IsTerminal, Write};
 use std::process::ExitCode;
 use texts::{HELP, VERSION};
 use told::{
-    BLOBS_FILE, BOOK_FILE, KEY_FILE, TRACE_FILE, explain, explain_line, new_store, older_store,
+    BLOBS_FILE, BOOK_FILE, KEY_FILE, TRACE_FILE, explain, explain_line, is_older_store, new_store,
     open_keys,
 };
 
@@ -158,11 +161,9 @@ fn bad_line_of<S: Source>(
     }
 }
 
-// Says what is to come of a store of an older format, where the words ask for it.
-fn look_at_store(rt: &HostRuntime, words: &[String], disk: &mut FileDisk<HostRuntime>) {
-    if is_first("run", words) || is_first("load", words) {
-        older_store(rt, disk);
-    }
+// Whether these words may ask for the store, and it is of an older format.
+fn asks_for_older(rt: &HostRuntime, words: &[String], disk: &mut FileDisk<HostRuntime>) -> bool {
+    (is_first("run", words) || is_first("load", words)) && is_older_store(rt, disk)
 }
 
 // Calls `load`, `audit` or, with all other words, `run`: the status, and which line of the script
@@ -172,7 +173,7 @@ fn answer<W: Write>(
     words: &[String],
     keys: &mut Tried<FileSource<HostRuntime>>,
     out: &mut Counted<StdSink<&mut Watched<W>>>,
-    trace: &mut FileSink<HostRuntime>,
+    trace: &mut Frames<FileSink<HostRuntime>>,
     disk: &mut FileDisk<HostRuntime>,
 ) -> (u8, Option<(u64, Lack)>) {
     let alloc = rt.alloc();
@@ -196,11 +197,11 @@ fn answer_over_files<W: Write>(
 ) -> End {
     let no_store_before = begins(rt, BOOK_FILE);
     let mut out = Counted::new(StdSink::new(replies), *rt, shows);
-    let (mut keys, mut disk, mut trace) = match files_of(*rt) {
+    let (mut keys, mut disk, trace) = match files_of(*rt) {
         Ok(files) => files,
         Err(Memory) => return end_at(put_memory(&mut out), stage_by_words(words, false)),
     };
-    look_at_store(rt, words, &mut disk);
+    let mut trace = Frames::new(trace, *rt, asks_for_older(rt, words, &mut disk));
     let (code, bad_line) = answer(rt, words, &mut keys, &mut out, &mut trace, &mut disk);
     out.end();
     if no_store_before {

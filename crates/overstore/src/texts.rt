@@ -17,6 +17,8 @@ its list has.
   grant USER FILE             adds the user to the file's list: `ok EPOCH`
   revoke USER FILE            takes the user off the file's list: `ok EPOCH`
   remove FILE                 removes the file, whose name is free again: `ok EPOCH`
+  replace FILE LENGTH         gives the file new bytes, which follow as in `create`; its
+                              list stays: `ok EPOCH`
   read USER FILE              gives a file: `data USER FILE LENGTH`, and its bytes
   list FILE                   gives the file's list: `list FILE LIST`
   epoch                       gives the epoch: `epoch EPOCH`

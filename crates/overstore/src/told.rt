@@ -93,13 +93,14 @@ pub fn new_store(rt: &HostRuntime) {
     }
 }
 
-/// Says so where the store of this folder, which is on this disk, is of the first format and its next
-/// update carries it over. Nothing is written.
-pub fn older_store<D: Disk>(rt: &HostRuntime, disk: &mut D) {
-    if is_of_first_format(rt, BOOK_FILE)
-        && matches!(is_to_be_carried_over(rt.alloc(), disk), Ok(true))
-    {
-        let _ = eprintln!(rt; "overstore: note: {BOOK_FILE} {OLDER}");
-        let _ = eprintln!(rt; "overstore: hint: {KEEP_A_COPY}");
-    }
+/// Whether the store of this folder, which is on this disk, is of the first format and its next update
+/// carries it over. Nothing is written.
+pub fn is_older_store<D: Disk>(rt: &HostRuntime, disk: &mut D) -> bool {
+    is_of_first_format(rt, BOOK_FILE) && matches!(is_to_be_carried_over(rt.alloc(), disk), Ok(true))
+}
+
+/// Says that it is.
+pub fn older_store(rt: &HostRuntime) {
+    let _ = eprintln!(rt; "overstore: note: {BOOK_FILE} {OLDER}");
+    let _ = eprintln!(rt; "overstore: hint: {KEEP_A_COPY}");
 }

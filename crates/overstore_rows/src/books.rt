@@ -9,7 +9,7 @@ use std::alloc::Global;
 use std::test::Fail;
 
 // A place, the byte that is put there, and the length to which the book is then cut.
-static CHANGES: [(usize, u8, usize); 26] = [
+static CHANGES: [(usize, u8, usize); 27] = [
     // The length field of the record.
     (79, 1, 91),
     (79, 255, 91),
@@ -24,6 +24,7 @@ static CHANGES: [(usize, u8, usize); 26] = [
     (83, 0, 91),
     (83, 5, 91),
     (83, 6, 91),
+    (83, 7, 91),
     (83, 9, 91),
     (84, 0, 91),
     (84, 4, 91),

@@ -9,6 +9,7 @@
 //! | a stopped grant | a grant that coats 300 of 301 files, stopped behind each call of the disk | `stops` |
 //! | all sets | a file for each set of twelve users but those of one | `main` |
 //! | 16,384 numbers | of files that are created and removed one after another | `main` |
+//! | 16,384 numbers | of one file, which is replaced again and again | `main` |
 //! | 64 files | of 1 MiB each, and one more | `main` |
 //! | 300 creations | of 1 MiB each: the script is too long | `main` |
 //!
@@ -67,6 +68,8 @@ fn main(rt: HostRuntime) -> Result<(), Fail> {
     tell_script(&rt, "all sets of twelve users", "delta", &sets, 0)?;
     let numbers = scripts::all_numbers(alloc)?;
     tell_script(&rt, "16,384 numbers given out", "delta", &numbers, 0)?;
+    let one_name = scripts::all_replacements(alloc)?;
+    tell_script(&rt, "16,384 numbers of one name", "delta", &one_name, 0)?;
     let files = scripts::full_of_bytes(alloc)?;
     tell_script(&rt, "64 files of 1 MiB and more", "delta", &files, 0)?;
     let creation = scripts::creation(alloc)?;

@@ -65,6 +65,20 @@ pub fn all_numbers(alloc: Global) -> Result<Vec<u8>, AllocError> {
     Ok(text)
 }
 
+/// A file that is replaced until all 16,384 numbers of files were given out: the next replacement is
+/// refused, and so is a creation. The file stays, and can be read, revoked and removed.
+pub fn all_replacements(alloc: Global) -> Result<Vec<u8>, AllocError> {
+    let mut text = Vec::new(alloc);
+    text.extend_from_slice(b"enrol a\ncreate f a 1\nx\n")?;
+    for _ in 1..MAX_FILES {
+        text.extend_from_slice(b"replace f 0\n\n")?;
+    }
+    let end = b"replace f 1\ny\ncreate g a 0\n\nread a f\nlist f\n";
+    text.extend_from_slice(end)?;
+    text.extend_from_slice(b"revoke a f\nremove f\nreplace f 0\n\n")?;
+    Ok(text)
+}
+
 /// 64 files of 1 MiB, which are all bytes that a store has room for, one byte more, which is
 /// refused, a file of no bytes, and reads of the first file and the last.
 pub fn full_of_bytes(alloc: Global) -> Result<Vec<u8>, AllocError> {

@@ -47,6 +47,7 @@ fn word_of(update: u8) -> &'static str {
         3 => "grant",
         4 => "revoke",
         6 => "remove",
+        7 => "replace",
         _ => "update",
     }
 }

@@ -45,6 +45,13 @@ const CREATE: Row = Row {
     ..ENROL
 };
 
+/// A replacement that is done.
+const REPLACE: Row = Row {
+    words: &["replace", "here:1", "keys", "f1", "path"],
+    replies: &[WELCOME, PLAN, ACCEPTED],
+    ..ENROL
+};
+
 /// A list that is printed.
 const LIST: Row = Row {
     words: &["list", "here:1", "keys", "f1"],
@@ -77,7 +84,7 @@ const NO_CREATE: Row = Row {
 };
 
 /// Updates that are made.
-static UPDATES: [Row; 5] = [
+static UPDATES: [Row; 6] = [
     ENROL,
     Row {
         words: &["grant", "here:1", "keys", "a", "f1"],
@@ -92,6 +99,7 @@ static UPDATES: [Row; 5] = [
         ..ENROL
     },
     CREATE,
+    REPLACE,
 ];
 
 /// The rows of updates that are made.
@@ -160,15 +168,21 @@ pub fn refusals() -> &'static [Row] {
     &REFUSALS
 }
 
-/// Files that are gone: one that is to be removed, and one that goes while it is read, between the
-/// chains and the bytes.
-static GONE: [Row; 2] = [
+/// Files that are gone: one that is to be removed, one that is to be replaced, and one that goes while
+/// it is read, between the chains and the bytes.
+static GONE: [Row; 3] = [
     Row {
         words: &["remove", "here:1", "keys", "f1"],
         replies: &[WELCOME, NO_FILE],
         status: 3,
         out: b"refused 3 NoFile\n",
         ..ENROL
+    },
+    Row {
+        replies: &[WELCOME, NO_FILE],
+        status: 3,
+        out: b"refused 3 NoFile\n",
+        ..REPLACE
     },
     Row {
         replies: &[CHAINED, NO_FILE, NO_FILE],
@@ -299,12 +313,19 @@ pub fn unsettled() -> &'static [Row] {
     &UNSETTLED
 }
 
-/// A file that is too long by a byte, and one that is not.
-static LENGTHS: [Row; 2] = [
+/// A file that is too long by a byte to be created and to replace another, and one that is not.
+static LENGTHS: [Row; 3] = [
     Row {
         body: 16_777_217,
         status: 14,
         ..NO_CREATE
+    },
+    Row {
+        replies: &[],
+        body: 16_777_217,
+        status: 14,
+        out: b"",
+        ..REPLACE
     },
     Row {
         body: 16_777_216,

@@ -1,4 +1,5 @@
-//! A file of more than one chunk, whose surface changes while it is read, or which is removed.
+//! A file of more than one chunk, whose surface changes while it is read, or which is removed or
+//! replaced.
 
 use super::long_vectors::*;
 use super::*;
@@ -6,6 +7,7 @@ use ov_io::MemSink;
 use ov_peer::Traced;
 use ov_surface::{base_encrypt, over_encrypt};
 use sha2::{Digest, Sha256};
+use std::process::Abort;
 
 /// The bytes of the file: byte number i is 7 times i, modulo 251.
 fn text(alloc: Global) -> Result<Vec<u8>, Fail> {
@@ -137,21 +139,33 @@ fn a_file_that_is_removed_before_its_third_chunk(rt: HostRuntime) -> Result<(), 
     Ok(())
 }
 
-#[test]
-fn a_file_that_is_made_again_before_its_third_chunk(rt: HostRuntime) -> Result<(), Fail> {
-    let alloc = rt.alloc();
+/// Makes sure that a read of f, which is gone at its third chunk, gives the ten bytes of the file
+/// that has its name then, by these chains, and that its frames have this digest.
+fn expect_ten_bytes(
+    rt: &impl Abort,
+    alloc: Global,
+    chained: &[u8],
+    digest: &[u8],
+) -> Result<(), Fail> {
     let mut replies = first_replies(alloc)?;
     replies.push(Octets::copy(alloc, &GONE)?)?;
-    replies.push(Octets::copy(alloc, &CHAINED_NEW)?)?;
+    replies.push(Octets::copy(alloc, chained)?)?;
     replies.push(Octets::copy(alloc, &BYTES_NEW)?)?;
     let (result, into, sink) = read_traced(alloc, replies)?;
     assert_eq!(rt; result, Ok(()));
     assert_eq!(rt; into.as_slice(), b">ten bytes!".as_slice());
     // Six requests.
     assert_eq!(rt; sink.written().len(), 131_337);
-    assert_eq!(rt;
-        Sha256::digest(sink.written()).as_slice(),
-        NEW_TRACE_SHA256.as_slice()
-    );
+    assert_eq!(rt; Sha256::digest(sink.written()).as_slice(), digest);
     Ok(())
+}
+
+#[test]
+fn a_file_that_is_made_again_before_its_third_chunk(rt: HostRuntime) -> Result<(), Fail> {
+    expect_ten_bytes(&rt, rt.alloc(), &CHAINED_NEW, &NEW_TRACE_SHA256)
+}
+
+#[test]
+fn a_file_that_is_replaced_before_its_third_chunk(rt: HostRuntime) -> Result<(), Fail> {
+    expect_ten_bytes(&rt, rt.alloc(), &CHAINED_REPLACED, &REPLACED_TRACE_SHA256)
 }

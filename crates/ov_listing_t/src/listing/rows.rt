@@ -72,6 +72,20 @@ pub fn anew() -> &'static [&'static [u8]] {
     &ANEW
 }
 
+/// A replacement of f2.
+static REPLACED: [&[u8]; 1] = [
+    b"\
+        \x04\x00\x00\x00\x08\x07\x02\x66\x32\x00\x00\x00\x01\x02\x03\x04\x05\x06\x07\x08\x09\
+        \x0a\x0b\x0c\x0d\x0e\x0f\x10\x11\x12\x13\x14\x15\x16\x17\x18\x19\x1a\x1b\x1c\x1d\x1e\
+        \x1f\x00\x00\x00\x05\x68\x65\x6c\x6c\x6f\xc7\x62\x95\x05\xf7\x8e\x70\x1a\x4b\x10\xd4\
+        \xe4\xf0\x63\xc5\x0e\xc5\xf6\x79\x92\x13\x3a\x7a\x64\xf5\x1b\xee\x9d\xc5\xaa\x1c\x40",
+];
+
+/// The update by which f2 has other bytes.
+pub fn replaced() -> &'static [&'static [u8]] {
+    &REPLACED
+}
+
 /// A Welcome at epoch 6, and one at epoch 7.
 const HELLO_6: &[u8] = b"\x81\x01\0\0\0\x0633333333333333333333333333333333";
 
@@ -169,6 +183,29 @@ static ASKED_ANEW: [Asked; 4] = [
 /// What is asked of the store after f1 became another file. It has the number behind that of f2.
 pub fn questions_anew() -> &'static [Asked] {
     &ASKED_ANEW
+}
+
+static ASKED_REPLACED: [Asked; 3] = [
+    Asked {
+        command: "epoch",
+        user: "",
+        text: "mode delta\nepoch 9\n",
+    },
+    Asked {
+        command: "files",
+        user: "",
+        text: "list f1 a,b\nlist f2 a,b\n",
+    },
+    Asked {
+        command: "files",
+        user: "b",
+        text: "f1\nf2\n",
+    },
+];
+
+/// What is asked of the store after f2 was replaced too. It is behind f1 again.
+pub fn questions_replaced() -> &'static [Asked] {
+    &ASKED_REPLACED
 }
 
 /// Replies, each this often in turn and all of them in this many rounds, the replies behind them, and

@@ -1,5 +1,5 @@
-//! A history of three users and five files, the updates that make no change after it, and chains; and
-//! the removal of a file, with what is made and refused after that.
+//! A history of three users and five files, the updates that make no change after it, and chains; the
+//! removal of a file, with what is made and refused after that; and the replacement of two files.
 
 use ov_base::Refusal;
 use ov_state::PrepareFault;
@@ -17,6 +17,8 @@ pub enum Step {
     Revoke(u32, u32),
     /// A file is removed.
     Remove(u32),
+    /// The file of this name is replaced, with this many tokens.
+    Replace(&'static [u8], usize),
 }
 
 /// A file, and the surfaces under which its stored bytes were and are to be.
@@ -89,7 +91,7 @@ pub static ROWS: [Row; 11] = [
 ];
 
 /// Updates after all of the rows, and why they make no change in either mode.
-pub static FAULTS: [(Step, PrepareFault); 11] = [
+pub static FAULTS: [(Step, PrepareFault); 14] = [
     (Step::Enrol(b"a"), PrepareFault::Refused(Refusal::Taken)),
     (
         Step::Create(b"f1", &[0, 1], 7),
@@ -130,6 +132,13 @@ pub static FAULTS: [(Step, PrepareFault); 11] = [
         PrepareFault::BadPlan { at: 1 + 8 },
     ),
     (Step::Grant(2, 1, true), PrepareFault::BadPlan { at: 1 + 8 }),
+    (
+        Step::Replace(b"f6", 0),
+        PrepareFault::Refused(Refusal::NoFile),
+    ),
+    // A token too few, and one too many.
+    (Step::Replace(b"f1", 1), PrepareFault::BadPlan { at: 1 + 3 }),
+    (Step::Replace(b"f2", 1), PrepareFault::BadPlan { at: 1 + 3 }),
 ];
 
 /// The second file goes after all of the rows, and a file of its name comes under the next number.
@@ -163,6 +172,21 @@ pub static FAULTS_BEHIND_IT: [(Step, PrepareFault); 6] = [
         Step::Create(b"f2", &[0, 1], 0),
         PrepareFault::Refused(Refusal::Taken),
     ),
+];
+
+/// The first two files are replaced after all of the rows. The base layer has no node of a, b and c
+/// yet, who are in the list of the first, and has one of a and b.
+pub static REPLACEMENTS: [Row; 2] = [
+    Row {
+        step: Step::Replace(b"f1", 2),
+        delta: &[(5, None, None)],
+        full: &[(5, None, Some(4))],
+    },
+    Row {
+        step: Step::Replace(b"f2", 0),
+        delta: &[(6, None, Some(3))],
+        full: &[(6, None, Some(3))],
+    },
 ];
 
 /// A reader of a file, and the chains that the reader gets after all of the rows of mode Delta.

@@ -1,9 +1,9 @@
 //! Callers over any disk, which go from call to call by the contracts alone.
 ghost use Rattle.std.specs.Prelude.{◌≡◌, false, IfOk};
 ghost use Rattle.ov_disk.specs.Disk.{Told};
+ghost use Rattle.ov_record.specs.Briefs.{brief};
 ghost use Rattle.ov_record.specs.Updates.{sealed_update};
-ghost use Rattle.ov_history.specs.Briefs.{brief};
-ghost use Rattle.ov_history.specs.Sealed.{SealedHistory, with_sealed};
+ghost use Rattle.ov_history.specs.Sealed.{SealedHistory, with_spelled};
 ghost use Rattle.ov_state.specs.Plans.{IsFitting};
 ghost use Rattle.ov_images.specs.Images.{IsImageOf, keys};
 ghost use Rattle.ov_store.specs.Opened.{Lasts, Serves};
@@ -27,7 +27,7 @@ fn two_updates<D: Disk + Drop>(
     requires other { IsFitting (brief (sealed_update other)) }
     ensures { (g : SealedHistory) → Serves D.tells g store → IfOk result (λ disk.
         store.failed ≡ false → Lasts D.tells store.keys
-        (with_sealed (with_sealed g (sealed_update one)) (sealed_update other)) disk) }
+        (with_spelled (with_spelled g (sealed_update one)) (sealed_update other)) disk) }
 {
     let mut store = store;
     let _first = store.update(alloc, one)?;
@@ -48,7 +48,7 @@ fn begin_and_update<D: Disk + Drop>(
     requires { IsFitting (brief (sealed_update update)) }
     ensures { Told (D.tells.reads disk) (λ i. (g : SealedHistory) → g.mode ≡ mode
         → IsImageOf (keys base_check surface.bytes) g i → IfOk result (λ s.
-        Lasts D.tells (keys base_check surface.bytes) (with_sealed g (sealed_update update))
+        Lasts D.tells (keys base_check surface.bytes) (with_spelled g (sealed_update update))
         s.disk)) }
 {
     match Store::begin(alloc, disk, surface, base_check, mode) {

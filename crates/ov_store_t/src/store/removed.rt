@@ -1,8 +1,8 @@
 //! Files that are removed: what is left of them, and of their blocks.
 ghost use Rattle.std.specs.Prelude.{◌≤◌, length};
 ghost use Rattle.ov_base.specs.declared.limits.TheConstants.{MAX_FILE_BYTES};
+ghost use Rattle.ov_record.specs.Briefs.{brief};
 ghost use Rattle.ov_record.specs.Updates.{sealed_update};
-ghost use Rattle.ov_history.specs.Briefs.{brief};
 ghost use Rattle.ov_state.specs.Plans.{IsFitting};
 
 use super::{begun, false_record, image, name};
@@ -16,7 +16,7 @@ use std::alloc::Global;
 use std::process::Abort;
 
 /// The creation of a file for a alone, whose base node is there.
-fn create(rt: &impl Abort, alloc: Global, text: &[u8]) -> Update<WIDTH>
+pub(crate) fn create(rt: &impl Abort, alloc: Global, text: &[u8]) -> Update<WIDTH>
     requires { length text.now ≤ MAX_FILE_BYTES }
     ensures { IsFitting (brief (sealed_update result)) }
 {
@@ -29,7 +29,12 @@ fn create(rt: &impl Abort, alloc: Global, text: &[u8]) -> Update<WIDTH>
     }
 }
 
-fn make(rt: &impl Abort, alloc: Global, store: &mut Store<MemDisk>, update: Update<WIDTH>)
+pub(crate) fn make(
+    rt: &impl Abort,
+    alloc: Global,
+    store: &mut Store<MemDisk>,
+    update: Update<WIDTH>,
+)
     requires { IsFitting (brief (sealed_update update)) }
 {
     let made = store.update(alloc, update);
@@ -37,7 +42,7 @@ fn make(rt: &impl Abort, alloc: Global, store: &mut Store<MemDisk>, update: Upda
 }
 
 /// A store with user a and a file.
-fn with_file(rt: &impl Abort, alloc: Global) -> Store<MemDisk> {
+pub(crate) fn with_file(rt: &impl Abort, alloc: Global) -> Store<MemDisk> {
     let mut store = begun(alloc, MemDisk::new(alloc), Mode::Delta).expect(rt, "a store");
     let name = name(rt, b"a");
     make(rt, alloc, &mut store, Update::Enrol { name });
@@ -58,7 +63,7 @@ fn read(
 }
 
 /// Whether the file has these bytes.
-fn has(
+pub(crate) fn has(
     alloc: Global,
     store: &mut Store<MemDisk>,
     file: u32,
@@ -72,7 +77,7 @@ fn has(
 }
 
 /// Whether there is no such file.
-fn is_gone(alloc: Global, store: &mut Store<MemDisk>, file: u32) -> bool {
+pub(crate) fn is_gone(alloc: Global, store: &mut Store<MemDisk>, file: u32) -> bool {
     matches!(read(alloc, store, file, 0), Err(ChunkFault::NoFile))
 }
 

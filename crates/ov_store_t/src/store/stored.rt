@@ -1,6 +1,6 @@
 //! The stored bytes of two files in both modes, update by update.
+ghost use Rattle.ov_record.specs.Briefs.{brief};
 ghost use Rattle.ov_record.specs.Updates.{sealed_update};
-ghost use Rattle.ov_history.specs.Briefs.{brief};
 ghost use Rattle.ov_state.specs.Plans.{IsFitting};
 
 use super::{TOKEN, begun, name};

@@ -5,16 +5,18 @@ use Rattle.ov_history.specs.Asking.{refusal_at}
 use Rattle.ov_history.specs.History.{Created}
 use Rattle.ov_history.specs.Lists.{set_named}
 use Rattle.ov_wire.specs.AnswerForm.{HasAnswerForm}
-use Rattle.ov_server.proofs.PlanForms.{planned_form}
+use Rattle.ov_server.proofs.PlanForms.{plan_form, planned_form}
 use Rattle.ov_server.proofs.covering.answer_cover.Goals as goal
 
 pub returns-in-Ok-clause-form : goal.returns-in-Ok-clause-form
 returns-in-Ok-clause-form c =
     let c0 = c.args.state.now.catalogue in
+    let list = set_named c0.users c.as_slice.result.now in
     let told = rw c.in-Ok.is at c.cover.ensures in
     subst HasAnswerForm (sym c.plan.ensures)
-    (planned_form (64 * SET_WORDS) c0 c.args.file.now (set_named c0.users c.as_slice.result.now) c.args.size
-    c.epoch.result c.in-Ok.planned c.known.ensures c.epoch.ensures told.0 told.1 told.2 told.3)
+    (planned_form c0 list c.epoch.result c.in-Ok.planned
+    (plan_form (64 * SET_WORDS) c0 c.args.file.now list c.args.size c.known.ensures told.0)
+    c.epoch.ensures told.1 told.2 told.3)
 
 pub returns-in-Err-Refused-clause-answer : goal.returns-in-Err-Refused-clause-answer
 returns-in-Err-Refused-clause-answer c =

@@ -3,9 +3,11 @@ use Rattle.std.specs.Prelude.{IfNone, Option}
 use Rattle.ov_base.specs.NameLists.{is_among}
 use Rattle.ov_base.specs.declared.refusal.Refusal.{Refusal}
 use Rattle.ov_graph.specs.declared.cover.Cover.{Cover}
+use Rattle.ov_record.specs.Briefs.{BriefCreate as SpelledCreate}
 use Rattle.ov_state.specs.Entries.{filed_names}
-use Rattle.ov_state.proofs.Creating.{refused_before, refused_site, refused_spent, not_refused, users_there}
+use Rattle.ov_state.proofs.Creating.{create-room, refused_before, refused_spent, not_refused, users_there}
 use Rattle.ov_state.proofs.CreationChange.{creation}
+use Rattle.ov_state.proofs.FileRoom.{refused_site}
 use Rattle.ov_state.proofs.state.State.plan_create.Goals as goal
 
 pub returns-in-Some : goal.returns-in-Some
@@ -22,9 +24,10 @@ site-requires g c =
 
 pub returns-in_err-site : goal.returns-in_err-site
 returns-in_err-site g c =
-    let none = refused_site (64 * g.row.W) c.args.surface.now.bytes c.args.self.now.catalogue c.args.name c.args.list c.args.tokens c.args.tag c.args.size
-    c.known.ensures
-    (sym c.refusal_create.ensures.why ∙ c.in_default.is) g.row.W c.in_err-site.field-0.0 c.in_err-site.ensures.err in
+    let room = create-room (64 * g.row.W) c.args.surface.now.bytes c.args.self.now.catalogue c.args.name c.args.list c.args.tokens c.args.tag c.args.size
+    c.known.ensures (sym c.refusal_create.ensures.why ∙ c.in_default.is) in
+    let none = refused_site c.args.self.now.catalogue c.args.list g.row.W (SpelledCreate c.args.name c.args.list c.args.tokens c.args.tag c.args.size) room
+    c.in_err-site.field-0.0 c.in_err-site.ensures.err in
     search rules
 
 pub returns-then-is_spent : goal.returns-then-is_spent

@@ -1,6 +1,7 @@
 use Rattle.std.proofs.Common.{◌≡◌, ◌*◌, ◌∙◌, ap, refl, sym, subst, rules}
 use Rattle.std.proofs.lemmas.Result.{err_from_is_err_and}
 use Rattle.ov_base.specs.declared.key.Key.{Key}
+use Rattle.ov_record.specs.Briefs.{BriefGrant as SpelledGrant}
 use Rattle.ov_history.specs.Briefs.{BriefGrant}
 use Rattle.ov_history.specs.Catalogue.{outline, matrix_shown}
 use Rattle.ov_history.specs.Lists.{byte_sum}
@@ -24,7 +25,7 @@ over_wants-requires g c =
 pub returns-in_err-over_wants : goal.returns-in_err-over_wants
 returns-in_err-over_wants g c =
     let s = c.args.self.now.catalogue in
-    let u = BriefGrant c.args.user c.args.file c.args.token in
+    let u = SpelledGrant c.args.user c.args.file c.args.token in
     let p = err_from_is_err_and c.from_residual-in_err-over_wants.result c.from_residual-in_err-over_wants.ensures.1 in
     rw p.1 (subst (λ (fault : PrepareFault). IsFaultOf g.row.W s u fault) (sym p.2)
     (asked-fault g.row.W s u _ c.in_err-over_wants.field-0.0 c.in_ok-relisting.ensures.ok.rest c.in_err-over_wants.ensures.room))

@@ -1,6 +1,7 @@
 use Rattle.std.proofs.Common.{◌≡◌, ◌*◌, ◌∙◌, ap, refl, sym, subst, rules}
 use Rattle.std.proofs.lemmas.Result.{err_from_is_err_and}
 use Rattle.ov_base.specs.declared.key.Key.{Key}
+use Rattle.ov_record.specs.Briefs.{BriefRevoke as SpelledRevoke}
 use Rattle.ov_history.specs.Briefs.{BriefRevoke}
 use Rattle.ov_history.specs.Catalogue.{outline}
 use Rattle.ov_state.specs.declared.change.Change.{Change}
@@ -23,8 +24,8 @@ pub returns-in_err-over_wants : goal.returns-in_err-over_wants
 returns-in_err-over_wants g c =
     let s = c.args.self.now.catalogue in
     let p = err_from_is_err_and c.from_residual-in_err-over_wants.result c.from_residual-in_err-over_wants.ensures.1 in
-    rw p.1 (subst (λ (fault : PrepareFault). IsFaultOf g.row.W s (BriefRevoke c.args.user c.args.file) fault) (sym p.2)
-    (asked-fault g.row.W s (BriefRevoke c.args.user c.args.file) _ c.in_err-over_wants.field-0.0 c.in_ok-relisting.ensures.ok.rest
+    rw p.1 (subst (λ (fault : PrepareFault). IsFaultOf g.row.W s (SpelledRevoke c.args.user c.args.file) fault) (sym p.2)
+    (asked-fault g.row.W s (SpelledRevoke c.args.user c.args.file) _ c.in_err-over_wants.field-0.0 c.in_ok-relisting.ensures.ok.rest
     c.in_err-over_wants.ensures.room))
 
 pub returns : goal.returns

@@ -2,7 +2,7 @@ use Rattle.std.proofs.Common.{◌≡◌, ◌∙◌, sym, ap}
 use Rattle.ov_history.specs.Catalogue.{Filed, outline}
 use Rattle.ov_history.specs.Layers.{node_of}
 use Rattle.ov_history.proofs.Outlining.{node-shown}
-use Rattle.ov_state.specs.Asking.{of_file}
+use Rattle.ov_history.specs.Asking.{of_file}
 use Rattle.ov_state.specs.Entries.{plain_file}
 use Rattle.ov_state.proofs.FilesByNumber.{filed-at}
 use Rattle.ov_state.proofs.state.State.told_of_file.Goals as goal

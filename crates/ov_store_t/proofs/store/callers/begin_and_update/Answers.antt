@@ -1,6 +1,6 @@
 use Rattle.std.proofs.Common.{◌≡◌, false, ◌∙◌, subst}
 use Rattle.ov_record.specs.Updates.{sealed_update}
-use Rattle.ov_history.specs.Sealed.{with_sealed}
+use Rattle.ov_history.specs.Sealed.{with_spelled}
 use Rattle.ov_images.specs.Images.{Keeps, Keys, keys}
 use Rattle.ov_store_t.proofs.store.callers.begin_and_update.Goals as goal
 
@@ -12,5 +12,5 @@ returns-in_ok-_made-in-Ok g c i told h is_mode image j read x left =
     c.in_ok-_made-in-Ok.ensures.state.failed.0 ∙ c.in-Ok.ensures.begun.new.1 in
     let same : c.update.new.self.keys ≡ keys c.args.base_check c.args.surface.bytes =
     c.update.ensures.call.0 ∙ c.in-Ok.ensures.begun.new.0 in
-    subst (λ (k : Keys). Keeps k (with_sealed h (sealed_update c.args.update)) x) same
+    subst (λ (k : Keys). Keeps k (with_spelled h (sealed_update c.args.update)) x) same
     (made.disk still j read x left)

@@ -1,13 +1,13 @@
 use Rattle.std.proofs.Common.{◌≡◌, false, Some, sym, ◌∙◌, ap, subst}
 use Rattle.ov_record.specs.Updates.{sealed_update}
-use Rattle.ov_history.specs.Sealed.{with_sealed}
+use Rattle.ov_history.specs.Sealed.{with_spelled}
 use Rattle.ov_images.specs.Images.{Keeps, Keys}
 use Rattle.ov_store_t.proofs.store.callers.two_updates.Goals as goal
 
 pub returns : goal.returns
 returns g c h serves sound i read x left =
-    let first = with_sealed h (sealed_update c.args.one) in
-    let both = with_sealed first (sealed_update c.args.other) in
+    let first = with_spelled h (sealed_update c.args.one) in
+    let both = with_spelled first (sealed_update c.args.other) in
     let one = c.in_ok-_first.ensures.served h serves in
     let two = c.in_ok-_second.ensures.served first one in
     let same : c.update-2.new.self.keys ≡ c.args.store.keys =

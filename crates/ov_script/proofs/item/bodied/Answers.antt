@@ -1,7 +1,7 @@
 use Rattle.std.proofs.Common.{ap, is_err}
 use Rattle.std.proofs.lemmas.Result.{err_from_is_err_and}
 use Rattle.ov_io.proofs.Pieces.{while_as}
-use Rattle.ov_script.proofs.item.create.Goals as goal
+use Rattle.ov_script.proofs.item.bodied.Goals as goal
 
 pub returns-in_err-bytes-clause-needed : goal.returns-in_err-bytes-clause-needed
 returns-in_err-bytes-clause-needed g c =
