@@ -5,3 +5,6 @@ pub mod Steps
 pub mod Printed
 pub mod OpenStores
 pub mod Beginnings
+pub mod Refusals
+pub mod Endings
+pub mod Asking

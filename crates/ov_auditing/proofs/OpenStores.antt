@@ -14,11 +14,12 @@ use Rattle.ov_store.specs.Opened.{Opened}
 use Rattle.ov_auditing.specs.Promises.{IsOpenOf}
 
 -- an image keeps histories of one mode
-mode_kept : (k : Keys) (g h : SealedHistory) (i : Image) → Keeps k g i → Keeps k h i
+pub mode_kept : (k : Keys) (g h : SealedHistory) (i : Image) → Keeps k g i → Keeps k h i
     → g.mode ≡ h.mode
 mode_kept k g h i one other = ap (λ (x : SealedHistory). x.mode) (keeps_once k g h i one other)
 
-kept_born : (k : Keys) (g : SealedHistory) (i : Image) → (IsUnborn i.book → ⊥) → IsImageOf k g i
+-- an image on which a store was begun keeps the history for which it stands
+pub kept_born : (k : Keys) (g : SealedHistory) (i : Image) → (IsUnborn i.book → ⊥) → IsImageOf k g i
     → Keeps k g i
 kept_born k g i born (inl none) = absurd (born none.0)
 kept_born k g i born (inr keeps) = keeps

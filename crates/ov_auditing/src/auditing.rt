@@ -1,8 +1,9 @@
 //! The top call of an audit.
 ghost use Rattle.std.specs.Prelude.{◌≡◌, ◌⊎◌, IfErr, IfOk, IfSome};
 ghost use Rattle.ov_answering.specs.Ending.{EndsFor, FailsForFaults, LeavesAsAtStart};
-ghost use Rattle.ov_answering.specs.Printing.{IsKeysStatus, IsStoreStatus};
+ghost use Rattle.ov_answering.specs.Printing.{IsKeysStatus, IsRefused, IsStoreStatus};
 ghost use Rattle.ov_auditing.specs.AuditWords.{AreNoAudit, IsAudit};
+ghost use Rattle.ov_auditing.specs.Exposed.{AreUsersOf};
 ghost use Rattle.ov_auditing.specs.Following.{StaysAsItWas};
 ghost use Rattle.ov_auditing.specs.Promises.{ForAuditImage, ForEachKept, IsOpenOf, JudgesKeyFile};
 ghost use Rattle.ov_auditing.specs.Promises.{JudgesStore, RefusesOther, RefusesStore, TellsOf};
@@ -25,7 +26,7 @@ use crate::listing::{put_findings, put_no_user};
 use crate::naming::users_named;
 use crate::replaying::findings_of;
 use ov_answering::{Status, base_check_of, checked, put_last};
-use ov_base::Memory;
+use ov_base::Users;
 use ov_disk::Disk;
 use ov_io::{Sink, Source};
 use ov_keyfile::{Masters, read_masters};
@@ -54,6 +55,36 @@ fn open<D: Disk>(alloc: Global, disk: D, masters: &Masters) -> Result<Store<D>, 
     }
 }
 
+// Prints what these users can read, who are those that were asked for.
+fn print_found<O: Sink, D: Disk>(
+    alloc: Global,
+    asked: &Asked,
+    users: Users,
+    masters: &Masters,
+    store: &mut Store<D>,
+    out: &mut O,
+) -> u8
+    requires keys { store.old.keys ≡ keys_of (plain_masters masters.now) }
+    requires named { AreUsersOf store.old.catalogue.users asked.now.names users }
+    ensures tells { (g : SealedHistory) → Serves D.tells g store.old
+        → Told (D.tells.reads store.old.disk) (λ _. TellsOf asked.now (plain_masters masters.now) g
+        result (O.tells.written out.old) (O.tells.written out.new)
+        (Rose (O.tells.faults out.old) (O.tells.faults out.new)
+        ⊎ Rose (D.tells.faults store.old.disk) (D.tells.faults store.new.disk))) }
+    ensures opened { Told (D.tells.reads store.old.disk) (λ _. IsRefused result → ⊥) }
+    ensures stays { StaysAsItWas D.tells store.old store.new (result ≡ 4) }
+    ensures causes { EndsFor D.tells store.old.disk store.new.disk result ⊥
+        (Rose (O.tells.faults out.old) (O.tells.faults out.new)) ⊥ }
+    ensures status { IsStoreStatus result }
+{
+    let epoch = store.state().epoch();
+    let surface = Master::new(&masters.surface);
+    match findings_of(alloc, store, &surface, users, asked.server) {
+        Ok(findings) => put_findings(alloc, &findings, epoch, out),
+        Err(fault) => put_fault(alloc, out, fault),
+    }
+}
+
 // Prints what the users can read, or that one of them isn't there.
 fn audit_store<O: Sink, D: Disk>(
     alloc: Global,
@@ -68,19 +99,18 @@ fn audit_store<O: Sink, D: Disk>(
         result (O.tells.written out.old) (O.tells.written out.new)
         (Rose (O.tells.faults out.old) (O.tells.faults out.new)
         ⊎ Rose (D.tells.faults store.old.disk) (D.tells.faults store.new.disk))) }
+    ensures opened { Told (D.tells.reads store.old.disk) (λ _. IsRefused result → ⊥) }
     ensures stays { StaysAsItWas D.tells store.old store.new (result ≡ 4) }
     ensures causes { EndsFor D.tells store.old.disk store.new.disk result ⊥
         (Rose (O.tells.faults out.old) (O.tells.faults out.new)) ⊥ }
     ensures status { IsStoreStatus result }
 {
-    let epoch = store.state().epoch();
-    let Some(users) = users_named(store.state(), asked.names.as_slice()) else {
-        return put_no_user(alloc, epoch, out);
-    };
-    let surface = Master::new(&masters.surface);
-    match findings_of(alloc, store, &surface, users, asked.server) {
-        Ok(findings) => put_findings(alloc, &findings, epoch, out),
-        Err(fault) => put_fault(alloc, out, fault),
+    match users_named(store.state(), asked.names.as_slice()) {
+        Some(users) => print_found(alloc, asked, users, masters, store, out),
+        None => {
+            let epoch = store.state().epoch();
+            put_no_user(alloc, epoch, out)
+        }
     }
 }
 
@@ -195,6 +225,6 @@ pub fn audit<K: Source, O: Sink, D: Disk>(
     match audit_of(alloc, words) {
         Ok(Some(asked)) => audit_with_keys(alloc, &asked, keys, disk, out).0,
         Ok(None) => put_last(out, b"error usage\n", Status::Usage),
-        Err(Memory) => put_memory(out),
+        Err(_) => put_memory(out),
     }
 }
