@@ -8,3 +8,4 @@ pub mod Beginnings
 pub mod Refusals
 pub mod Endings
 pub mod Asking
+pub mod WordTexts

@@ -1,5 +1,5 @@
 //! The words that ask for an audit.
-ghost use Rattle.std.specs.Prelude.{◌≡◌, ℕ, List, IfNone, IfOk, IfSome};
+ghost use Rattle.std.specs.Prelude.{◌≡◌, ℕ, List, IfNone, IfOk, IfSome, codes, true};
 ghost use Rattle.ov_auditing.specs.AuditWords.{AreNoAudit, IsAudit, IsListOfSome};
 
 use ov_base::{Memory, Names};
@@ -46,16 +46,46 @@ fn asked(alloc: Global, list: &str, server: bool) -> Result<Option<Asked>, Memor
     }
 }
 
+// The audit of the users of this list, where the word in front is `audit`.
+fn asked_by(alloc: Global, audit: &str, list: &str, server: bool) -> Result<Option<Asked>, Memory>
+    ensures found { IfOk result (λ found. IfSome found (λ asked.
+        (audit.now ≡ codes "audit") × IsListOfSome list.now asked.names
+        × (asked.server ≡ server))) }
+    ensures none { IfOk result (λ found. IfNone found ((names : List (List ℕ))
+        → audit.now ≡ codes "audit" → IsListOfSome list.now names → ⊥)) }
+{
+    if audit != "audit" {
+        return Ok(None);
+    }
+    asked(alloc, list, server)
+}
+
+// The audit that the server helps in, where the last word is `server`.
+fn asked_with(alloc: Global, audit: &str, list: &str, server: &str) -> Result<Option<Asked>, Memory>
+    ensures found { IfOk result (λ found. IfSome found (λ asked.
+        (server.now ≡ codes "server") × (audit.now ≡ codes "audit")
+        × IsListOfSome list.now asked.names × (asked.server ≡ true))) }
+    ensures none { IfOk result (λ found. IfNone found ((names : List (List ℕ))
+        → server.now ≡ codes "server" → audit.now ≡ codes "audit"
+        → IsListOfSome list.now names → ⊥)) }
+{
+    if server != "server" {
+        return Ok(None);
+    }
+    asked_by(alloc, audit, list, true)
+}
+
 /// The audit that these words ask for.
 pub fn audit_of(alloc: Global, words: &[String]) -> Result<Option<Asked>, Memory>
     ensures found { IfOk result (λ found. IfSome found (λ asked. IsAudit asked words.now)) }
     ensures none { IfOk result (λ found. IfNone found (AreNoAudit words.now)) }
 {
     match words {
-        [audit, list] if audit.as_str() == "audit" => asked(alloc, list.as_str(), false),
-        [audit, list, server] if audit.as_str() == "audit" && server.as_str() == "server" => {
-            asked(alloc, list.as_str(), true)
+        [] | [_] => Ok(None),
+        [audit, list] => asked_by(alloc, audit.as_str(), list.as_str(), false),
+        [first, names, server] => {
+            asked_with(alloc, first.as_str(), names.as_str(), server.as_str())
         }
-        _ => Ok(None),
+        [_, _, _, _, ..] => Ok(None),
     }
 }
