@@ -3,6 +3,7 @@ pub mod Births
 pub mod CarriedOver
 pub mod Checked
 pub mod Checking
+pub mod Existing
 pub mod Extents
 pub mod Fronts
 pub mod Gates

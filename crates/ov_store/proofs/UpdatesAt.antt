@@ -1,11 +1,12 @@
 -- The update that stands in a record is that of each history for which a store stands.
-use Rattle.std.proofs.Common.{◌≡◌, ◌<◌, ◌≤◌, ℕ, Bool, List, [], length, get_or, refl, sym, ◌∙◌, ap, subst, arith}
+use Rattle.std.proofs.Common.{◌≡◌, ◌<◌, ◌≤◌, ℕ, Bool, List, [], length, get_or, sym, ◌∙◌, ap, subst, arith}
 use Rattle.std.proofs.Common.{take}
 use Rattle.std.proofs.lemmas.List.{get_or_append_left}
-use Rattle.std.specs.Prelude.{Err, Option, Result, Some, slice_index}
+use Rattle.std.specs.Prelude.{Err, None, Ok, Option, Result, Some}
 use Rattle.ov_disk.specs.Disk.{Image, Told}
 use Rattle.ov_disk.specs.Tells.{DiskTells}
-use Rattle.ov_record.specs.Briefs.{Brief as SpelledBrief}
+use Rattle.ov_record.specs.Briefs.{Brief as SpelledBrief, plain_brief}
+use Rattle.ov_record.specs.Forms.{Form}
 use Rattle.ov_history.specs.Briefs.{numbered_brief, spelled_brief}
 use Rattle.ov_history.specs.History.{no_one}
 use Rattle.ov_history.specs.Placed.{PlacedUpdate, unplaced_all}
@@ -18,11 +19,15 @@ use Rattle.ov_images.proofs.Names.{names_of_history}
 use Rattle.ov_images.proofs.Records.{firsts_spelling, length-bodies_of, room_behind}
 use Rattle.ov_journal.specs.Book.{contents_of}
 use Rattle.ov_journal.specs.Log.{Log}
+use Rattle.ov_journal.specs.declared.fault.CheckFault.{CheckFault}
+use Rattle.ov_journal.specs.declared.fault.CheckFault.TheVariants.{Disk as CheckDisk}
+use Rattle.ov_journal.specs.declared.fault.CheckFault.TheVariants.{Memory as CheckMemory}
 use Rattle.ov_placed.proofs.Spots.{one_front}
 use Rattle.ov_placed.specs.Contents.{PlacedStore}
 use Rattle.ov_record.specs.declared.brief.Brief.{Brief as Written}
 use Rattle.ov_state.specs.declared.state.TheConstants.{WIDTH}
-use Rattle.ov_store.specs.Briefs.{IsUpdateAt, ReadsUpdate}
+use Rattle.ov_store.specs.Briefs.{FindsRecord, IsOtherFront, IsUpdateAt, ReadsUpdate, body_at}
+use Rattle.ov_store.specs.Faults.{brief_fault_of}
 use Rattle.ov_store.specs.declared.briefs.BriefFault.{BriefFault}
 use Rattle.ov_store.specs.declared.briefs.BriefFault.TheVariants.{Changed, Disk as DiskFailed}
 use Rattle.ov_store.specs.declared.briefs.BriefFault.TheVariants.{Memory as NoMemory}
@@ -121,19 +126,49 @@ module _ {D : Type 0} (tells : DiskTells D) (d : D) (k : Keys) (store : PlacedSt
       → Told (tells.reads d) (λ _. length g.updates ≤ n)
   none_left n past g serves i read = omega (arith, past, many_updates g serves i read)
 
-  -- a record of a disk that tells its bytes begins with an update, so it hasn't changed
-  pub changed_never : (n : ℕ) → n < length log.offsets → (fault : BriefFault)
-      → ((place : ℕ) → fault ≡ Changed place
-      → (place ≡ slice_index log.offsets n)
-      × Told (tells.reads d) (λ i. (u : SpelledBrief) → BeginsWith (form_behind log.step n) u
-      (get_or (contents_of i.book).records.bodies n []) → ⊥))
-      → (r : Result (Option (Written WIDTH)) BriefFault) → r ≡ Err fault
+  -- A record of a disk that tells its bytes begins with an update, so it is never found changed.
+  pub reads_update : (n : ℕ) (r : Result (Option (Written WIDTH)) BriefFault)
+      → FindsRecord (tells.reads d) log n r
       → ReadsUpdate tells (store_of tells d k store f) n r
-  changed_never n low DiskFailed changed r is =
-      subst (ReadsUpdate tells (store_of tells d k store f) n) (sym is) tt
-  changed_never n low (Changed place) changed r is =
-      subst (ReadsUpdate tells (store_of tells d k store f) n) (sym is) (λ i read.
+  reads_update n (Ok (Some b)) found = update_at n (plain_brief b) found.0 found.1
+  reads_update n (Ok None) past = none_left n past
+  reads_update n (Err DiskFailed) found = tt
+  reads_update n (Err (Changed place)) found = λ i read.
       let kept = safe.some_history in
-      (changed place refl).1 i read _ (first_front kept.0 kept.2 i read n low))
-  changed_never n low NoMemory changed r is =
-      subst (ReadsUpdate tells (store_of tells d k store f) n) (sym is) tt
+      found.1 i read _ (first_front kept.0 kept.2 i read n found.0)
+  reads_update n (Err NoMemory) found = tt
+
+-- ---- one record
+
+begins_at : (form other : Form) (u : SpelledBrief) (body here : List ℕ) → form ≡ other
+    → body ≡ here → BeginsWith form u body → BeginsWith other u here
+begins_at form other u body here same is begins =
+    subst (λ (x : Form). BeginsWith x u here) same
+    (subst (λ (l : List ℕ). BeginsWith form u l) is begins)
+
+module _ (reads : Option Image) (log : Log) (i : ℕ) where
+  -- a fault of the disk, or of memory, while its body is read
+  pub unread : (why : CheckFault) → FindsRecord reads log i (Err (brief_fault_of why))
+  unread CheckDisk = tt
+  unread CheckMemory = tt
+
+  module _ (low : i < length log.offsets) (form : Form) (body : List ℕ)
+      (same : form ≡ form_behind log.step i) (here : Told reads (λ d. body ≡ body_at d i)) where
+    pub finds_front : (b : Written WIDTH) → BeginsWith form (plain_brief b) body
+        → FindsRecord reads log i (Ok (Some b))
+    finds_front b begins = (
+      low,
+      λ d read. begins_at form (form_behind log.step i) (plain_brief b) body (body_at d i) same
+          (here d read) begins,
+    )
+
+    pub finds_other : (gate : ℕ) (fault : BriefFault) → IsOtherFront form body gate fault
+        → FindsRecord reads log i (Err fault)
+    finds_other gate DiskFailed other = tt
+    finds_other gate (Changed place) other = (
+      low,
+      λ d read u begins. other.1 u
+          (begins_at (form_behind log.step i) form u (body_at d i) body (sym same)
+          (sym (here d read)) begins),
+    )
+    finds_other gate NoMemory other = tt
