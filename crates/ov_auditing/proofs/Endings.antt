@@ -360,6 +360,13 @@ module _ {D : Type 0} (tells : DiskTells D) where
       → IsDiskCall tells failed s.disk t.disk
   disk_call s t failed call = record { same = call.1; later = call.2; rose = call.3 }
 
+  -- with a fault for which it failed
+  pub fault_call : (s t : Opened D) (failed : Type 0) (fault : BeginFault)
+      → (fault ≡ DiskFailed → failed) → IsCallOf tells s t failed
+      → IsDiskCall tells (fault ≡ DiskFailed) s.disk t.disk
+  fault_call s t failed fault so call =
+      record { same = call.1; later = call.2; rose = λ is. call.3 (so is) }
+
   -- a store that stays as it was, with another reason to have failed
   pub stays_for : (s t : Opened D) (failed other : Type 0) → (other → failed)
       → StaysAsItWas tells s t failed → StaysAsItWas tells s t other

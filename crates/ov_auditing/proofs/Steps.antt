@@ -4,6 +4,7 @@ use Rattle.std.proofs.Common.{length, subst, sym, take}
 use Rattle.std.specs.Prelude.{None, Ok, Some}
 use Rattle.std.proofs.lemmas.List.{take_all}
 use Rattle.ov_audit.specs.Seen.{IsNext, Seen, SeesNext}
+use Rattle.ov_disk.specs.Moments.{IsUntouched}
 use Rattle.ov_disk.specs.Tells.{DiskTells}
 use Rattle.ov_disk.proofs.Runs.{looks_then}
 use Rattle.ov_exposure.specs.Auditing.{AreMembers}
@@ -22,9 +23,11 @@ use Rattle.ov_record.specs.declared.brief.Brief.{Brief as Written}
 use Rattle.ov_state.specs.Plans.{IsTaken}
 use Rattle.ov_state.specs.declared.state.TheConstants.{WIDTH}
 use Rattle.ov_store.specs.Briefs.{IsUpdateAt, ReadsUpdate}
-use Rattle.ov_store.specs.Opened.{Opened}
+use Rattle.ov_store.specs.Opened.{Opened, Serves}
+use Rattle.ov_store.specs.Updating.{IsCallOf}
 use Rattle.ov_store.specs.Owners.{with_first}
-use Rattle.ov_auditing.specs.Following.{FollowsNext, FollowsOne, HasFollowed, StaysAsItWas}
+use Rattle.ov_auditing.specs.Following.{FollowsEach, FollowsFirst, FollowsNext, FollowsOne}
+use Rattle.ov_auditing.specs.Following.{HasFollowed, StaysAsItWas}
 use Rattle.ov_auditing.proofs.Followed.{followed_next, may_look}
 use Rattle.ov_auditing.proofs.Texts.{some_update}
 
@@ -89,6 +92,18 @@ module _ (master : List ℕ) (g : SealedHistory) (b : Brief) (c next : Catalogue
 
 -- ---- an open store
 
+-- a read leaves the store as it was
+pub stays_read : {D : Type 0} (tells : DiskTells D) (s t : Opened D) (before failed : Type 0)
+    → t ≡ record s { disk = t.disk } → IsUntouched tells s.disk t.disk
+    → ((g : SealedHistory) → Serves tells g s → Serves tells g t)
+    → IsCallOf tells s t before → (failed → before) → StaysAsItWas tells s t failed
+stays_read tells s t before failed kept untouched served call so = record {
+  kept = kept;
+  untouched = untouched;
+  served = served;
+  call = (call.0, call.1, call.2, λ is. call.3 (so is));
+}
+
 -- two reads that leave the store as it was
 pub stays_then : {D : Type 0} (tells : DiskTells D) (old mid new : Opened D) (before failed : Type 0)
     → StaysAsItWas tells old mid before → StaysAsItWas tells mid new failed
@@ -135,3 +150,37 @@ module _ {D : Type 0} (tells : DiskTells D) (s : Opened D) (n : ℕ) (c : Catalo
       untaken
       (taken_at s.keys.surface g serves.catalogue.0 n (plain_brief b) (reads g serves i read) c seen
       followed)
+
+-- ---- a store that was read before
+
+module _ {D : Type 0} (tells : DiskTells D) (old s : Opened D) (stays : StaysAsItWas tells old s ⊥)
+  where
+    pub surface_stays : s.keys.surface ≡ old.keys.surface
+    surface_stays = ap (λ (x : Opened D). x.keys.surface) stays.kept
+
+    -- what was followed of each history for which it stood is followed of one for which it stands
+    pub one_followed : (n : ℕ) (c : Catalogue) (seen : Seen) → FollowsEach tells old n c seen
+        → (g : SealedHistory) → Serves tells g old → FollowsOne tells s n c seen
+    one_followed n c seen each g serves i read = (
+      g,
+      stays.served g serves,
+      subst (λ (master : List ℕ). FollowsFirst master g n c seen) (sym surface_stays)
+          (each g serves i (sym stays.untouched.reads_same ∙ read)),
+    )
+
+    -- and with one update more of each
+    pub each_followed : (n : ℕ) (c next : Catalogue) (seen later : Seen)
+        → FollowsEach tells old n c seen → FollowsNext tells s n c seen next later
+        → FollowsEach tells old (n + 1) next later
+    each_followed n c next seen later each more g serves i read =
+        subst (λ (master : List ℕ). FollowsFirst master g (n + 1) next later) surface_stays
+        (more g (stays.served g serves) i (stays.untouched.reads_same ∙ read)
+        (subst (λ (master : List ℕ). FollowsFirst master g n c seen) (sym surface_stays)
+        (each g serves i read)))
+
+    pub stays_on : (t : Opened D) (failed : Type 0) → (⊥ → failed) → StaysAsItWas tells s t failed
+        → StaysAsItWas tells old t ⊥
+    stays_on t failed none more =
+        let quiet : StaysAsItWas tells s t ⊥ =
+        stays_read tells s t failed ⊥ more.kept more.untouched more.served more.call none in
+        stays_then tells old s t ⊥ ⊥ stays quiet

@@ -30,7 +30,7 @@ fn damaged(gate: u64) -> BeginFault
 fn read_update<D: Disk>(
     alloc: Global,
     store: &mut Store<D>,
-    i: u32,
+    i: u64,
 ) -> Result<Option<Brief<WIDTH>>, BeginFault>
     ensures update { FindsUpdate D.tells store.old i result }
     ensures fits { IfOk result (λ found. IfSome found (λ b. IsFitting (plain_brief b))) }
@@ -71,7 +71,7 @@ fn look_at_next<D: Disk>(
     alloc: Global,
     store: &mut Store<D>,
     surface: &Master,
-    i: u32,
+    i: u64,
     state: &mut Catalogue,
     audit: &mut Audit,
 ) -> Result<(), BeginFault>
@@ -112,7 +112,7 @@ pub fn findings_of<D: Disk>(
 {
     store.known();
     let updates = store.updates();
-    let first = store.state().epoch() - updates;
+    let first = store.state().epoch() - updates as u32;
     let mut state: Catalogue = State::new(alloc, store.state().mode(), first)?;
     let mut audit = Audit::new(alloc, users, first, server);
     'updates: for i in 0..updates {

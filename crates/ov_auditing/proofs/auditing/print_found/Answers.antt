@@ -1,4 +1,4 @@
-use Rattle.std.proofs.Common.{◌≡◌, ◌∙◌, ap, inl, inr, refl, rules, sym, arith}
+use Rattle.std.proofs.Common.{◌≡◌, ◌∙◌, Err, ap, inl, inr, refl, rules, sym, arith}
 use Rattle.ov_base.specs.declared.key.Key.{Key}
 use Rattle.ov_images.specs.Images.{Keys}
 use Rattle.ov_machine.specs.Machine.{plain_masters}
@@ -6,7 +6,7 @@ use Rattle.ov_answering.proofs.Beginning.{disk_said}
 use Rattle.ov_answering.proofs.Statuses.{ends_or_so, fault_so, not_code_or, script_seven, script_six}
 use Rattle.ov_answering.specs.Printing.{IsStoreStatus}
 use Rattle.ov_auditing.specs.Exposed.{numbers_in}
-use Rattle.ov_auditing.proofs.Endings.{disk_call, fault_ends, fault_low, fault_tells, found_tells}
+use Rattle.ov_auditing.proofs.Endings.{disk_call, fault_call, fault_ends, fault_low, fault_tells, found_tells}
 use Rattle.ov_auditing.proofs.Endings.{line_ends, line_low, stays_for, told_fault}
 use Rattle.ov_auditing.proofs.auditing.print_found.Goals as goal
 
@@ -32,7 +32,7 @@ returns-in-Err-clause-tells g c = λ h serves i read.
     (λ six. inl (c.put_fault.ensures.put.write six)) c.in-Err.fault
     (told_fault (g.D.Disk.tells.reads c.args.store.now.disk) i read c.in-Err.fault
     c.in-Err.ensures.fault)
-    c.put_fault.ensures.ends (λ failed. inr (c.in-Err.ensures.stays.call.3 failed))
+    c.put_fault.ensures.ends (λ failed. inr (c.in-Err.ensures.stays.call.3 (ap Err failed)))
 
 pub returns-in-Ok-clause-opened : goal.returns-in-Ok-clause-opened
 returns-in-Ok-clause-opened g c = λ i read.
@@ -56,7 +56,8 @@ returns-in-Ok-clause-stays g c =
 pub returns-in-Err-clause-stays : goal.returns-in-Err-clause-stays
 returns-in-Err-clause-stays g c =
     stays_for g.D.Disk.tells c.args.store.now c.findings_of.new.store _ (c.put_fault.result ≡ 4)
-    (λ e. disk_said c.in-Err.fault _ _ _ _ c.put_fault.ensures.ends e) c.in-Err.ensures.stays
+    (λ e. ap Err (disk_said c.in-Err.fault _ _ _ _ c.put_fault.ensures.ends e))
+    c.in-Err.ensures.stays
 
 pub returns-in-Ok-clause-causes : goal.returns-in-Ok-clause-causes
 returns-in-Ok-clause-causes g c =
@@ -70,8 +71,8 @@ pub returns-in-Err-clause-causes : goal.returns-in-Err-clause-causes
 returns-in-Err-clause-causes g c =
     fault_ends g.D.Disk.tells c.args.store.now.disk c.findings_of.new.store.disk _ _
     c.put_fault.result _ c.put_fault.ensures.put.write c.in-Err.fault
-    (disk_call g.D.Disk.tells c.args.store.now c.findings_of.new.store _
-    c.in-Err.ensures.stays.call)
+    (fault_call g.D.Disk.tells c.args.store.now c.findings_of.new.store _ c.in-Err.fault
+    (λ is. ap Err is) c.in-Err.ensures.stays.call)
     c.put_fault.ensures.ends
 
 pub returns-in-Ok-clause-status : goal.returns-in-Ok-clause-status

@@ -1,8 +1,11 @@
-use Rattle.std.proofs.Common.{subst}
+use Rattle.std.proofs.Common.{◌≡◌, ◌∙◌, Err, ap, subst, sym}
+use Rattle.std.proofs.lemmas.Result.{err_from_is_err_and}
 use Rattle.ov_history.specs.Briefs.{Brief, numbered_brief}
 use Rattle.ov_history.specs.Catalogue.{file_names_shown}
 use Rattle.ov_record.specs.Briefs.{plain_brief}
+use Rattle.ov_store.specs.declared.fault.BeginFault.TheVariants.{Disk as DiskFailed}
 use Rattle.ov_auditing.specs.Following.{MakesUpdate}
+use Rattle.ov_auditing.proofs.Endings.{stays_for}
 use Rattle.ov_auditing.proofs.Steps.{may_look_at, next_followed, none_followed, some_followed}
 use Rattle.ov_auditing.proofs.Steps.{told_taken}
 use Rattle.ov_auditing.proofs.replaying.look_at_next.Goals as goal
@@ -48,3 +51,23 @@ returns-in_err-make-in-Some-clause-fault g c = (
       c.args.audit.now c.in-Some.update c.in_ok-read_update.ensures.update c.requires.followed
       c.in_err-make.ensures.1,
 )
+
+-- ---- what the store is like then
+
+pub returns-in_ok-see-in-Some-clause-stays : goal.returns-in_ok-see-in-Some-clause-stays
+returns-in_ok-see-in-Some-clause-stays g c =
+    stays_for g.D.Disk.tells c.args.store.now c.read_update.new.store _ _ (λ is. absurd (cc is))
+    c.read_update.ensures.stays
+
+pub returns-in-None-clause-stays : goal.returns-in-None-clause-stays
+returns-in-None-clause-stays g c =
+    stays_for g.D.Disk.tells c.args.store.now c.read_update.new.store _ _ (λ is. absurd (cc is))
+    c.read_update.ensures.stays
+
+pub returns-in_err-read_update-clause-stays : goal.returns-in_err-read_update-clause-stays
+returns-in_err-read_update-clause-stays g c =
+    let p = err_from_is_err_and c.from_residual.result c.from_residual.ensures.1 in
+    stays_for g.D.Disk.tells c.args.store.now c.read_update.new.store _ _
+    (λ is. let failed : p.0 ≡ DiskFailed = cc (p.1, is) in
+    c.in_err-read_update.was ∙ ap Err (sym p.2 ∙ failed))
+    c.read_update.ensures.stays
