@@ -87,13 +87,16 @@ pub(crate) fn push_found(
     ensures { let plain = plain_note note.now in OnOk result (plain_findings list.new.items
         ≡ plain_findings list.old.items ++ found_as file plain.name (cause_of server plain) []) }
 {
-    if let Some((cause, epoch)) = why(note, server) {
-        list.push(Finding {
-            file,
-            name: note.name.copy(),
-            cause,
-            epoch,
-        })?;
+    match why(note, server) {
+        Some((cause, epoch)) => {
+            list.push(Finding {
+                file,
+                name: note.name.copy(),
+                cause,
+                epoch,
+            })?;
+            Ok(())
+        }
+        None => Ok(()),
     }
-    Ok(())
 }
