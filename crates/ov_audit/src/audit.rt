@@ -1,5 +1,5 @@
 //! An audit.
-ghost use Rattle.std.specs.Prelude.{◌≡◌, ◌↔◌, [], IfOk, OnErr, OnOk, true};
+ghost use Rattle.std.specs.Prelude.{◌≡◌, ◌+◌, ◌<◌, ◌≤◌, [], IfOk, OnErr, OnOk, true};
 ghost use Rattle.ov_exposure.specs.Auditing.{findings_from};
 ghost use Rattle.ov_audit.specs.Seen.{IsNext, SeesNext};
 
@@ -38,6 +38,24 @@ impl Model for Audit {
     ghost invariant = { λ a. length a.notes.items ≤ MAX_FILES };
 }
 
+// Whether an epoch is the next one.
+fn is_one_more(last: u32, epoch: u32) -> bool
+    ensures { result ≡ true → epoch ≡ last + 1 }
+{
+    last < epoch && epoch - last == 1
+}
+
+// Whether there are as many files as were noted, or one more, which is there.
+fn may_follow(count: u32, files: u32, there: bool) -> bool
+    ensures { result ≡ true → (count ≤ files) × (files ≤ count + 1)
+        × (count < files → there ≡ true) }
+{
+    if files == count {
+        return true;
+    }
+    there && count < files && files - count == 1
+}
+
 impl Audit {
     /// An audit of these users, and of the server with them where it helps, of a store that began at
     /// this epoch. It has seen no state yet, and takes no memory.
@@ -56,17 +74,17 @@ impl Audit {
     }
 
     /// Whether this state may be the next that is looked at: it has the next epoch, each file that was
-    /// noted, and at most one more.
+    /// noted, and at most one more, which is there.
     pub fn is_next(&self, state: &Catalogue) -> bool
-        ensures { (result ≡ true) ↔ IsNext self.now state.now.catalogue }
+        ensures { result ≡ true → IsNext self.now state.now.catalogue }
     {
         state.known();
-        let files = state.sizes().files as usize;
-        state.epoch() > 0
-            && state.epoch() - 1 == self.epoch
-            && self.notes.len() <= files
-            && files <= self.notes.len() + 1
-            && (files == self.notes.len() || state.file_at(self.notes.len() as u32).is_some())
+        if !is_one_more(self.epoch, state.epoch()) {
+            return false;
+        }
+        let count = self.notes.len() as u32;
+        let there = state.file_at(count).is_some();
+        may_follow(count, state.sizes().files, there)
     }
 
     /// Looks at the state after the next update. Where memory is refused, the audit is as it was.
