@@ -28,6 +28,7 @@ use Rattle.ov_store.specs.Beginning.{FindsHistory, IsBeginFault, IsNew, LeavesHi
 use Rattle.ov_store.specs.Beginning.{WritesNoBorn, disk_left}
 use Rattle.ov_store.specs.Opened.{Opened, Serves}
 use Rattle.ov_store.specs.Owners.{HasFalseUpdate, masters}
+use Rattle.ov_store.proofs.Owned.{owned_is_right}
 use Rattle.ov_store.specs.declared.begin.BeginRefused.{BeginRefused}
 use Rattle.ov_store.specs.declared.fault.BeginFault.{BeginFault}
 use Rattle.ov_store.specs.declared.fault.BeginFault.TheVariants.{Disk, NotAStore, Damaged}
@@ -41,7 +42,7 @@ use Rattle.ov_answering.specs.Ending.{JudgesImage}
 use Rattle.ov_answering.specs.Judging.{FindsPlain, HasFalseRecord, IsCheckFault, IsChecked, IsRefusal, Refuses, fault_for}
 use Rattle.ov_answering.specs.Printing.{IsRefused, read_line}
 use Rattle.ov_answering.proofs.Beginning.{ends_in_fault, right_mode}
-use Rattle.ov_answering.proofs.Owned.{owners_are_right, right_never_false}
+use Rattle.ov_answering.proofs.Owned.{right_never_false}
 
 -- ---- images that open
 
@@ -203,7 +204,7 @@ module _ {D : Type 0} (tells : DiskTells D) where
     opens_found t owners i read =
         let (g, is, image) = (found.0 i read).some in record {
           some = opens_so k mode i g is image
-              (owners_are_right k g ((found.0 i read).each g is image).catalogue.0
+              (owned_is_right k g ((found.0 i read).each g is image).catalogue.0
               (seen (Ok t) owners i read g is image).0);
           each = λ h same stands. (seen (Ok t) owners i read h same stands).1;
         }

@@ -7,7 +7,7 @@ use Rattle.std.proofs.lemmas.List.{length-replicate}
 use Rattle.ov_history.specs.Briefs.{brief, outer}
 use Rattle.ov_history.specs.Fading.{AgreeButGone, faded, faded_all, faded_if, faded_of}
 use Rattle.ov_history.specs.Fading.{is_gone_from, made_by, no_tag}
-use Rattle.ov_history.specs.History.{Created, History, Matrix, Update, changed, changed_all}
+use Rattle.ov_history.specs.History.{History, Matrix, Update, changed, changed_all}
 use Rattle.ov_history.specs.History.{File, delisted, file_at, listed, matrix_of, no_one, resized}
 use Rattle.ov_history.specs.History.{start_of, with_update}
 use Rattle.ov_history.specs.Layers.{Layers, layers_of}

@@ -1,7 +1,7 @@
 -- What a fault blames, by the last answer.
-use Rattle.std.proofs.Common.{◌≡◌, ℕ, ◌+◌, zero, suc, arith, List, Option, Some, None}
+use Rattle.std.proofs.Common.{◌≡◌, ℕ, ◌+◌, suc, arith, List, Option, Some, None}
 use Rattle.std.proofs.Common.{Result, Ok, Err}
-use Rattle.std.proofs.Common.{refl, sym, ap, subst, inl, inr}
+use Rattle.std.proofs.Common.{refl, sym, subst, inl, inr}
 use Rattle.std.specs.Prelude.{IfErr, IfOk}
 use Rattle.ov_peer.specs.Exchanges.{Answered, Exchanges}
 use Rattle.ov_peer.specs.Tells.{PeerTells}
@@ -14,7 +14,7 @@ use Rattle.ov_wire.specs.declared.request.Request.{Request}
 use Rattle.ov_wire.specs.declared.request.Request.TheVariants as requests
 use Rattle.ov_listing.specs.Causes.{IsSettled, listing_fault}
 use Rattle.ov_listing.specs.Questions.{ShownIn, listed_in, most_in, part_number, welcome_in}
-use Rattle.ov_listing.specs.Reasons.{BlamesChanges, BlamesReply, Greets, HasEntry, HasLastPage}
+use Rattle.ov_listing.specs.Reasons.{BlamesChanges, BlamesReply, Greets, HasLastPage}
 use Rattle.ov_listing.specs.Reasons.{HasPage, IsOnPage, IsTooHigh, SeesChange, SeesChanges}
 use Rattle.ov_listing.specs.declared.fault.ListingFault.{ListingFault}
 use Rattle.ov_listing.specs.declared.fault.ListingFault.TheVariants as faults

@@ -1,9 +1,7 @@
 -- Why a question has no answer, by what the peer replied.
-use Rattle.std.specs.Prelude.{◌≡◌, ◌≢◌, ◌⊎◌, ℕ, zero, suc, List, ◌++◌}
+use Rattle.std.specs.Prelude.{◌≡◌, ◌≢◌, ◌⊎◌, ℕ, zero, suc, List}
 use Rattle.std.specs.Prelude.{Option, Some, None, Result, Ok, Err}
-use Rattle.ov_base.specs.Names.{IsName}
 use Rattle.ov_base.specs.declared.limits.TheConstants.{MAX_FILES, MAX_USERS}
-use Rattle.ov_fields.specs.Spelling.{name_field}
 use Rattle.ov_peer.specs.Exchanges.{Answered}
 use Rattle.ov_peer.specs.Tells.{PeerTells}
 use Rattle.ov_wire.specs.declared.answer.Answer.{Answer}

@@ -8,7 +8,7 @@ use Rattle.ov_record.specs.Spelling.{HasForm, spelling}
 use Rattle.ov_record.specs.Updates.{SealedUpdate}
 use Rattle.ov_record.specs.Forms.{second_form}
 use Rattle.ov_history.specs.Catalogue.{Catalogue}
-use Rattle.ov_history.specs.Sealed.{refusal_shown}
+use Rattle.ov_history.specs.Sealed.{SealedHistory, refusal_shown}
 use Rattle.ov_wire.specs.declared.request.Request.{Request}
 use Rattle.ov_wire.specs.declared.answer.Answer.{Answer}
 use Rattle.ov_wire.specs.declared.answer.Answer.TheVariants as answers
@@ -21,7 +21,7 @@ use Rattle.ov_protocol.specs.Serving.{brief_in}
 use Rattle.ov_protocol.specs.Updating.{AnswersSealed, AnswersSpelled, AnswersUpdate, owner_tag, spelled_by}
 use Rattle.ov_peer.specs.Asks.{Ask, Leads}
 use Rattle.ov_server.specs.Answering.{AnswersOrFails, IsAnswered, IsFaulted, serving_of}
-use Rattle.ov_store.specs.Opened.{Opened}
+use Rattle.ov_store.specs.Opened.{Opened, Serves}
 use Rattle.ov_owner.specs.Errands.{Errand}
 use Rattle.ov_owner.specs.Talks.{CanSend, Closes, Ends, Goes, IsAfter, IsAskFault, IsDue, Sends, Stage, Talks, after as stage_after, after_first, sends_if, start, update_request}
 use Rattle.ov_owner.specs.declared.fault.OwnerFault.{OwnerFault}
@@ -223,7 +223,8 @@ module _ {D : Type 0} (tells : DiskTells D) (surface : List ℕ) (e : Errand)
   ends_with r result s t epoch u reply (inr why) (inr failed) =
       inr (record { faulted = failed.faulted; ends = inr why })
 
-  module _ (s : Opened D) (same : s.keys.surface ≡ surface) where
+  module _ (s : Opened D) (same : s.keys.surface ≡ surface) (g : SealedHistory)
+      (serves : Serves tells g s) where
     -- an update is due, of a store that stayed
     module _ (n : Opened D) (stays : Stays tells s n) where
       same_there : n.keys.surface ≡ surface
@@ -374,7 +375,8 @@ module _ {D : Type 0} (tells : DiskTells D) (surface : List ℕ) (e : Errand)
           by_then told said still (inl (bytes, is)) =
               let read : answer_of e.first a.reply ≡ Ok told =
               reads_back e.first told a.reply
-              (is_honest.fits (serving_of s) told said.answers said.form) said.form said.spelled in
+              (is_honest.fits (serving_of s) g serves.catalogue told said.answers said.form)
+              said.form said.spelled in
               from_told told next asks last o result n m t still said.answers
               (is_honest.tells (serving_of s) told said.answers)
               (is ∙ ap (stage_after e start) read) goes leads left closes

@@ -10,6 +10,7 @@ use Rattle.ov_script.specs.declared.reply.Reply.TheVariants as replies
 use Rattle.ov_model.specs.Step.{after}
 use Rattle.ov_history.specs.Masters.{Masters}
 use Rattle.ov_history.specs.Plain.{PlainHistory}
+use Rattle.ov_history.specs.Sealed.{SealedHistory}
 use Rattle.ov_wire.specs.declared.answer.Answer.{Answer}
 use Rattle.ov_wire.specs.declared.answer.Answer.TheVariants as answers
 use Rattle.ov_wire.specs.declared.answer.Welcome.{Welcome}
@@ -18,7 +19,7 @@ use Rattle.ov_wire.specs.Requests.{HasRequestForm}
 use Rattle.ov_peer.specs.Tells.{PeerTells}
 use Rattle.ov_protocol.specs.Reading.{AnswersList}
 use Rattle.ov_history.specs.Asking.{file_named}
-use Rattle.ov_store.specs.Opened.{Opened}
+use Rattle.ov_store.specs.Opened.{Opened, Serves}
 use Rattle.ov_owner.specs.Calls.{Runs}
 use Rattle.ov_owner.specs.Errands.{Errand}
 use Rattle.ov_owner.specs.Questions.{AsksOnce, names_in, welcome_in}
@@ -68,14 +69,15 @@ module _ {D : Type 0} (tells : DiskTells D) {P : Type 0} (peer : PeerTells P)
   -- ---- changes
 
   module _ (k : Masters) (command : Command) (e : Errand) (ours : IsErrandFor k.base command e)
-      (a b : P) (made : Result ℕ OwnerFault) (runs : Runs peer k.surface e a b made) where
+      (a b : P) (g : SealedHistory) (serves : Serves tells g (server a))
+      (made : Result ℕ OwnerFault) (runs : Runs peer k.surface e a b made) where
     changed : (server a).keys.surface ≡ k.surface
         → Changes tells k.surface e (honest k.base command e ours) (server a) (server b) made
     changed same =
         let (m, leads, ends) = runs.are_asks in
         changed_by tells k.surface e
-        (honest k.base command e ours) (server a) same runs.asks runs.unanswered made (server m)
-        (server b) runs.talks
+        (honest k.base command e ours) (server a) same g serves runs.asks runs.unanswered made
+        (server m) (server b) runs.talks
         (leads_so tells peer server put loan seat runs.asks a m leads)
         (left_so tells peer server put loan seat runs.unanswered m b ends)
 
@@ -86,18 +88,19 @@ module _ {D : Type 0} (tells : DiskTells D) {P : Type 0} (peer : PeerTells P)
         (honest k.base command e ours) (server a) (server b) made (changed same)
 
   pub change_done : (old new : KeptOn D) (command : Command) (e : Errand)
-      (ours : IsErrandFor old.kept.masters.base command e) (a b : P) (made : Result ℕ OwnerFault)
+      (ours : IsErrandFor old.kept.masters.base command e) (a b : P) (g : SealedHistory)
+      (serves : Serves tells g (server a)) (made : Result ℕ OwnerFault)
       → Runs peer old.kept.masters.surface e a b made
       → server a ≡ opened_of old → server b ≡ opened_of new
       → new.kept.masters ≡ old.kept.masters → old.failed ≡ false
       → IsDone command old new a b (change_reply made)
-  change_done old new command e ours a b made runs at_a at_b masters sound =
+  change_done old new command e ours a b g serves made runs at_a at_b masters sound =
       let k = old.kept.masters in
       let is_honest = honest k.base command e ours in
       let surface : (server a).keys.surface ≡ k.surface =
       ap (λ (x : Opened D). x.keys.surface) at_a in
       let at_ab : Changes tells k.surface e is_honest (server a) (server b) made =
-      changed k command e ours a b made runs surface in
+      changed k command e ours a b g serves made runs surface in
       let is : Changes tells k.surface e is_honest (opened_of old) (opened_of new) made =
       subst (λ (t : Opened D). Changes tells k.surface e is_honest (opened_of old) t made) at_b
       (subst (λ (s : Opened D). Changes tells k.surface e is_honest s (server b) made) at_a at_ab) in record {

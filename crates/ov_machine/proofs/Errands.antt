@@ -14,7 +14,7 @@ use Rattle.ov_history.specs.History.{Created, Replaced}
 use Rattle.ov_history.specs.Layers.{list_in}
 use Rattle.ov_history.specs.Lists.{set_named}
 use Rattle.ov_history.specs.Masters.{access_key}
-use Rattle.ov_history.specs.Sealed.{HasParts, refusal_shown}
+use Rattle.ov_history.specs.Sealed.{HasParts, SealedHistory, StandsFor, refusal_shown}
 use Rattle.ov_history.specs.Sealing.{token_unless}
 use Rattle.ov_script.specs.declared.command.Command.{Command}
 use Rattle.ov_script.specs.declared.command.Command.TheVariants as commands
@@ -34,7 +34,7 @@ use Rattle.ov_owner.specs.Errands.{Errand, created, creating, enrolling, grantin
 use Rattle.ov_owner.specs.Steps.{IsErrandFor}
 use Rattle.ov_owner.specs.declared.fault.OwnerFault.{OwnerFault}
 use Rattle.ov_owner.specs.declared.fault.OwnerFault.TheVariants as faults
-use Rattle.ov_owner.proofs.Fitting.{ask_fits, cover_fits, replan_fits}
+use Rattle.ov_owner.proofs.Fitting.{ask_fits, cover_fits, needs_no_node, replan_fits}
 
 -- the update is one that a store with this catalogue makes, and is made at its epoch
 pub record IsMakeable (c : Catalogue) (epoch : ℕ) (u : SealedUpdate) : Type 0 where
@@ -48,11 +48,12 @@ IsTold c told =
     ((why : Refusal) × (told ≡ Err (faults.Refused why)))
     ⊎ ((epoch : ℕ) × (u : SealedUpdate) × (told ≡ Ok (epoch, u)) × IsMakeable c epoch u)
 
--- what an errand asks first changes nothing; its answers are in the grammar, and tell so
+-- what an errand asks first changes nothing; its answers are in the grammar where the store stands
+-- for a history, and tell so
 pub record IsHonest (e : Errand) : Type 0 where
   pub quiet : MayNeedDisk e.first → ⊥
-  pub fits : (s : Serving) (a : Answer) → Answers s e.first a → HasAnswerForm a
-      → IsAnswer e.first a
+  pub fits : (s : Serving) (g : SealedHistory) → StandsFor s.surface s.catalogue g
+      → (a : Answer) → Answers s e.first a → HasAnswerForm a → IsAnswer e.first a
   pub tells : (s : Serving) (a : Answer) → Answers s e.first a → IsTold s.catalogue (e.sealed a)
 
 -- numbers were told, or a refusal
@@ -75,7 +76,7 @@ asked c question a seal is made = absurd is
 enrol_honest : (user : List ℕ) → IsHonest (enrolling user)
 enrol_honest user = record {
   quiet = λ none. none;
-  fits = λ s. ask_fits s.catalogue (questions.Enrol user);
+  fits = λ s g stands. ask_fits s.catalogue (questions.Enrol user) tt;
   tells = λ s a is. asked s.catalogue (questions.Enrol user) a _ is
       (λ none. record { at_epoch = refl; free = none; parts = tt });
 }
@@ -88,7 +89,7 @@ wanted false token = refl
 grant_honest : (base user file : List ℕ) → IsHonest (granting base user file)
 grant_honest base user file = record {
   quiet = λ none. none;
-  fits = λ s. ask_fits s.catalogue (questions.Grant user file);
+  fits = λ s g stands. ask_fits s.catalogue (questions.Grant user file) tt;
   tells = λ s a is. asked s.catalogue (questions.Grant user file) a _ is
       (λ none. record { at_epoch = refl; free = none; parts = wanted _ _ });
 }
@@ -96,7 +97,7 @@ grant_honest base user file = record {
 revoke_honest : (user file : List ℕ) → IsHonest (revoking user file)
 revoke_honest user file = record {
   quiet = λ none. none;
-  fits = λ s. ask_fits s.catalogue (questions.Revoke user file);
+  fits = λ s g stands. ask_fits s.catalogue (questions.Revoke user file) tt;
   tells = λ s a is. asked s.catalogue (questions.Revoke user file) a _ is
       (λ none. record { at_epoch = refl; free = none; parts = tt });
 }
@@ -104,7 +105,8 @@ revoke_honest user file = record {
 remove_honest : (file : List ℕ) → IsHonest (removing file)
 remove_honest file = record {
   quiet = λ none. none;
-  fits = λ s. ask_fits s.catalogue (questions.Remove file);
+  fits = λ s g stands. ask_fits s.catalogue (questions.Remove file)
+      (needs_no_node s.surface s.catalogue g (questions.Remove file) stands);
   tells = λ s a is. asked s.catalogue (questions.Remove file) a _ is
       (λ none. record { at_epoch = refl; free = none; parts = tt });
 }
@@ -140,7 +142,8 @@ create_honest : (base file : List ℕ) (names : List (List ℕ)) (bytes : List �
     → IsHonest (creating base file names bytes)
 create_honest base file names bytes = record {
   quiet = λ none. none;
-  fits = λ s. cover_fits s.catalogue file (length bytes) names (set_named s.catalogue.users names);
+  fits = λ s g stands. cover_fits s.catalogue file (length bytes) names
+      (set_named s.catalogue.users names);
   tells = λ s a. create_tells base file names bytes s.catalogue a;
 }
 
@@ -174,7 +177,7 @@ replace_tells base file bytes c a is = absurd is
 replace_honest : (base file bytes : List ℕ) → IsHonest (replacing base file bytes)
 replace_honest base file bytes = record {
   quiet = λ none. none;
-  fits = λ s. replan_fits s.catalogue file (length bytes) (file_named s.catalogue file);
+  fits = λ s g stands. replan_fits s.catalogue file (length bytes) (file_named s.catalogue file);
   tells = λ s a. replace_tells base file bytes s.catalogue a;
 }
 

@@ -7,11 +7,12 @@ use Rattle.ov_images.specs.Images.{Keys, keys_of}
 use Rattle.ov_script.specs.declared.command.Command.{Command}
 use Rattle.ov_script.specs.declared.reply.Reply.{Reply}
 use Rattle.ov_history.specs.Masters.{Masters}
+use Rattle.ov_history.specs.Sealed.{SealedHistory}
 use Rattle.ov_peer.specs.Asks.{AreAsks, Ask}
 use Rattle.ov_peer.specs.Tells.{PeerTells, lent_peer}
 use Rattle.ov_peer.specs.Traced.{traced_tells}
 use Rattle.ov_peer.specs.declared.traced.Traced.{Traced}
-use Rattle.ov_store.specs.Opened.{Opened}
+use Rattle.ov_store.specs.Opened.{Opened, Serves}
 use Rattle.ov_owner.specs.Calls.{Runs}
 use Rattle.ov_owner.specs.Causes.{HasOwnerCause}
 use Rattle.ov_owner.specs.Errands.{Errand}
@@ -110,9 +111,11 @@ module _ {D T : Type 0} (tells : DiskTells D) (sink : SinkTells T) where
   module _ (k : Masters) (command : Command) (e : Errand) (ours : IsErrandFor k.base command e)
       (a b : Lent) (made : Result ℕ OwnerFault) (runs : Runs lent k.surface e a b made)
       (s t : Opened D) (keys : s.keys ≡ keys_of k) (at_a : a.peer.now ≡ s) where
-    pub change_fault : HasOwnFault made
-    change_fault =
-        change_proper tells lent store_of put_of loan_of seat k command e ours a b made runs
+    -- no other fault comes, since the store stands for some history
+    pub change_fault : (g : SealedHistory) → Serves tells g s → HasOwnFault made
+    change_fault g serves =
+        change_proper tells lent store_of put_of loan_of seat k command e ours a b g
+        (subst (Serves tells g) (sym at_a) serves) made runs
         (ap (λ (x : Opened D). x.keys.surface) at_a ∙ ap (λ (x : Keys). x.surface) keys)
 
     pub change_loan : b.sink.ghost_name ≡ a.sink.ghost_name
@@ -124,16 +127,17 @@ module _ {D T : Type 0} (tells : DiskTells D) (sink : SinkTells T) where
         ∙ keeps_keys runs.asks runs.unanswered a b runs.are_asks
         ∙ ap (λ (x : Opened D). x.keys) at_a ∙ keys
 
-    pub change_whole : (t_old t_new : T) (r : Result Reply StepFault)
+    pub change_whole : (g : SealedHistory) → Serves tells g s
+        → (t_old t_new : T) (r : Result Reply StepFault)
         → b.peer.now ≡ t → a.sink.now ≡ t_old → b.sink.now ≡ t_new → s.failed ≡ false
         → HasOwnerCause (0 + sink.faults a.sink.now) (0 + sink.faults b.sink.now) made
         → r ≡ change_reply made
         → IsWhole command (machine_of k s) (machine_of k t) t_old t_new r
-    change_whole t_old t_new r at_b put_a put_b sound cause replied =
-        let is = change_done tells lent store_of put_of loan_of seat (machine_of k s) (machine_of k t) command e ours a b made
-        runs (at_a ∙ opens_as k s keys) (at_b ∙ opens_as k t (change_keys at_b)) refl sound in
+    change_whole g serves t_old t_new r at_b put_a put_b sound cause replied =
+        let is = change_done tells lent store_of put_of loan_of seat (machine_of k s) (machine_of k t) command e ours a b g
+        (subst (Serves tells g) (sym at_a) serves) made runs (at_a ∙ opens_as k s keys) (at_b ∙ opens_as k t (change_keys at_b)) refl sound in
         let puts = puts_so runs.asks runs.unanswered a b made (change_reply made) runs.are_asks cause
-        (is_link made change_fault) in
+        (is_link made (change_fault g serves)) in
         subst (IsWhole command (machine_of k s) (machine_of k t) t_old t_new) (sym replied)
         (record {
           steps = is.steps;
@@ -149,13 +153,14 @@ module _ {D T : Type 0} (tells : DiskTells D) (sink : SinkTells T) where
         })
 
     -- a change by a machine that is seen so is a whole call of it
-    pub change_all : (old : KeptOn D) → machine_of k s ≡ old → old.failed ≡ false
+    pub change_all : (g : SealedHistory) → Serves tells g s
+        → (old : KeptOn D) → machine_of k s ≡ old → old.failed ≡ false
         → (t_old t_new : T) (r : Result Reply StepFault)
         → b.peer.now ≡ t → a.sink.now ≡ t_old → b.sink.now ≡ t_new
         → HasOwnerCause (0 + sink.faults a.sink.now) (0 + sink.faults b.sink.now) made
         → r ≡ change_reply made
         → IsWhole command old (machine_of k t) t_old t_new r
-    change_all old seen sound t_old t_new r at_b put_a put_b cause replied =
+    change_all g serves old seen sound t_old t_new r at_b put_a put_b cause replied =
         subst (λ (m : KeptOn D). IsWhole command m (machine_of k t) t_old t_new r) seen
-        (change_whole t_old t_new r at_b put_a put_b (ap (λ (m : KeptOn D). m.failed) seen ∙ sound) cause
+        (change_whole g serves t_old t_new r at_b put_a put_b (ap (λ (m : KeptOn D). m.failed) seen ∙ sound) cause
         replied)

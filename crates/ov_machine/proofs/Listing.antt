@@ -59,7 +59,7 @@ pub key_plain : (user : List ℕ) → HasRequestForm (requests.Ask (questions.Ke
 key_plain user form = record {
   form = form;
   quiet = λ x. x;
-  fits = λ s. ask_fits s.catalogue (questions.Key user);
+  fits = λ s. ask_fits s.catalogue (questions.Key user) tt;
 }
 
 -- ---- at a history for which the machine stands as far as its disk tells

@@ -19,7 +19,7 @@ use Rattle.ov_history.specs.Kept.{AreKept}
 use Rattle.ov_history.specs.Sealed.{KeepsBytes, SealedHistory, StandsFor as SealedFor}
 use Rattle.ov_history.specs.Sealing.{IsSealedAs, sealed}
 use Rattle.ov_history.proofs.PlainLaws.{measured_all-append}
-use Rattle.ov_model.specs.Step.{after, step}
+use Rattle.ov_model.specs.Step.{after}
 use Rattle.ov_history.proofs.Agreeing.{right_is_sealed, right_keeps, right_shows}
 use Rattle.ov_model.proofs.Legality.{legal-after}
 use Rattle.ov_wire.specs.Requests.{request_bytes}

@@ -1,5 +1,5 @@
 -- As many bytes were put as the transcript of an update has: its server made it.
-use Rattle.std.proofs.Common.{◌≡◌, ◌∙◌, ℕ, ◌+◌, Bool, List, [], ◌∷◌, ◌++◌, length, length-append, take, Option, Some, None, Result, Ok, Err, sym, ap, subst, inl, inr, arith}
+use Rattle.std.proofs.Common.{◌≡◌, ◌∙◌, ℕ, ◌+◌, Bool, List, [], ◌∷◌, ◌++◌, length, length-append, take, Option, Some, None, Result, Ok, Err, refl, sym, ap, subst, inl, inr, arith}
 use Rattle.std.specs.Prelude.{◌⊎◌}
 use Rattle.ov_record.specs.Updates.{SealedUpdate}
 use Rattle.ov_tokens.specs.Keys.{check_value_of}
@@ -8,6 +8,7 @@ use Rattle.ov_history.specs.Masters.{Masters}
 use Rattle.ov_history.specs.Plain.{PlainHistory, history_of}
 use Rattle.ov_history.specs.Refusals.{IsLegal}
 use Rattle.ov_history.specs.Sealing.{sealed}
+use Rattle.ov_history.proofs.Sealing.{sealed_is_sealed}
 use Rattle.ov_model.specs.Step.{after}
 use Rattle.ov_wire.specs.declared.request.Request.{Request}
 use Rattle.ov_wire.specs.declared.answer.Answer.{Answer}
@@ -155,7 +156,9 @@ module _ (k : Masters) (command : Command) (e : Errand) (d : Does k command e) (
       first_next a next other ours replied (inr memory) = inl memory
       first_next a next other ours replied (inl (bytes, is)) =
           let read : answer_of e.first a.reply ≡ Ok told =
-          reads_back e.first told a.reply (is_honest.fits (served here) told answered told_form) told_form replied in
+          reads_back e.first told a.reply
+          (is_honest.fits (served here) (sealed k p) (sealed_is_sealed k p legal, refl) told answered told_form)
+          told_form replied in
           inr
           (is ∙ ap (λ (r : Request). stage_after e start (answer_of r a.reply)) (sym ours)
           ∙ ap (stage_after e start) read ∙ ap (after_first [] 0) is_sealed ∙ sends_on)

@@ -27,6 +27,7 @@ impl<D: Disk> Machine<D> {
         ensures { IsWholeStep D.tells T.tells (command_of change.now) self.old self.new
             trace.old trace.new result }
     {
+        self.peer.server().known();
         let mut peer = Traced::new(&mut self.peer, trace);
         let made = kept_loans::change(&self.owner, alloc, &mut peer, change);
         let Traced { peer: _, sink: _ } = peer;

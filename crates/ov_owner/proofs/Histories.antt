@@ -2,9 +2,9 @@
 use Rattle.std.proofs.Common.{◌≡◌, ℕ, ◌+◌, ◌∙◌, List, [], ◌∷◌, length, refl, ap, arith}
 use Rattle.ov_record.specs.Updates.{SealedUpdate}
 use Rattle.ov_history.specs.Catalogue.{empty_catalogue}
-use Rattle.ov_history.specs.Sealed.{SealedHistory, catalogue_of, with_spelled}
+use Rattle.ov_history.specs.Sealed.{SealedHistory, catalogue_of}
 use Rattle.ov_protocol.specs.Serving.{followed}
-use Rattle.ov_protocol.proofs.Following.{followed-length}
+use Rattle.ov_protocol.proofs.Following.{followed-first, followed-length}
 use Rattle.ov_protocol.proofs.GoingOn.{epochs_all}
 use Rattle.ov_peer.proofs.Following.{followed-nil}
 
@@ -15,11 +15,6 @@ no_updates (u ∷ us) none = absurd (omega arith)
 epoch_is : (master : List ℕ) (g : SealedHistory)
     → (catalogue_of master g).epoch ≡ g.first + length g.updates
 epoch_is master g = epochs_all master (empty_catalogue g.mode g.first) g.updates
-
--- the first epoch stays
-followed-first : (g : SealedHistory) (us : List SealedUpdate) → (followed g us).first ≡ g.first
-followed-first g [] = refl
-followed-first g (u ∷ us) = followed-first (with_spelled g u) us
 
 -- what goes on from a history and has its epoch is that history
 pub same_epoch : (master : List ℕ) (g : SealedHistory) (between others : List SealedUpdate)

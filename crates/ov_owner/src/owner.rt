@@ -181,6 +181,7 @@ impl Owner {
     {
         self.change(alloc, peer, &Change::Remove { file })
     }
+
     /// Replaces a file: takes it away, and puts one of its name and with these bytes in its place,
     /// for the users who are in its list now. Gives the new epoch.
     pub fn replace<P: Peer>(

@@ -64,6 +64,12 @@ pub followed-append : (g : SealedHistory) (updates more : List SpelledUpdate)
 followed-append g [] more = refl
 followed-append g (u ∷ updates) more = followed-append (with_spelled g u) updates more
 
+-- the first epoch stays
+pub followed-first : (g : SealedHistory) (updates : List SpelledUpdate)
+    → (followed g updates).first ≡ g.first
+followed-first g [] = refl
+followed-first g (u ∷ updates) = followed-first (with_spelled g u) updates
+
 pub later-append : (v : Service) (updates more : List SpelledUpdate)
     → later (later v updates) more ≡ later v (updates ++ more)
 later-append v updates more =

@@ -8,7 +8,6 @@ use Rattle.ov_listing.specs.Causes.{IsSettled}
 use Rattle.ov_listing.specs.declared.fault.ListingFault.{ListingFault}
 use Rattle.ov_listing.specs.declared.shown.Shown.{Shown}
 use Rattle.ov_listing.proofs.Settling.{fault_settled, page_settled}
-use Rattle.ov_listing.specs.Questions.{part_number}
 use Rattle.ov_listing.specs.Reasons.{BlamesReply, IsOnPage}
 use Rattle.std.specs.Prelude.{IfOk}
 use Rattle.ov_listing.proofs.Blaming.{asked_blames, page_blames, page_there}

@@ -1,4 +1,5 @@
-use Rattle.std.proofs.Common.{rules, refl}
+use Rattle.std.proofs.Common.{rules, refl, subst}
+use Rattle.ov_store.specs.Opened.{Serves}
 use Rattle.ov_owner.specs.Changes.{command_of, errand_of}
 use Rattle.ov_owner.proofs.Owning.{errand_for}
 use Rattle.ov_machine.proofs.Lent.{change_all, change_fault, change_keys}
@@ -12,6 +13,8 @@ change_reply-requires g c =
     (errand_for base c.args.change.now) c.new-peer.result
     c.change-made.new.peer c.change-made.result c.change-made.ensures.runs c.self.inside.peer
     c.change-made.new.peer.peer.now c.self.invariant (search rules)
+    c.known.ensures.0
+    (subst (Serves g.D.Disk.tells c.known.ensures.0) c.server.ensures c.known.ensures.1)
 
 pub invariant_of-self : goal.invariant_of-self
 invariant_of-self g c =
@@ -30,5 +33,7 @@ returns g c =
     (errand_for base c.args.change.now) c.new-peer.result
     c.change-made.new.peer c.change-made.result c.change-made.ensures.runs c.self.inside.peer
     c.change-made.new.peer.peer.now c.self.invariant (search rules)
+    c.known.ensures.0
+    (subst (Serves g.D.Disk.tells c.known.ensures.0) c.server.ensures c.known.ensures.1)
     c.args.self.now c.self.view_is c.requires.healthy c.args.trace.now _ c.change_reply.result refl
     (search rules) (search rules) c.change-made.ensures.cause c.change_reply.ensures
