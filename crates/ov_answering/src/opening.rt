@@ -39,7 +39,11 @@ fn fault_found(found: Result<Option<u64>, CheckFault>) -> Option<BeginFault>
 
 /// Hands the store on where all its updates are as the owner with this base master seals them, and
 /// its disk with the reason where they aren't.
-pub fn checked<D: Disk>(alloc: Global, store: Store<D>, base: &Key) -> Result<Store<D>, BeginRefused<D>>
+pub fn checked<D: Disk>(
+    alloc: Global,
+    store: Store<D>,
+    base: &Key,
+) -> Result<Store<D>, BeginRefused<D>>
     requires { store.failed ≡ false }
     ensures same { IfOk result (λ s. s ≡ record store { disk = s.disk }) }
     ensures owners { (g : SealedHistory) → Serves D.tells g store
