@@ -35,6 +35,6 @@ mod words;
 
 pub use answer::{Stop, answer_all, stop_of};
 pub use finishing::{finish, put_last};
-pub use opening::begin;
+pub use opening::{base_check_of, begin, checked};
 pub use status::Status;
 pub use words::mode_of_word;

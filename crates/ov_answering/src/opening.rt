@@ -37,9 +37,13 @@ fn fault_found(found: Result<Option<u64>, CheckFault>) -> Option<BeginFault>
     }
 }
 
-// Hands the store on where all its updates are as the owner with this base master seals them, and
-// its disk with the reason where they aren't.
-fn checked<D: Disk>(alloc: Global, store: Store<D>, base: &Key) -> Result<Store<D>, BeginRefused<D>>
+/// Hands the store on where all its updates are as the owner with this base master seals them, and
+/// its disk with the reason where they aren't.
+pub fn checked<D: Disk>(
+    alloc: Global,
+    store: Store<D>,
+    base: &Key,
+) -> Result<Store<D>, BeginRefused<D>>
     requires { store.failed ≡ false }
     ensures same { IfOk result (λ s. s ≡ record store { disk = s.disk }) }
     ensures owners { (g : SealedHistory) → Serves D.tells g store
@@ -58,8 +62,8 @@ fn checked<D: Disk>(alloc: Global, store: Store<D>, base: &Key) -> Result<Store<
     }
 }
 
-// The value by which a store knows this base master again.
-fn base_check_of(base: &Key) -> [u8; 32]
+/// The value by which a store knows this base master again.
+pub fn base_check_of(base: &Key) -> [u8; 32]
     ensures { result ≡ check_value_of base.now.bytes }
 {
     check_value(&Master::new(base))

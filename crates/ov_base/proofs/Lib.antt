@@ -1,5 +1,6 @@
 pub mod SetLaws
 pub mod SetSizes
+pub mod SetMeets
 pub mod NamePlaces
 pub mod Lists
 pub mod Modes

@@ -177,3 +177,42 @@ past_or ws vs k h j = rw (get_or_past ws k 0 h, get_or_past vs k 0 j) refl
 
 pub past_and : (ws vs : List ℕ) (k : ℕ) → length ws ≤ k → bit_and (get_or ws k 0) (get_or vs k 0) ≡ get_or ws k 0
 past_and ws vs k h = rw (get_or_past ws k 0 h) (let e = and_le_l 0 (get_or vs k 0) in omega arith)
+
+-- ---- words that have a bit in common
+
+-- a bit of what two sets have in common is one of what their words have
+both_words : (ws vs : List ℕ) → AllFit ws → AllFit vs → (n : ℕ)
+    → bit_at (bit_and (set_of_words ws) (set_of_words vs)) n
+    ≡ bit_at (bit_and (get_or ws (n / 64) 0) (get_or vs (n / 64) 0)) (n % 64)
+both_words ws vs fw fv n =
+    bit_at_and (set_of_words ws) (set_of_words vs) n
+    ∙ ap (λ x. min x (bit_at (set_of_words vs) n)) (bit_of_word ws fw n)
+    ∙ ap (λ y. min (bit_at (get_or ws (n / 64) 0) (n % 64)) y) (bit_of_word vs fv n)
+    ∙ sym (bit_at_and (get_or ws (n / 64) 0) (get_or vs (n / 64) 0) (n % 64))
+
+-- sets have nothing in common where no word has
+pub words_apart : (ws vs : List ℕ) → AllFit ws → AllFit vs
+    → ((k : ℕ) → bit_and (get_or ws k 0) (get_or vs k 0) ≡ 0)
+    → bit_and (set_of_words ws) (set_of_words vs) ≡ 0
+words_apart ws vs fw fv each = same_from_bits (bit_and (set_of_words ws) (set_of_words vs)) 0 (λ n.
+    both_words ws vs fw fv n ∙ ap (λ w. bit_at w (n % 64)) (each (n / 64)) ∙ bit_at-zero (n % 64)
+    ∙ sym (bit_at-zero n))
+
+-- and no word has where they have nothing
+pub apart_words : (ws vs : List ℕ) → AllFit ws → AllFit vs
+    → bit_and (set_of_words ws) (set_of_words vs) ≡ 0
+    → (k : ℕ) → bit_and (get_or ws k 0) (get_or vs k 0) ≡ 0
+apart_words ws vs fw fv none k =
+    let a : ℕ = get_or ws k 0 in let b : ℕ = get_or vs k 0 in
+    same_from_bits_below 64 (bit_and a b) 0 (omega (arith, and_le_l a b, fw k)) (omega arith) (λ j low.
+    let n : ℕ = 64 * k + j in
+    let row : n / 64 ≡ k = omega arith in
+    let col : n % 64 ≡ j = omega arith in
+    let here : bit_at (bit_and (set_of_words ws) (set_of_words vs)) n ≡ bit_at (bit_and a b) j =
+    both_words ws vs fw fv n ∙ rw (row, col) refl in
+    sym here ∙ ap (λ s. bit_at s n) none ∙ bit_at-zero n ∙ sym (bit_at-zero j))
+
+-- past the words nothing is in common
+pub past_both : (ws vs : List ℕ) (k : ℕ) → length ws ≤ k → bit_and (get_or ws k 0) (get_or vs k 0) ≡ 0
+past_both ws vs k h =
+    rw (get_or_past ws k 0 h) (let e = and_le_l 0 (get_or vs k 0) in omega arith)

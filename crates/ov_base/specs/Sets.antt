@@ -2,7 +2,7 @@
 -- number is a set, two sets with the same members are equal, and nothing here knows how many users
 -- there can be.
 use Rattle.std.specs.Prelude.{ℕ, zero, suc, ◌+◌, ◌*◌, ◌/◌, ◌%◌, ◌<◌, ◌^◌, ◌==◌}
-use Rattle.std.specs.Prelude.{Bool, IsTrue, List, [], ◌∷◌, bit_and, bit_or, bit_xor, count_ones, max}
+use Rattle.std.specs.Prelude.{Bool, IsTrue, not, List, [], ◌∷◌, bit_and, bit_or, bit_xor, count_ones, max}
 use Rattle.std.specs.Int.{bit_at}
 use Rattle.std.specs.Ordering.{nat_cmp}
 use Rattle.std.specs.Cmp.Lexicographic.{slice_cmp}
@@ -43,6 +43,10 @@ within a b = bit_and a b == a
 -- each user of the one set is in the other, told user by user
 abbrev pub Within : ℕ → ℕ → Type 0
 Within a b = (user : ℕ) → Has a user → Has b user
+
+-- whether some user is in both sets
+abbrev pub meets : ℕ → ℕ → Bool
+meets a b = not (bit_and a b == empty)
 
 -- how many users are in the set
 abbrev pub size : ℕ → ℕ

@@ -11,10 +11,11 @@
 //! Contracts see a name and octets as the list of their bytes, so a clause compares them with `≡`
 //! and knows nothing of how they are kept. They see a set of users as the number whose bits are its
 //! members, behind the words of `specs/Sets`, and with no width: two sets with the same members are
-//! equal. Its laws are in `proofs/`: `SetLaws` on members, `SetSizes` on sizes, `SetBytes` on the
-//! written form and `SetOrder` on the order of the bytes. `specs/Names` says which bytes are a
-//! name, `specs/Refusals` gives each refusal its number and its word, and `specs/Causes` says what
-//! it is that a count of faults rose, which every contract of a fault rests on.
+//! equal. Its laws are in `proofs/`: `SetLaws` on members, `SetMeets` on sets that meet, `SetSizes`
+//! on sizes, `SetBytes` on the written form and `SetOrder` on the order of the bytes. `specs/Names`
+//! says which bytes are a name, `specs/Refusals` gives each refusal its number and its word, and
+//! `specs/Causes` says what it is that a count of faults rose, which every contract of a fault rests
+//! on.
 #![tactic(auto)]
 
 mod key;

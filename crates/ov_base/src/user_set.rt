@@ -2,7 +2,7 @@
 ghost use Rattle.std.specs.Prelude.{◌≡◌, ◌<◌, ◌≤◌, ◌*◌, ◌==◌, ◌↔◌, ℕ, length, IsSome, IfSome};
 ghost use Rattle.std.specs.Cmp.{nat_eq_equiv, partial_equiv_from_equiv};
 ghost use Rattle.ov_base.specs.declared.limits.TheConstants.{MAX_SET_WORDS};
-ghost use Rattle.ov_base.specs.Sets.{empty, has, with, without, within, union, size, IsBelow};
+ghost use Rattle.ov_base.specs.Sets.{empty, has, with, without, within, meets, union, size, IsBelow};
 ghost use Rattle.ov_base.specs.Sets.{bytes_cmp, bytes_of, set_cmp, set_of_bytes};
 ghost use Rattle.ov_base.specs.Words.{set_of_words};
 
@@ -100,6 +100,13 @@ impl<const W: usize> UserSet<W> {
         ensures { result ≡ within self.now other.now }
     {
         words::are_within(&self.words, &other.words)
+    }
+
+    /// Whether some user is in both sets.
+    pub fn meets(&self, other: &Self) -> bool
+        ensures { result ≡ meets self.now other.now }
+    {
+        words::do_meet(&self.words, &other.words)
     }
 
     /// The order of the bytes that `write` gives: the first that differs decides.

@@ -15,7 +15,7 @@ use Rattle.ov_history.proofs.HeldFiles.{held_where_listed}
 use Rattle.ov_history.specs.Places.{living_at}
 
 -- each step has one label before it, and is therefore one member's
-one_reaches : (c : Catalogue) (users : List ℕ) (label : Label)
+pub one_reaches : (c : Catalogue) (users : List ℕ) (label : Label)
     → Reaches c (IsRootOfSome c users) label
     → (user : ℕ) × Contains users user × Reaches c (IsRootOf c user) label
 one_reaches c users label (given l (user, among, root)) = (user, among, given label root)
@@ -24,13 +24,13 @@ one_reaches c users label (along one next before leads) =
     (found.0, found.1, along one label found.2 leads)
 
 -- the coalition reaches what a member reaches
-all_reach : (c : Catalogue) (users : List ℕ) (user : ℕ) (label : Label) → Contains users user
+pub all_reach : (c : Catalogue) (users : List ℕ) (user : ℕ) (label : Label) → Contains users user
     → Reaches c (IsRootOf c user) label → Reaches c (IsRootOfSome c users) label
 all_reach c users user label among (given l root) = given label (user, among, root)
 all_reach c users user label among (along one next before leads) =
     along one label (all_reach c users user one among before) leads
 
-all_reach_each : (c : Catalogue) (users : List ℕ) (user : ℕ) (labels : List Label)
+pub all_reach_each : (c : Catalogue) (users : List ℕ) (user : ℕ) (labels : List Label)
     → Contains users user
     → ReachesAll c (IsRootOf c user) labels → ReachesAll c (IsRootOfSome c users) labels
 all_reach_each c users user [] among held = tt

@@ -59,7 +59,7 @@ with_wants_stays (Some new ∷ wants) sets node set is =
     (appended_stays (plan_of sets new).fresh sets new node set is)
 
 -- both layers keep their sets
-abbrev LayersStay : Layers → Layers → Type 0
+abbrev pub LayersStay : Layers → Layers → Type 0
 LayersStay y z = SetsStay y.base z.base × SetsStay y.surface z.surface
 
 grown_stays : (y : Layers) (u : Update) → LayersStay y (grown y u)
@@ -97,7 +97,7 @@ updates_stay h (u ∷ more) =
       λ node set is. all.1 node set (one.1 node set is),
     )
 
-longer_stays : (h : History) (more : List Update)
+pub longer_stays : (h : History) (more : List Update)
     → LayersStay (layers_of h) (layers_of (longer h more))
 longer_stays h more =
     subst (λ (g : History). LayersStay (layers_of h) (layers_of g)) (with_updates-is h more)
@@ -109,7 +109,7 @@ nodes_stay h more node set = let both = longer_stays h more in (both.0 node set,
 -- ---- files
 
 -- a number that was given stays given
-number_stays : (m : Matrix) (u : Update) (file : ℕ) → file < length m.files
+pub number_stays : (m : Matrix) (u : Update) (file : ℕ) → file < length m.files
     → file < length (changed m u).files
 number_stays m (Enrolled name) file below = below
 number_stays m (Created name list size) file below =

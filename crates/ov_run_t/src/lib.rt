@@ -1,7 +1,9 @@
-//! Tests of `ov_run`: scripts, words and key files of all kinds, disks that others left, and faults
-//! at each call. There is nothing here but tests: the contracts of what they call are proved there.
+//! Tests of `ov_run` and `ov_auditing`: scripts, words and key files of all kinds, disks that others
+//! left, audits of them, and faults at each call. There is nothing here but tests: the contracts of what they call are proved there.
 #![tactic(auto)]
 
+#[cfg(test)]
+mod audits;
 #[cfg(test)]
 mod carried;
 #[cfg(test)]

@@ -57,9 +57,9 @@
 //!   stands for a history.
 //! * [`State::known`] does nothing; its contract is what holds of every state (`IsWell`): its
 //!   catalogue is sound, each file that is there has its wanted surface, and no limit is passed.
-//! * The queries give the epoch, the mode, sizes, numbers and names, files, and the list of a file,
-//!   which is read off the layers. They find no file that is gone. It counts among the numbers that
-//!   were given out, and its bytes don't count.
+//! * The queries give the epoch, the mode, sizes, numbers and names, files, the holders of a base
+//!   node, and the list of a file, which is read off the layers. They find no file that is gone. It
+//!   counts among the numbers that were given out, and its bytes don't count.
 //! * `ask_enrol`, `ask_grant`, `ask_revoke`, `ask_remove`, `cover` and `replan` tell an owner,
 //!   before an update, the numbers that it needs, or why the update would be refused. They touch no
 //!   bytes, and plan no surface nodes: of these they only count which sets would be new. A question

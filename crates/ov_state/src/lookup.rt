@@ -93,12 +93,13 @@ impl<B: Graph<Base, W>, S: Graph<Surface, W>, const W: usize> State<B, S, W> {
         }
     }
 
-    /// The holders of a file's base node.
-    pub(crate) fn holders(&self, entry: &FileEntry) -> UserSet<W>
-        requires { entry.now.node < length self.now.catalogue.base.sets }
-        ensures { result ≡ holders (outline self.now.catalogue) entry.now.node }
+    /// The holders of a base node: the users of its set, and all to whom an access token to it was
+    /// published. It takes no memory, and looks once at each access token.
+    pub fn holders(&self, node: u32) -> UserSet<W>
+        requires { node < length self.now.catalogue.base.sets }
+        ensures { result ≡ holders (outline self.now.catalogue) node }
     {
-        self.base.holders(entry.node)
+        self.base.holders(node)
     }
 
     /// The list of a file: the set of its surface node, or these holders of its base node where it
@@ -122,7 +123,7 @@ impl<B: Graph<Base, W>, S: Graph<Surface, W>, const W: usize> State<B, S, W> {
     {
         match entry.surface {
             Some(node) => self.surface.set_of(node),
-            None => self.holders(entry),
+            None => self.holders(entry.node),
         }
     }
 

@@ -138,6 +138,17 @@ impl<B: Graph<Base, W>, S: Graph<Surface, W>, const W: usize> State<B, S, W> {
         self.files.get(file)
     }
 
+    /// The name of the file of this number, where it isn't gone.
+    pub fn file_name(&self, file: u32) -> Option<&Name>
+        ensures { option_copied result
+            ≡ option_map (λ f. f.name) (living_at self.now.catalogue.files file) }
+    {
+        match self.files.get(file) {
+            Some(entry) => Some(&entry.name),
+            None => None,
+        }
+    }
+
     /// The list of the file of this number. It takes no memory.
     pub fn list_of(&self, file: u32) -> UserSet<W>
         requires { is_some (living_at self.now.catalogue.files file) ≡ true }

@@ -91,7 +91,7 @@ impl<B: Graph<Base, W>, S: Graph<Surface, W>, const W: usize> State<B, S, W> {
             return Err(Refusal::NoFile);
         }
         let entry = self.entry(file);
-        let before = self.holders(entry);
+        let before = self.holders(entry.node);
         let list = self.list_or(entry, &before);
         let after = before.copy();
         Ok(Relisting {

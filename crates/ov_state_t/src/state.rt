@@ -277,6 +277,19 @@ fn chains_of_readers(rt: HostRuntime) {
     assert_eq!(rt; catalogue.surface().count(), 4);
 }
 
+/// The files are at base node 3, that of a and b, which c holds too, by an access token.
+#[test]
+fn holders_and_names_of_files(rt: HostRuntime) {
+    let mut catalogue = after_rows(&rt, rt.alloc(), Mode::Delta);
+    assert_eq!(rt; catalogue.sizes().base_nodes, 5);
+    assert!(rt; catalogue.holders(3) == set_of(&rt, &[0, 1, 2]));
+    let file = name(&rt, b"f2");
+    assert!(rt; *catalogue.file_name(1).expect(&rt, "a name") == file);
+    make(&rt, rt.alloc(), &mut catalogue, Step::Remove(1), &[]);
+    assert!(rt; catalogue.file_name(1).is_none());
+    assert!(rt; catalogue.file_name(5).is_none());
+}
+
 /// The update that creates a file for nobody, whose bytes are handed out again beside its brief.
 #[test]
 fn the_brief_of_an_update(rt: HostRuntime) {

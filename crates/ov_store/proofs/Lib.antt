@@ -3,6 +3,7 @@ pub mod Births
 pub mod CarriedOver
 pub mod Checked
 pub mod Checking
+pub mod Existing
 pub mod Extents
 pub mod Fronts
 pub mod Gates
@@ -18,4 +19,5 @@ pub mod OwnersLaws
 pub mod Replays
 pub mod Said
 pub mod Stopping
+pub mod UpdatesAt
 pub mod Wholes

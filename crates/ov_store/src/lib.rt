@@ -10,7 +10,8 @@
 //! the history from before or it with this update. The blocks of a file that an update removes or
 //! replaces are free for later ones once its record is on the disk. [`Store::chunk`] reads stored
 //! bytes, [`Store::check`] looks whether all updates are as their owner seals them, for which it
-//! reads each file that is there once, and [`Store::close`] gives the disk back.
+//! reads each file that is there once, and [`Store::close`] gives the disk back. [`Store::open`] opens a
+//! store that is there, in whichever mode, and begins none; [`Store::brief`] reads one update again.
 //!
 //! A store of the first format is carried over to the second by its first update that isn't
 //! refused: this writes a step record before its own, and all records behind that are in the second
@@ -32,6 +33,8 @@
 //! | `Opened` | an open store as a value, and for which history it stands |
 //! | `Updating` | what an update answers, and what it leaves |
 //! | `Beginning` | why no store is begun, and what a crash in a beginning leaves |
+//! | `Opening` | why no store is opened where none is to be begun |
+//! | `Briefs` | updates that are read again |
 //! | `Carrying` | stores that their next update carries over |
 //! | `Chunks` | what is answered to a question for stored bytes |
 //! | `Owners` | updates that are as their owner seals them, and the first that isn't |
@@ -43,9 +46,11 @@
 
 mod begin;
 mod birth;
+mod briefs;
 mod carrying;
 mod check;
 mod chunk;
+mod existing;
 mod fault;
 mod format;
 mod owners;
@@ -56,6 +61,7 @@ mod texts;
 mod update;
 
 pub use begin::BeginRefused;
+pub use briefs::BriefFault;
 pub use carrying::is_to_be_carried_over;
 pub use fault::{BeginFault, ChunkFault, StoreFault};
 pub use store::Store;

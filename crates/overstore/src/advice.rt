@@ -16,6 +16,8 @@ pub enum Stage {
     UnreadKeys,
     /// The program was asked for a load.
     Load,
+    /// The program was asked for an audit.
+    Audit,
     /// The program had put no reply.
     Unanswered,
     /// The program had put replies.
@@ -23,13 +25,16 @@ pub enum Stage {
 }
 
 const WORDS: &str = "unknown words; use `overstore run full`, `overstore run delta`, \
-    `overstore load full|delta NUMBER COUNT` or `overstore --help`";
+    `overstore load full|delta NUMBER COUNT`, `overstore audit LIST [server]` or `overstore --help`";
 
 const QUIET_WORD: &str = "`--quiet` stands before `run`, and nowhere else: \
     `overstore --quiet run full`";
 
 const LOAD_WORDS: &str = "unknown words behind `load`; it takes full or delta, a number below \
     18446744073709551616 without leading zeros, and a count of 1 to 20000";
+
+const AUDIT_WORDS: &str = "unknown words behind `audit`; it takes a list of names, with one comma \
+    between two, and then nothing or `server`";
 
 const BAD_LINE: &str = "standard output names a bad line of the script, where one command stands \
     on each line: `enrol USER`, `list FILE`, `read USER FILE`, `grant USER FILE`, \
@@ -45,6 +50,11 @@ const DISK: &str = "store.book or store.blobs failed; what was answered lasts; a
 
 const LOAD_DISK: &str = "store.book or store.blobs failed or is in use; what the load did before \
     lasts";
+
+const AUDIT_DISK: &str = "store.book or store.blobs failed or is in use; nothing was changed; run \
+    the audit again";
+
+const NOTHING_CHANGED: &str = "nothing was changed";
 
 const LOAD_LASTS: &str = "what the load did before lasts";
 
@@ -79,6 +89,8 @@ const WRITE: &str = "writing the replies or trace.bin failed; what was put lasts
 
 const LOAD_WRITE: &str = "writing the lines or trace.bin failed; what the load did lasts";
 
+const AUDIT_WRITE: &str = "writing the findings failed; nothing was changed; run the audit again";
+
 const READER_IS_GONE: &str = "whoever read the replies closed their end; what was put lasts; ask \
     for the epoch, and run the rest";
 
@@ -106,6 +118,9 @@ const MEMORY: &str = "the system refused memory; what was answered lasts; free s
 
 const LOAD_MEMORY: &str = "the system refused memory; what the load did before lasts; free some";
 
+const AUDIT_MEMORY: &str = "the system refused memory; nothing was changed; free some, and run the \
+    audit again";
+
 const NOT_A_STORE: &str = "store.book is damaged or no store, or store.blobs is damaged; before \
     you put copies of both in place read Restoring in OPERATING.md";
 
@@ -126,6 +141,7 @@ fn on_words(stage: Stage) -> &'static str {
     match stage {
         Stage::Quiet => QUIET_WORD,
         Stage::Load => LOAD_WORDS,
+        Stage::Audit => AUDIT_WORDS,
         _ => WORDS,
     }
 }
@@ -146,20 +162,23 @@ fn on_write(stage: Stage, reader_is_gone: bool) -> &'static str {
         (Stage::Telling, _) => TELLING,
         (Stage::Load, false) => LOAD_WRITE,
         (Stage::Load, true) => LOAD_READER_IS_GONE,
+        (Stage::Audit, _) => AUDIT_WRITE,
         (_, false) => WRITE,
         (_, true) => READER_IS_GONE,
     }
 }
 
-// The one of three texts that is right there.
+// The one of four texts that is right there.
 fn by_work(
     stage: Stage,
     load: &'static str,
+    audit: &'static str,
     at_first: &'static str,
     behind_some: &'static str,
 ) -> &'static str {
     match stage {
         Stage::Load => load,
+        Stage::Audit => audit,
         Stage::Answered => behind_some,
         _ => at_first,
     }
@@ -202,7 +221,13 @@ pub fn on_file(fault: FileFault) -> &'static str {
 
 /// What an end leaves that was due to a file which can't be used.
 pub fn what_lasts(stage: Stage) -> &'static str {
-    by_work(stage, LOAD_LASTS, NOTHING_LASTS, ANSWERS_LAST)
+    by_work(
+        stage,
+        LOAD_LASTS,
+        NOTHING_CHANGED,
+        NOTHING_LASTS,
+        ANSWERS_LAST,
+    )
 }
 
 /// What to say of an end with this status.
@@ -211,10 +236,16 @@ pub fn advice_on(status: Status, stage: Stage, reader_is_gone: bool) -> Option<&
         Status::Done => None,
         Status::Usage => Some(on_words(stage)),
         Status::BadLine => Some(BAD_LINE),
-        Status::DiskFault => Some(by_work(stage, LOAD_DISK, DISK_AT_FIRST, DISK)),
+        Status::DiskFault => Some(by_work(stage, LOAD_DISK, AUDIT_DISK, DISK_AT_FIRST, DISK)),
         Status::ReadFault => Some(on_read(stage)),
         Status::WriteFault => Some(on_write(stage, reader_is_gone)),
-        Status::OutOfMemory => Some(by_work(stage, LOAD_MEMORY, MEMORY_AT_FIRST, MEMORY)),
+        Status::OutOfMemory => Some(by_work(
+            stage,
+            LOAD_MEMORY,
+            AUDIT_MEMORY,
+            MEMORY_AT_FIRST,
+            MEMORY,
+        )),
         Status::NotAStore => Some(NOT_A_STORE),
         Status::OtherStore => Some(OTHER_STORE),
         Status::BadKeys => Some(BAD_KEYS),

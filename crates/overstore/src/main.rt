@@ -5,7 +5,8 @@
 //! [`run`] says what it prints and sends for every script, and what a stop leaves; `main` makes the
 //! real sources, sinks and disk, calls it, and ends with the status that it gives.
 //! `overstore load` answers the commands of a stated workload in a script's place, by [`load`],
-//! and prints their counts and one hash of their replies.
+//! and prints their counts and one hash of their replies. `overstore audit` prints which files some
+//! users could ever have read, by [`audit`], and changes nothing.
 //!
 //! Owner, server and readers are parties of their own in one process. They ask each other by
 //! frames, and each frame is put to the trace, the file `trace.bin`.
@@ -31,6 +32,7 @@ use advice::Stage;
 use frames::Frames;
 use lacks::{Lack, lack_of};
 use ov_answering::Status;
+use ov_auditing::audit;
 use ov_base::Memory;
 use ov_disk::FileDisk;
 use ov_files::{begins, held_places, words_of};
@@ -89,6 +91,8 @@ fn stage_by_words(words: &[String], answered: bool) -> Stage {
         Stage::Quiet
     } else if is_first("load", words) {
         Stage::Load
+    } else if is_first("audit", words) {
+        Stage::Audit
     } else if answered {
         Stage::Answered
     } else {
@@ -162,7 +166,8 @@ fn asks_for_older(rt: &HostRuntime, words: &[String], disk: &mut FileDisk<HostRu
     (is_first("run", words) || is_first("load", words)) && is_older_store(rt, disk)
 }
 
-// Calls `load` or, with all other words, `run`: the status, and which line of the script was bad.
+// Calls `load`, `audit` or, with all other words, `run`: the status, and which line of the script
+// was bad.
 fn answer<W: Write>(
     rt: &HostRuntime,
     words: &[String],
@@ -174,6 +179,9 @@ fn answer<W: Write>(
     let alloc = rt.alloc();
     if is_first("load", words) {
         return (load(alloc, words, keys, out, trace, disk), None);
+    }
+    if is_first("audit", words) {
+        return (audit(alloc, words, keys, out, disk), None);
     }
     let mut script = Recent::new(alloc, StdSource::new(rt.stdin()));
     let code = run(alloc, words, keys, &mut script, out, trace, disk);

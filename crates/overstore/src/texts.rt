@@ -4,6 +4,7 @@
 pub const HELP: &str = "\
 Usage: overstore [--quiet] run full|delta < SCRIPT
        overstore load full|delta NUMBER COUNT
+       overstore audit LIST [server]
        overstore --help | -h | --version | -V
 
 Answers the script on standard input, one reply line for each command. In `full`
@@ -37,6 +38,10 @@ commands refused, files given and lists given, the epoch, and the SHA-256 of all
 reply lines. NUMBER is below 18446744073709551616, COUNT is 1 to 20000.
 Warning: `load` works on the store of this folder, where its users stay for good
 and its files until they are removed. Run it in an empty folder.
+
+`audit` prints which files the users of LIST could ever have read, had they saved
+everything, a line `exposed NUMBER FILE CAUSE EPOCH` each, and `end epoch EPOCH`; with
+`server`, which they could read with the help of the server. It changes nothing.
 
 Where standard error is a terminal and standard output isn't, `run` counts there
 the replies that were put, by thousands; with `--quiet` it doesn't. That word stands

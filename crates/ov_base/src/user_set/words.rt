@@ -1,7 +1,7 @@
 //! Words that are a set of users: user n is bit `n % 64` of word `n / 64`.
 ghost use Rattle.std.specs.Prelude.{◌≡◌, ◌==◌, ◌<◌, ◌≤◌, ◌*◌, ◌^◌, ◌+◌, ℕ, length, slice_index, take, drop};
 ghost use Rattle.ov_base.specs.declared.limits.TheConstants.{MAX_SET_WORDS};
-ghost use Rattle.ov_base.specs.Sets.{has, with, without, within, union, size, IsBelow};
+ghost use Rattle.ov_base.specs.Sets.{has, with, without, within, meets, union, size, IsBelow};
 ghost use Rattle.ov_base.specs.Sets.{bytes_cmp, bytes_of, set_cmp, set_of_bytes};
 ghost use Rattle.ov_base.specs.Words.{set_of_words};
 
@@ -74,6 +74,18 @@ pub fn are_within(words: &[u64], other: &[u64]) -> bool
         }
     }
     true
+}
+
+pub fn do_meet(words: &[u64], other: &[u64]) -> bool
+    requires { length words.now ≡ length other.now }
+    ensures { result ≡ meets (set_of_words words.now) (set_of_words other.now) }
+{
+    for i in 0..words.len() {
+        if words[i] & other[i] != 0 {
+            return true;
+        }
+    }
+    false
 }
 
 pub fn are_same(words: &[u64], other: &[u64]) -> bool

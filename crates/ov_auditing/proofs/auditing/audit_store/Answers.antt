@@ -1,0 +1,47 @@
+use Rattle.std.proofs.Common.{◌≡◌, arith, inl, inr, refl, rules, subst}
+use Rattle.ov_history.specs.Catalogue.{Catalogue}
+use Rattle.ov_machine.specs.Machine.{plain_masters}
+use Rattle.ov_answering.proofs.Statuses.{ends_or_so, not_code_or, script_seven, script_six}
+use Rattle.ov_answering.specs.Printing.{IsStoreStatus}
+use Rattle.ov_auditing.specs.Exposed.{AreUsersOf, IsMissing}
+use Rattle.ov_auditing.proofs.Beginnings.{begins_still}
+use Rattle.ov_auditing.proofs.Endings.{disk_call, line_ends, line_low, missing_tells, stays_for}
+use Rattle.ov_auditing.proofs.auditing.audit_store.Goals as goal
+
+pub print_found-requires-clause-named : goal.print_found-requires-clause-named
+print_found-requires-clause-named g c =
+    subst (λ (x : Catalogue). AreUsersOf x.users c.args.asked.now.names c.in-Some.users)
+    (search rules) c.in-Some.ensures.found
+
+pub returns-in-None-clause-tells : goal.returns-in-None-clause-tells
+returns-in-None-clause-tells g c = λ h serves i read.
+    missing_tells c.args.asked.now (plain_masters c.args.masters.now) h _ _ c.put_no_user.result _
+    (λ six. inl (c.put_no_user.ensures.put.write six)) g.D.Disk.tells c.args.store.now
+    c.requires serves c.epoch.result (search rules)
+    (subst (λ (x : Catalogue). IsMissing x.users c.args.asked.now.names) (search rules)
+    c.in-None.ensures.none)
+    c.put_no_user.ensures.ends
+
+pub returns-in-None-clause-opened : goal.returns-in-None-clause-opened
+returns-in-None-clause-opened g c = λ i read.
+    line_low _ _ _ c.put_no_user.result c.put_no_user.ensures.ends
+
+pub returns-in-None-clause-stays : goal.returns-in-None-clause-stays
+returns-in-None-clause-stays g c =
+    stays_for g.D.Disk.tells c.args.store.now c.args.store.now _ (c.put_no_user.result ≡ 4)
+    (λ e. not_code_or _ 0 4 _ _ _ c.put_no_user.ensures.ends (λ z. omega arith)
+    (λ z. omega arith) (λ z. omega arith) e)
+    (begins_still g.D.Disk.tells c.args.store.now)
+
+pub returns-in-None-clause-causes : goal.returns-in-None-clause-causes
+returns-in-None-clause-causes g c =
+    line_ends g.D.Disk.tells c.args.store.now.disk c.args.store.now.disk _ _ c.put_no_user.result _
+    c.put_no_user.ensures.put.write _ _
+    (disk_call g.D.Disk.tells c.args.store.now c.args.store.now _
+    (begins_still g.D.Disk.tells c.args.store.now).call)
+    c.put_no_user.ensures.ends
+
+pub returns-in-None-clause-status : goal.returns-in-None-clause-status
+returns-in-None-clause-status g c =
+    ends_or_so IsStoreStatus _ 0 _ _ _ (inr (inl (inl refl))) (inr script_six)
+    (inr script_seven) c.put_no_user.ensures.ends

@@ -1,0 +1,122 @@
+//! The updates of a store, read again and looked at one by one.
+ghost use Rattle.std.specs.Prelude.{◌≡◌, ℕ, List, IfErr, IfOk, IfSome, IsErrOf, OnOk};
+ghost use Rattle.ov_auditing.specs.Following.{FindsAll, FindsUpdate, FollowsAny, FollowsNext};
+ghost use Rattle.ov_auditing.specs.Following.{FollowsOne, IsFaultOfStore, MakesUpdate, StaysAsItWas};
+ghost use Rattle.ov_disk.specs.declared.area.Area.TheVariants.{Book};
+ghost use Rattle.ov_exposure.specs.Auditing.{AreMembers};
+ghost use Rattle.ov_state.specs.Plans.{IsFitting, plain_brief};
+ghost use Rattle.ov_store.specs.declared.fault.BeginFault.TheVariants.{Damaged, Disk as DiskFailed};
+
+use ov_audit::{Audit, Findings};
+use ov_base::Users;
+use ov_disk::{Area, Disk};
+use ov_record::Brief;
+use ov_state::{Catalogue, PrepareFault, State, WIDTH};
+use ov_store::{BeginFault, BriefFault, Store};
+use ov_tokens::Master;
+use std::alloc::Global;
+
+// That a record isn't the update that was replayed when the store was opened.
+fn damaged(gate: u64) -> BeginFault
+    ensures { result ≡ Damaged Book gate }
+{
+    BeginFault::Damaged {
+        area: Area::Book,
+        offset: gate,
+    }
+}
+
+// Update number `i` of the store, or none where there are no more, and the place of its gate.
+fn read_update<D: Disk>(
+    alloc: Global,
+    store: &mut Store<D>,
+    i: u64,
+) -> Result<Option<Brief<WIDTH>>, BeginFault>
+    ensures update { FindsUpdate D.tells store.old i result }
+    ensures fits { IfOk result (λ found. IfSome found (λ b. IsFitting (plain_brief b))) }
+    ensures stays { StaysAsItWas D.tells store.old store.new (IsErrOf result DiskFailed) }
+{
+    match store.brief(alloc, i) {
+        Ok(found) => Ok(found),
+        Err(BriefFault::Disk) => Err(BeginFault::Disk),
+        Err(BriefFault::Changed { offset }) => Err(damaged(offset)),
+        Err(BriefFault::Memory) => Err(BeginFault::Memory),
+    }
+}
+
+// Makes an update in the catalogue, whose record has its gate at this place.
+fn make(
+    alloc: Global,
+    surface: &Master,
+    state: &mut Catalogue,
+    update: Brief<WIDTH>,
+    gate: u64,
+) -> Result<(), BeginFault>
+    requires { IsFitting (plain_brief update) }
+    ensures { MakesUpdate surface.now.bytes state.old.catalogue (plain_brief update)
+        state.new.catalogue result }
+{
+    match state.prepare(alloc, surface, update) {
+        Ok(change) => {
+            state.commit(change);
+            Ok(())
+        }
+        Err(PrepareFault::Memory) => Err(BeginFault::Memory),
+        Err(_) => Err(damaged(gate)),
+    }
+}
+
+// Looks at the catalogue after update number `i` of the store.
+fn look_at_next<D: Disk>(
+    alloc: Global,
+    store: &mut Store<D>,
+    surface: &Master,
+    i: u64,
+    state: &mut Catalogue,
+    audit: &mut Audit,
+) -> Result<(), BeginFault>
+    requires master { surface.now.bytes ≡ store.old.keys.surface }
+    requires members { (users : List ℕ) × AreMembers users audit.old.users }
+    requires any { FollowsAny surface.now.bytes state.old.catalogue audit.old }
+    requires followed { FollowsOne D.tells store.old i state.old.catalogue audit.old }
+    ensures any { OnOk result (FollowsAny surface.now.bytes state.new.catalogue audit.new) }
+    ensures followed { OnOk result (FollowsNext D.tells store.old i
+        state.old.catalogue audit.old state.new.catalogue audit.new) }
+    ensures same { (audit.new.users ≡ audit.old.users) × (audit.new.server ≡ audit.old.server) }
+    ensures fault { IfErr result (IsFaultOfStore (D.tells.reads store.old.disk)) }
+    ensures stays { StaysAsItWas D.tells store.old store.new (IsErrOf result DiskFailed) }
+{
+    let gate = store.gate(i);
+    match read_update(alloc, store, i)? {
+        Some(update) => {
+            make(alloc, surface, state, update, gate)?;
+            Ok(audit.see(alloc, state)?)
+        }
+        None => Ok(()),
+    }
+}
+
+/// What these users, and the server with them where it helps, can read by the updates of the store.
+pub fn findings_of<D: Disk>(
+    alloc: Global,
+    store: &mut Store<D>,
+    surface: &Master,
+    users: Users,
+    server: bool,
+) -> Result<Findings, BeginFault>
+    requires master { surface.now.bytes ≡ store.old.keys.surface }
+    requires members { (members : List ℕ) × AreMembers members users }
+    ensures found { IfOk result (FindsAll D.tells store.old users server) }
+    ensures fault { IfErr result (IsFaultOfStore (D.tells.reads store.old.disk)) }
+    ensures stays { StaysAsItWas D.tells store.old store.new (IsErrOf result DiskFailed) }
+{
+    store.known();
+    let updates = store.updates();
+    let first = store.state().epoch() - updates as u32;
+    let mut state: Catalogue = State::new(alloc, store.state().mode(), first)?;
+    let mut audit = Audit::new(alloc, users, first, server);
+    'updates: for i in 0..updates {
+        look_at_next(alloc, store, surface, i, &mut state, &mut audit)?;
+    }
+    Ok(audit.findings(alloc)?)
+}

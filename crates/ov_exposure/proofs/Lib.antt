@@ -1,0 +1,10 @@
+pub mod Moments
+pub mod Naming
+pub mod GivenAway
+pub mod FirstMoments
+pub mod Noting
+pub mod Following
+pub mod Meeting
+pub mod Finding
+pub mod GivenBytes
+mod Rows

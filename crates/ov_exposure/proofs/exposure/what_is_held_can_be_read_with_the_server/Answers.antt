@@ -1,0 +1,5 @@
+use Rattle.ov_exposure.proofs.GivenAway.{server_reads_what_is_held}
+use Rattle.ov_exposure.proofs.exposure.what_is_held_can_be_read_with_the_server.Goals as goal
+
+pub returns : goal.returns
+returns c = server_reads_what_is_held

@@ -1,0 +1,3 @@
+pub mod Exposure
+pub mod Auditing
+pub mod Hoarding
