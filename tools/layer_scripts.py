@@ -1,6 +1,6 @@
 """Scripts by which the speed of the layers and of a store is measured (docs/PERFORMANCE.md).
 
-    python3 tools/layer_scripts.py sets|reads|revoke|grant|wide|updates|large > SCRIPT
+    python3 tools/layer_scripts.py sets|reads|revoke|grant|wide|updates|large|many|many_reads|longest > SCRIPT
 
 sets    twelve users, and a file of no bytes for each of the 4,084 other sets of them
 reads   one user, 1,000 files of 4,096 bytes, and a read of each
@@ -9,6 +9,9 @@ grant   three users, 10,000 files of 4,096 bytes for two of them, and a grant of
 wide    those of `sets`, 12,288 more files for all twelve, and 500 revocations and grants of one
 updates two users, a file of one byte for both, and 9,997 revocations and grants of it
 large   one user, and 63 files of 1,048,576 bytes
+many    1,024 users, and 100 files of 4,096 bytes, each for all of them but one
+many_reads  those of `many`, and a read of each of its files
+longest two users, a file of 16,777,216 bytes for both, a read of it, and a revocation of one of them
 """
 import sys
 
@@ -75,5 +78,25 @@ def large():
         create(b"f%d" % file, b"a", 1048576)
 
 
-scripts = [sets, reads, revoke, grant, wide, updates, large]
+def many():
+    users = [b"user%04d" % user for user in range(1024)]
+    for user in users:
+        put(b"enrol %s\n" % user)
+    for file in range(100):
+        create(b"f%d" % file, b",".join(users[:file] + users[file + 1:]), 4096)
+
+
+def many_reads():
+    many()
+    for file in range(100):
+        put(b"read user1023 f%d\n" % file)
+
+
+def longest():
+    put(b"enrol a\nenrol b\n")
+    create(b"f", b"a,b", 16777216)
+    put(b"read b f\nrevoke b f\n")
+
+
+scripts = [sets, reads, revoke, grant, wide, updates, large, many, many_reads, longest]
 {script.__name__: script for script in scripts}[sys.argv[1]]()

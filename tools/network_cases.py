@@ -33,6 +33,12 @@ SECONDS = 60
 # What is said where a server begins a store by the settings below.
 NOTE = "overstored: note: there was no store at store.book, so a new one was begun, in mode delta"
 TWO_STORES = "overstored: hint: where these keys had a store before, stop the server: read Restoring in OPERATING.md"
+# What is said where it opens one that its next update carries over.
+OLDER = [
+    "overstored: note: store.book: it is of an older format; its next update carries it over, and then no older program "
+    "opens it",
+    "overstored: hint: keep copies of both files before that: read Stores of an older version in OPERATING.md",
+]
 
 HELLO = b"\x01"
 WELCOME_SIZE = 42
@@ -372,6 +378,26 @@ def stores_that_begin():
         assert server.end(1) == []
 
 
+def stores_of_an_older_format():
+    """The server says so as it opens one whose next update carries it over, and not behind that update."""
+    folder = new_folder()
+    server = Server(folder, 1)
+    with server.connect() as stream:
+        assert ask(stream, enrolment(0, b"alice")) == b"\x84\0\0\0\x01"
+    assert server.end(1) == []
+    book = folder / "store.book"
+    book.write_bytes(book.read_bytes().replace(b"OVERENC2", b"OVERENC1"))
+    for frame, answer, said in [
+        (HELLO, welcome(1), OLDER),
+        (enrolment(1, b"bob"), b"\x84\0\0\0\x02", OLDER),
+        (HELLO, welcome(2), []),
+    ]:
+        server = Server(folder, 1)
+        with server.connect() as stream:
+            assert ask(stream, frame) == answer
+        assert server.end(1) == said
+
+
 def settings_that_others_may_read():
     """They are read whatever their mode, with a warning; the service manager's own have none."""
     warned = [
@@ -578,6 +604,7 @@ CASES = [
     files_that_cant_be_used,
     addresses_that_cant_be,
     stores_that_begin,
+    stores_of_an_older_format,
     settings_that_others_may_read,
     stores_of_others,
     keys_that_are_passed_over,

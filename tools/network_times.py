@@ -109,22 +109,25 @@ def command(folder, *words):
     return (time.monotonic() - at) * 1e3
 
 
-def commands(place):
-    """The least times of commands over files of 1 MiB."""
+def commands(place, size, runs):
+    """The least times of commands over files of so many bytes."""
     folder = new_folder(place, PREFIX)
     process, address = start_real(folder)
     keys, line, file = folder / "keys.hex", folder / "alice.key", folder / "file"
     shutil.copyfile(KEYS, keys)
-    file.write_bytes(os.urandom(MIB))
+    file.write_bytes(os.urandom(size))
     command(folder, "enrol", address, keys, "alice")
+    command(folder, "enrol", address, keys, "bob")
     command(folder, "key", address, keys, "alice")
     (folder / "out").rename(line)
-    create = [command(folder, "create", address, keys, "f%d" % i, "alice", file) for i in range(9)]
-    listed = [command(folder, "list", address, keys, "f1") for _ in range(9)]
-    read = [command(folder, "read", address, line, "f1") for _ in range(9)]
+    create = [command(folder, "create", address, keys, "f%d" % i, "alice,bob", file) for i in range(runs)]
+    listed = [command(folder, "list", address, keys, "f1") for _ in range(runs)]
+    read = [command(folder, "read", address, line, "f1") for _ in range(runs)]
     assert (folder / "out").read_bytes() == file.read_bytes()
+    revoke = [command(folder, "revoke", address, keys, "bob", "f%d" % i) for i in range(runs)]
     stop(folder, process)
-    print("list %.1f ms, create %.1f ms, read %.1f ms" % (min(listed), min(create), min(read)), flush=True)
+    told = ["%s %.1f ms" % it for it in zip(("list", "create", "read", "revoke"), map(min, (listed, create, read, revoke)))]
+    print("%d bytes:" % size, ", ".join(told), flush=True)
 
 
 def memory():
@@ -148,7 +151,8 @@ if __name__ == "__main__":
     for plain in ("plain_session", "plain_echo"):
         compiled(plain, OUT)
     rows()
-    commands(DISK)
-    commands(FREE)
+    for size, runs in (MIB, 9), (16 * MIB, 3):
+        commands(DISK, size, runs)
+        commands(FREE, size, runs)
     memory()
     shutil.rmtree(OUT)

@@ -356,15 +356,26 @@ def stores_that_do_not_open():
         assert files_of(folder) == before
 
 
+def said_over(folder, script=b""):
+    """What standard error was told by a run that answered the whole script."""
+    done = subprocess.run([PROGRAM, "run", "delta"], cwd=folder, input=script, capture_output=True)
+    assert done.returncode == 0, done
+    return done.stderr
+
+
 def stores_of_the_first_format():
     """They are opened as they are. The first update that isn't refused puts a step record before its own; a second
-    one, one in a new store and one with a longer body are damage."""
+    one, one in a new store and one with a longer body are damage. A run says that the next update carries the store
+    over, as long as it does."""
     folder = store_folder()
     run(folder, b"enrol alice\nenrol bob\n")
     book = folder / "store.book"
     new = book.read_bytes()
     older, step = new.replace(b"OVERENC2", b"OVERENC1"), b"\1\0\0\0\1\5"
     carried = older[:100] + step + b"\1\0\0\0\7\1\5carol\0"
+    for content, said in [(older, OLDER_STORE), (older[:100] + step + b"\0", b""), (carried, b""), (new, b"")]:
+        book.write_bytes(content)
+        assert said_over(folder, b"epoch\nenrol bob\n") == said, content
     for content in (older, older[:100] + step + b"\0"):
         book.write_bytes(content)
         expect(run(folder, b"enrol bob\ngrant alice f\n"), 0, b"refused 1 Taken\nrefused 3 NoFile\nend epoch 2\n")
@@ -406,6 +417,16 @@ def notes_on_older_stores():
     (folder / "keys.hex").write_bytes(keys)
     assert told("load", "delta", "1", "1") == (0, True)
     assert told("run", "delta") == (0, False)
+
+
+def many_users_of_the_first_format():
+    """The users of a store are limited alike in both formats, whichever records enrolled them."""
+    folder = store_folder()
+    run(folder, b"".join(b"enrol user%03d\n" % user for user in range(257)))
+    book = folder / "store.book"
+    book.write_bytes(book.read_bytes().replace(b"OVERENC2", b"OVERENC1"))
+    expect(run(folder), 0, b"end epoch 257\n")
+    expect(run(folder, b"enrol z\ncreate f user000,user256,z 0\n\n"), 0, b"ok 258\nok 259\nend epoch 259\n")
 
 
 def is_refused_and_kept(folder, line):
@@ -629,6 +650,7 @@ cases = [
     stores_that_do_not_open,
     stores_of_the_first_format,
     notes_on_older_stores,
+    many_users_of_the_first_format,
     records_that_are_not_the_owners,
     key_files_that_are_none,
     closed_streams,
