@@ -119,7 +119,10 @@ pub fn count(words: &[u64]) -> u32
 {
     let mut count = 0;
     for word in words {
-        count += word.count_ones();
+        // Users are numbered from 0, so most words of most sets are 0.
+        if *word != 0 {
+            count += word.count_ones();
+        }
     }
     count
 }

@@ -6,12 +6,12 @@ use Rattle.ov_base.proofs.SetMeets.{apart-meets, some-meets}
 use Rattle.ov_base.proofs.WordBits.{AllFit, apart_words, past_both, words_apart}
 use Rattle.ov_base.proofs.user_set.words.do_meet.Goals as goal
 
-pub returns-then-words-i : goal.returns-then-words-i
-returns-then-words-i c =
+pub returns-then-words-i-ne0 : goal.returns-then-words-i-ne0
+returns-then-words-i-ne0 c =
     let ws = c.args.words.now in let vs = c.args.other.now in
     let fw : AllFit ws = λ i. Fits-lt-pow (c.type_inv.words i) in
     let fv : AllFit vs = λ i. Fits-lt-pow (c.type_inv.other i) in
-    sym (some-meets (set_of_words ws) (set_of_words vs) (λ none. c.if-words-i.true (apart_words ws vs fw fv none c.loop-i.i)))
+    sym (some-meets (set_of_words ws) (set_of_words vs) (λ none. c.if-words-i-ne0.true (apart_words ws vs fw fv none c.loop-i.i)))
 
 pub returns : goal.returns
 returns c =
