@@ -10,3 +10,4 @@ pub mod SetOrder
 pub mod WordBits
 pub mod WordBytes
 pub mod WordOrder
+pub mod WordLimits

@@ -1,5 +1,5 @@
 //! Sets of users.
-ghost use Rattle.std.specs.Prelude.{◌≡◌, ◌<◌, ◌≤◌, ◌*◌, ◌==◌, ◌↔◌, ℕ, length, IsSome, IfSome};
+ghost use Rattle.std.specs.Prelude.{◌≡◌, ◌<◌, ◌≤◌, ◌*◌, ◌==◌, ◌↔◌, ℕ, false, length, true, IsSome, IfSome};
 ghost use Rattle.std.specs.Cmp.{nat_eq_equiv, partial_equiv_from_equiv};
 ghost use Rattle.ov_base.specs.declared.limits.TheConstants.{MAX_SET_WORDS};
 ghost use Rattle.ov_base.specs.Sets.{empty, has, with, without, within, meets, union, size, IsBelow};
@@ -107,6 +107,14 @@ impl<const W: usize> UserSet<W> {
         ensures { result ≡ meets self.now other.now }
     {
         words::do_meet(&self.words, &other.words)
+    }
+
+    /// Whether each user of the set has a number below the limit.
+    pub fn is_below(&self, limit: u32) -> bool
+        ensures below { result ≡ true → IsBelow limit self.now }
+        ensures past { result ≡ false → IsBelow limit self.now → ⊥ }
+    {
+        words::are_below(&self.words, limit)
     }
 
     /// The order of the bytes that `write` gives: the first that differs decides.

@@ -14,10 +14,11 @@
 //!   long enough. Where memory ends, what is held is the very same as before. The search for a file
 //!   goes on where the last one for as many blocks ended. So one walk over the held extents places all
 //!   files that take the same number of blocks, and there are at most 4,096 such numbers.
-//! * [`move_all`] moves files, one after the other, through one buffer of [`PIECE_BYTES`]: a piece is
-//!   read from the old extent, turned, and put into the new one, with zeros to the end of its last
-//!   block, so that no byte of another file stays behind it. A file that has no old extent gets the
-//!   bytes of a text, turned in the same way.
+//! * [`move_all`] moves files, one after the other, through one buffer: a piece of at most
+//!   [`PIECE_BYTES`] is read from the old extent, turned, and put into the new one, with zeros to the
+//!   end of its last block, so that no byte of another file stays behind it. A file that has no old
+//!   extent gets the bytes of a text, turned in the same way. The buffer has room for a piece of the
+//!   longest file and no more.
 //! * [`update`] moves files, and then appends the record. No sync comes between: the first one of the
 //!   append makes Blobs last, and only then is the record's gate opened. It takes no memory.
 //! * [`release_new`] gives up the new extents of moves.

@@ -1,14 +1,14 @@
 //! One file after the other.
-ghost use Rattle.std.specs.Prelude.{◌≡◌, All, IsErr, OnOk, length};
+ghost use Rattle.std.specs.Prelude.{◌≤◌, All, IsErr, OnOk, length};
 ghost use Rattle.ov_disk.specs.Calls.{IsDiskCall};
 ghost use Rattle.ov_disk.specs.Disk.{Told};
 ghost use Rattle.ov_blocks.specs.Writes.{IsChangedIn, place_in_blobs};
 ghost use Rattle.ov_moves.specs.Bytes.{rounded};
-ghost use Rattle.ov_moves.specs.Moves.{CanMoveAll, CanMovePiece, HasText, IsKeptOutside, MayMove, MayMoveAll, MovesAll, MovesOne};
+ghost use Rattle.ov_moves.specs.Moves.{CanMoveAll, CanMovePiece, HasRoomForPieces, HasText, IsKeptOutside, MayMove, MayMoveAll, MovesAll, MovesOne};
 ghost use Rattle.ov_moves.specs.Runs.{GoesBy, TellsBoth};
 ghost use Rattle.ov_moves.specs.declared.piece.TheConstants.{PIECE_BYTES};
 
-use crate::piece::{PIECE_BYTES, move_piece};
+use crate::piece::{PIECE_BYTES, move_piece, rounded};
 use crate::turning::Turn;
 use ov_blocks::Extents;
 use ov_disk::{Disk, DiskFault};
@@ -26,6 +26,21 @@ pub struct Move {
     pub to: u32,
 }
 
+/// How many bytes a buffer has that has room for each piece of these files.
+pub(crate) fn buffer_bytes(moves: &[Move]) -> u32
+    ensures room { All (HasRoomForPieces result) moves.now }
+    ensures most { result ≤ PIECE_BYTES }
+{
+    let mut most = 0;
+    for one in moves {
+        let bytes = one.length.min(PIECE_BYTES);
+        if bytes > most {
+            most = bytes;
+        }
+    }
+    rounded(most)
+}
+
 // Moves one file.
 fn move_one<D: Disk, T: Turn>(
     extents: &Extents,
@@ -37,7 +52,7 @@ fn move_one<D: Disk, T: Turn>(
 ) -> Result<(), DiskFault>
     requires may { MayMove extents.now one.now }
     requires has_text { HasText text.now one.now }
-    requires room { length buf.old ≡ PIECE_BYTES }
+    requires room { HasRoomForPieces (length buf.old) one.now }
     requires there { Told (D.tells.reads disk.old) (CanMovePiece 0 one.now) }
     ensures moved { OnOk result (TellsBoth (D.tells.reads disk.old) (D.tells.reads disk.new)
         (MovesOne (T.turned turn.now) text.now one.now)) }
@@ -68,7 +83,7 @@ pub fn move_all<D: Disk, T: Turn>(
 ) -> Result<(), DiskFault>
     requires may { MayMoveAll extents.now moves.now }
     requires has_text { All (HasText text.now) moves.now }
-    requires room { length buf.old ≡ PIECE_BYTES }
+    requires room { All (HasRoomForPieces (length buf.old)) moves.now }
     requires there { Told (D.tells.reads disk.old) (CanMoveAll moves.now) }
     ensures moved { OnOk result (TellsBoth (D.tells.reads disk.old) (D.tells.reads disk.new)
         (MovesAll (T.turned turn.now) text.now moves.now)) }

@@ -65,6 +65,9 @@ fn place_each(extents: &mut Extents, files: &[Placed], moves: &mut Vec<Move>) ->
     ensures few { length moves.new.items ≤ length files.now }
     ensures all { OnOk result (length moves.new.items ≡ length files.now) }
 {
+    if files.is_empty() {
+        return Ok(());
+    }
     let mut starts = [0; COUNTS];
     for one in files {
         moves.reserve(1)?;

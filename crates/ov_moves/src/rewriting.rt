@@ -5,16 +5,14 @@ ghost use Rattle.ov_disk.specs.Disk.{Only, Told};
 ghost use Rattle.ov_journal.specs.Log.{HasSameRecords, IsLogOf, Stands, appended};
 ghost use Rattle.ov_journal.specs.Taking.{IsBody, MayTake};
 ghost use Rattle.ov_journal.specs.declared.fault.CheckFault.TheVariants.{Disk as DiskFailed, Memory as NoMemory};
-ghost use Rattle.ov_moves.specs.Moves.{CanMoveAll, HasText, MayMoveAll};
+ghost use Rattle.ov_moves.specs.Moves.{CanMoveAll, HasRoomForPieces, HasText, MayMoveAll};
 ghost use Rattle.ov_moves.specs.Placing.{GoToFree, HasNewText, HasPlaces, IsFiled, LiesIn};
 ghost use Rattle.ov_moves.specs.Releasing.{AreDistinct, MayGoOn};
 ghost use Rattle.ov_moves.specs.Rewriting.{LastsWith, SpellsBodies, StandsForEither};
 ghost use Rattle.ov_moves.specs.Runs.{LeavesAtMost};
 ghost use Rattle.ov_moves.specs.Updating.{IsBeforeOrAfterAll, IsMadeLast};
-ghost use Rattle.ov_moves.specs.declared.piece.TheConstants.{PIECE_BYTES};
 
-use crate::moves::Move;
-use crate::piece::PIECE_BYTES;
+use crate::moves::{Move, buffer_bytes};
 use crate::placing::{Placed, place_all};
 use crate::releasing::{old_firsts, release_new};
 use crate::spelling::Spell;
@@ -37,14 +35,14 @@ fn take_memory<S: Spell>(
     requires count { length journal.old.offsets < 2 ^ 40 }
     requires body { IsBody (S.spelled spell.now moves.now) }
     ensures body { IfOk result (λ taken. taken.0.items ≡ S.spelled spell.now moves.now) }
-    ensures buffer { IfOk result (λ taken. length taken.1.items ≡ PIECE_BYTES) }
+    ensures buffer { IfOk result (λ taken. All (HasRoomForPieces (length taken.1.items)) moves.now) }
     ensures may { OnOk result (MayTake (S.spelled spell.now moves.now) journal.new) }
     ensures same { HasSameRecords journal.old journal.new }
     ensures stands { (book : List ℕ) → IsLogOf journal.old book → IsLogOf journal.new book }
     ensures err { OnErr result (journal.new ≡ journal.old) }
 {
     let body = spell.spell(alloc, moves)?;
-    let buf = vec![in alloc; 0_u8; PIECE_BYTES as usize]?;
+    let buf = vec![in alloc; 0_u8; buffer_bytes(moves) as usize]?;
     journal.reserve(body.len() as u32)?;
     Ok((body, buf))
 }

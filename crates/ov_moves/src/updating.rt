@@ -4,10 +4,9 @@ ghost use Rattle.ov_disk.specs.Calls.{IsDiskCall};
 ghost use Rattle.ov_disk.specs.Disk.{Only, Told};
 ghost use Rattle.ov_journal.specs.Log.{Stands, appended};
 ghost use Rattle.ov_journal.specs.Taking.{MayTake};
-ghost use Rattle.ov_moves.specs.Moves.{CanMoveAll, HasText, MayMoveAll};
+ghost use Rattle.ov_moves.specs.Moves.{CanMoveAll, HasRoomForPieces, HasText, MayMoveAll};
 ghost use Rattle.ov_moves.specs.Runs.{LeavesAtMost};
 ghost use Rattle.ov_moves.specs.Updating.{IsBeforeOrAfterAll, IsMadeLast};
-ghost use Rattle.ov_moves.specs.declared.piece.TheConstants.{PIECE_BYTES};
 
 use crate::moves::{Move, move_all};
 use crate::turning::Turn;
@@ -31,7 +30,7 @@ pub fn update<D: Disk, T: Turn>(
 ) -> Result<(), DiskFault>
     requires may { MayMoveAll extents.now moves.now }
     requires has_text { All (HasText text.now) moves.now }
-    requires room { length buf.old ≡ PIECE_BYTES }
+    requires room { All (HasRoomForPieces (length buf.old)) moves.now }
     requires body { MayTake body.now journal.old }
     requires stands { Stands D.tells journal.old disk.old }
     requires there { Told (D.tells.reads disk.old) (CanMoveAll moves.now) }

@@ -3,7 +3,7 @@ use Rattle.std.proofs.Common.{◌≡◌, ℕ, suc, ◌<◌, ◌≤◌, Bool, tru
 use Rattle.std.specs.Prelude.{◌||◌, nat_le, nat_lt, is_some, IfSome, Option, Some, None}
 use Rattle.std.specs.Str.{bytes_eq}
 use Rattle.std.proofs.lemmas.Bool.Decides.{nat_tests}
-use Rattle.ov_base.specs.Sets.{within, Has}
+use Rattle.ov_base.specs.Sets.{within, IsBelow}
 use Rattle.ov_base.specs.NameLists.{is_among}
 use Rattle.ov_base.proofs.SetLaws.{within-Within, Within-within}
 use Rattle.ov_base.specs.declared.refusal.Refusal.{Refusal}
@@ -36,16 +36,20 @@ has_place name (first ∷ names) =
 
 -- ---- lists
 
-pub is_within : (set users : ℕ) → ((user : ℕ) → Has set user → user < users) → within set (everyone users) ≡ true
+is_within : (set users : ℕ) → IsBelow users set → within set (everyone users) ≡ true
 is_within set users below = Within-within set (everyone users) (λ user one. everyone-Has users user (below user one))
 
-pub not_within : (set users user : ℕ) → Has set user → users ≤ user → within set (everyone users) ≡ false
-not_within set users user one past = by_cases (within set (everyone users)) refl where
+not_within : (set users : ℕ) → (IsBelow users set → ⊥) → within set (everyone users) ≡ false
+not_within set users past = by_cases (within set (everyone users)) refl where
   by_cases : (b : Bool) → within set (everyone users) ≡ b → within set (everyone users) ≡ false
   by_cases false is = is
-  by_cases true is =
-      let low : user < users = everyone-below users user (within-Within set (everyone users) is user one) in
-      absurd (omega arith)
+  by_cases true is = absurd (past (λ user one. everyone-below users user (within-Within set (everyone users) is user one)))
+
+-- whether the users of a set are all among so many, by whether they are below that number
+pub are_users : (b : Bool) (set users : ℕ) → (b ≡ true → IsBelow users set) → (b ≡ false → IsBelow users set → ⊥)
+    → b ≡ within set (everyone users)
+are_users true set users below past = sym (is_within set users (below refl))
+are_users false set users below past = sym (not_within set users (past refl))
 
 -- ---- the first that applies
 

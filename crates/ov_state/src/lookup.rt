@@ -1,11 +1,11 @@
 //! What plans look up in a state.
-ghost use Rattle.std.specs.Prelude.{◌≡◌, ◌<◌, ◌≤◌, ◌+◌, ◌*◌, ◌||◌, Some, length, nat_le, nat_lt};
+ghost use Rattle.std.specs.Prelude.{◌≡◌, ◌<◌, ◌≤◌, ◌+◌, ◌||◌, Some, length, nat_le, nat_lt};
 ghost use Rattle.std.specs.Prelude.{is_some, true, IfSome};
 ghost use Rattle.ov_history.specs.Places.{living_at};
 ghost use Rattle.ov_base.specs.NameLists.{is_among};
 ghost use Rattle.ov_base.specs.Sets.{within};
 ghost use Rattle.ov_base.specs.declared.limits.TheConstants.{MAX_FILES, MAX_FILE_BYTES};
-ghost use Rattle.ov_base.specs.declared.limits.TheConstants.{MAX_LAYER_NODES, MAX_SET_WORDS};
+ghost use Rattle.ov_base.specs.declared.limits.TheConstants.{MAX_LAYER_NODES};
 ghost use Rattle.ov_base.specs.declared.limits.TheConstants.{MAX_STORE_BYTES, MAX_USERS};
 ghost use Rattle.ov_history.specs.Layers.{holders, list_at, set_or};
 ghost use Rattle.ov_history.specs.Lists.{byte_sum, everyone, file_number, is_file};
@@ -20,19 +20,6 @@ use ov_base::limits::{LAST_EPOCH, MAX_FILES, MAX_LAYER_NODES, MAX_STORE_BYTES, M
 use ov_base::{Name, UserSet};
 use ov_graph::Graph;
 use ov_tokens::{Base, Surface};
-
-/// Whether each user of the set is one of this many.
-fn are_users<const W: usize>(users: u32, set: &UserSet<W>) -> bool
-    requires { (1 ≤ W) × (W ≤ MAX_SET_WORDS) }
-    ensures { result ≡ within set.now (everyone users) }
-{
-    for user in 0..64 * W as u32 {
-        if set.contains(user) && user >= users {
-            return false;
-        }
-    }
-    true
-}
 
 impl<B: Graph<Base, W>, S: Graph<Surface, W>, const W: usize> State<B, S, W> {
     /// Whether there is a user of this number.
@@ -77,7 +64,7 @@ impl<B: Graph<Base, W>, S: Graph<Surface, W>, const W: usize> State<B, S, W> {
         ensures { result ≡ within set.now (everyone (length self.now.catalogue.users)) }
     {
         self.known();
-        are_users(self.users.len() as u32, set)
+        set.is_below(self.users.len() as u32)
     }
 
     /// The file of a number.

@@ -1,5 +1,5 @@
 //! Words that are a set of users: user n is bit `n % 64` of word `n / 64`.
-ghost use Rattle.std.specs.Prelude.{◌≡◌, ◌==◌, ◌<◌, ◌≤◌, ◌*◌, ◌^◌, ◌+◌, ℕ, length, slice_index, take, drop};
+ghost use Rattle.std.specs.Prelude.{◌≡◌, ◌==◌, ◌<◌, ◌≤◌, ◌*◌, ◌^◌, ◌+◌, ℕ, false, length, slice_index, take, true, drop};
 ghost use Rattle.ov_base.specs.declared.limits.TheConstants.{MAX_SET_WORDS};
 ghost use Rattle.ov_base.specs.Sets.{has, with, without, within, meets, union, size, IsBelow};
 ghost use Rattle.ov_base.specs.Sets.{bytes_cmp, bytes_of, set_cmp, set_of_bytes};
@@ -86,6 +86,22 @@ pub fn do_meet(words: &[u64], other: &[u64]) -> bool
         }
     }
     false
+}
+
+/// Whether each user of the set has a number below the limit.
+pub fn are_below(words: &[u64], limit: u32) -> bool
+    requires { length words.now ≤ MAX_SET_WORDS }
+    ensures below { result ≡ true → IsBelow limit (set_of_words words.now) }
+    ensures past { result ≡ false → IsBelow limit (set_of_words words.now) → ⊥ }
+{
+    for i in 0..words.len() {
+        // How many users of the word, from its first on, are below the limit.
+        let room = (limit as usize).saturating_sub(64 * i);
+        if room < 64 && words[i] >> room != 0 {
+            return false;
+        }
+    }
+    true
 }
 
 pub fn are_same(words: &[u64], other: &[u64]) -> bool

@@ -11,8 +11,11 @@ use Rattle.ov_base.proofs.user_set.words.count.Goals as goal
 
 pub loop-word-preserved : goal.loop-word-preserved
 loop-word-preserved c = record {
-  total = omega (arith, sum_by_more ones c.args.words.now c.loop-word.word-index 0 (omega arith),
-    ones_le_self (get_or c.args.words.now c.loop-word.word-index 0));
+  total = omega (
+    arith,
+    sum_by_more ones c.args.words.now c.loop-word.word-index 0 (omega arith),
+    ones_le_self (get_or c.args.words.now c.loop-word.word-index 0),
+  );
   bound = omega (arith, ones-le 64 _ (Fits-lt-pow (c.type_inv.words c.loop-word.word-index)));
 }
 
