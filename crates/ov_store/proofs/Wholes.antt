@@ -1,17 +1,23 @@
 -- Updates of records with the texts of their files, of which zeros stand for one that is gone.
 use Rattle.std.proofs.Common.{◌≡◌, ℕ, Bool, true, false, List, length, Option, Some, None, refl, sym, ◌∙◌, ap, subst}
-use Rattle.std.specs.Prelude.{IfSome, is_some, not, option_map, replicate}
+use Rattle.std.specs.Prelude.{IfOk, IfSome, is_some, not, option_map, replicate, Result, Ok, Err}
 use Rattle.ov_tokens.specs.declared.token.Token.{Token}
 use Rattle.ov_history.specs.Briefs.{BriefEnrol, BriefCreate, BriefGrant, BriefRevoke, BriefRemove}
-use Rattle.ov_history.specs.Briefs.{BriefReplace, brief, text_of}
+use Rattle.ov_history.specs.Briefs.{BriefReplace, brief, numbered_brief, text_of}
 use Rattle.ov_history.specs.Catalogue.{Catalogue, catalogue_after}
 use Rattle.ov_history.specs.Fading.{faded_if, no_tag}
 use Rattle.ov_history.specs.Masters.{Masters}
-use Rattle.ov_history.specs.Places.{living_at}
+use Rattle.ov_history.specs.Places.{living_at, place_of}
 use Rattle.ov_history.specs.Sent.{SealedUpdate, SealedEnrol, SealedCreate, SealedGrant, SealedRevoke}
-use Rattle.ov_history.specs.Sent.{SealedRemove, SealedReplace}
+use Rattle.ov_history.specs.Sent.{SealedRemove, SealedReplace, numbered}
+use Rattle.ov_record.specs.Briefs.{Brief as SpelledBrief, BriefEnrol as SpelledEnrol}
+use Rattle.ov_record.specs.Briefs.{BriefCreate as SpelledCreate, BriefGrant as SpelledGrant}
+use Rattle.ov_record.specs.Briefs.{BriefRevoke as SpelledRevoke, BriefRemove as SpelledRemove}
+use Rattle.ov_record.specs.Briefs.{BriefReplace as SpelledReplace, brief as brief_as_spelled}
+use Rattle.ov_record.specs.Briefs.{with_text}
 use Rattle.ov_placed.specs.Contents.{PlacedStore}
-use Rattle.ov_store.specs.Owners.{FollowsUpdate, HasTextIn, IsTextIn, is_gone_in, text_in}
+use Rattle.ov_store.specs.Owners.{FollowsUpdate, HasTextIn, IsTextIn, IsTextMade, is_gone_in}
+use Rattle.ov_store.specs.Owners.{size_made, text_in}
 
 -- ---- texts
 
@@ -170,6 +176,98 @@ remove_is (SealedRevoke x f) file is = absurd (cc is)
 remove_is (SealedRemove f) file is =
     let same : f ≡ file = cc is in ap (λ (n : ℕ). SealedRemove n) (sym same)
 remove_is (SealedReplace f t g text) file is = absurd (cc is)
+
+-- ---- updates of briefs
+
+-- with as many bytes as it says, the update of a brief has that brief
+pub whole_brief : (b : SpelledBrief) (bytes : List ℕ)
+    → IfSome (size_made b) (λ size. length bytes ≡ size)
+    → brief_as_spelled (with_text b bytes) ≡ b
+whole_brief (SpelledEnrol name) bytes many = refl
+whole_brief (SpelledCreate name list tokens tag size) bytes many =
+    ap (λ (n : ℕ). SpelledCreate name list tokens tag n) many
+whole_brief (SpelledGrant user file token) bytes many = refl
+whole_brief (SpelledRevoke user file) bytes many = refl
+whole_brief (SpelledRemove file) bytes many = refl
+whole_brief (SpelledReplace name tokens tag size) bytes many =
+    ap (λ (n : ℕ). SpelledReplace name tokens tag n) many
+
+-- the text of an update with this brief is as long as the brief says
+pub sent_text : (names : List (List ℕ)) (b : SpelledBrief) (u : SealedUpdate) (size : ℕ)
+    → size_made b ≡ Some size → brief u ≡ numbered_brief names b → IsTextOf u size
+sent_text names (SpelledEnrol name) u size made is = absurd (cc made)
+sent_text names (SpelledCreate name list tokens tag bytes) u size made is =
+    let same : bytes ≡ size = cc made in
+    created_text u name list tokens tag size
+    (is ∙ ap (λ (n : ℕ). BriefCreate name list tokens tag n) same)
+sent_text names (SpelledGrant user file token) u size made is = absurd (cc made)
+sent_text names (SpelledRevoke user file) u size made is = absurd (cc made)
+sent_text names (SpelledRemove file) u size made is = absurd (cc made)
+sent_text names (SpelledReplace name tokens tag bytes) u size made is =
+    let same : bytes ≡ size = cc made in
+    replaced_text u (place_of name names) tokens tag size
+    (is ∙ ap (λ (n : ℕ). BriefReplace (place_of name names) tokens tag n) same)
+
+-- an update with the brief of one that makes no file has no text
+pub no_text : (names : List (List ℕ)) (b : SpelledBrief) (u : SealedUpdate)
+    → size_made b ≡ None → brief u ≡ numbered_brief names b → text_of u ≡ None
+no_text names (SpelledEnrol name) u made is = ap text_of (sym (enrol_is u name is))
+no_text names (SpelledCreate name list tokens tag bytes) u made is = absurd (cc made)
+no_text names (SpelledGrant user file token) u made is =
+    ap text_of (sym (grant_is u user file token is))
+no_text names (SpelledRevoke user file) u made is =
+    ap text_of (sym (revoke_is u user file is))
+no_text names (SpelledRemove file) u made is = ap text_of (sym (remove_is u file is))
+no_text names (SpelledReplace name tokens tag bytes) u made is = absurd (cc made)
+
+-- bytes that were found for the file that an update makes
+pub text_found : (gone : Bool) (u : SealedUpdate) (size : ℕ) (t : IsTextOf u size)
+    (found : Option (List ℕ)) → IfSome found (λ bytes. length bytes ≡ size)
+    → is_some found ≡ true → (gone ≡ false → found ≡ Some t.text) → IsTextMade gone u found
+text_found gone u size t None many there same = absurd (cc there)
+text_found gone u size t (Some bytes) many there same =
+    subst (λ (o : Option (List ℕ)). IfSome o
+    (λ text. (length bytes ≡ length text) × (gone ≡ false → bytes ≡ text))) (sym t.text_is)
+    (many ∙ sym t.many, λ left. unwrapped (same left)) where
+      unwrapped : Some bytes ≡ Some t.text → bytes ≡ t.text
+      unwrapped is = cc is
+
+-- any bytes will do for an update that makes no file
+pub text_unused : (gone : Bool) (u : SealedUpdate) (bytes : List ℕ) → text_of u ≡ None
+    → IsTextMade gone u (Some bytes)
+text_unused gone u bytes none =
+    subst (λ (o : Option (List ℕ)). IfSome o
+    (λ text. (length bytes ≡ length text) × (gone ≡ false → bytes ≡ text))) (sym none) tt
+
+-- with these bytes it is the update, or fades to the same
+pub made_whole : (names : List (List ℕ)) (gone : Bool) (b : SpelledBrief) (u : SealedUpdate)
+    (bytes : List ℕ) → IfSome (size_made b) (λ size. length bytes ≡ size)
+    → brief u ≡ numbered_brief names b → IsTextMade gone u (Some bytes)
+    → faded_if gone (numbered names (with_text b bytes)) ≡ faded_if gone u
+made_whole names gone (SpelledEnrol name) u bytes many is made =
+    ap (faded_if gone) (enrol_is u name is)
+made_whole names gone (SpelledCreate name list tokens tag size) u bytes many is made =
+    created_whole gone u name list tokens tag bytes
+    (is ∙ ap (λ (n : ℕ). BriefCreate name list tokens tag n) (sym many))
+    (λ text text_is. (subst (λ (o : Option (List ℕ)). IfSome o
+    (λ text. (length bytes ≡ length text) × (gone ≡ false → bytes ≡ text))) text_is made).1)
+made_whole names gone (SpelledGrant user file token) u bytes many is made =
+    ap (faded_if gone) (grant_is u user file token is)
+made_whole names gone (SpelledRevoke user file) u bytes many is made =
+    ap (faded_if gone) (revoke_is u user file is)
+made_whole names gone (SpelledRemove file) u bytes many is made =
+    ap (faded_if gone) (remove_is u file is)
+made_whole names gone (SpelledReplace name tokens tag size) u bytes many is made =
+    replaced_whole gone u (place_of name names) tokens tag bytes
+    (is ∙ ap (λ (n : ℕ). BriefReplace (place_of name names) tokens tag n) (sym many))
+    (λ text text_is. (subst (λ (o : Option (List ℕ)). IfSome o
+    (λ text. (length bytes ≡ length text) × (gone ≡ false → bytes ≡ text))) text_is made).1)
+
+-- what a result says in three ways it says in one
+pub ok_three : {A E : Type 0} {P Q R S : A → Type 0} (r : Result A E)
+    → ((x : A) → P x → Q x → R x → S x) → IfOk r P → IfOk r Q → IfOk r R → IfOk r S
+ok_three (Ok x) all p q r = all x p q r
+ok_three (Err e) all p q r = tt
 
 -- ---- what is said of an update is said of each that fades to the same
 

@@ -6,20 +6,19 @@ ghost use Rattle.ov_blocks.specs.Extents.{IsInside};
 ghost use Rattle.ov_disk.specs.Calls.{IsDiskCall};
 ghost use Rattle.ov_disk.specs.Disk.{Told};
 ghost use Rattle.ov_disk.specs.Moments.{IsUntouched};
-ghost use Rattle.ov_history.specs.Briefs.{BriefReplace, brief, numbered_brief};
+ghost use Rattle.ov_history.specs.Briefs.{brief, numbered_brief};
 ghost use Rattle.ov_history.specs.Fading.{faded_if};
 ghost use Rattle.ov_history.specs.Placed.{AllEndWithin, EndsWithin, bytes_at};
-ghost use Rattle.ov_history.specs.Places.{place_of};
 ghost use Rattle.ov_history.specs.Rewrites.{surface_key};
 ghost use Rattle.ov_history.specs.Sent.{SealedUpdate, numbered};
 ghost use Rattle.ov_journal.specs.declared.fault.CheckFault.TheVariants.{Disk as DiskFailed};
-ghost use Rattle.ov_record.specs.Briefs.{BriefReplace as SpelledReplace, brief as brief_as_spelled};
-ghost use Rattle.ov_record.specs.Briefs.{plain_brief};
+ghost use Rattle.ov_record.specs.Briefs.{brief as brief_as_spelled, plain_brief, with_text};
 ghost use Rattle.ov_record.specs.Updates.{sealed_update};
 ghost use Rattle.ov_surface.specs.Coats.{stored_under};
-ghost use Rattle.ov_store.specs.Owners.{HasTextIn, IsTextIn, is_gone_in, text_in};
+ghost use Rattle.ov_store.specs.Owners.{HasTextIn, IsTextIn, IsTextMade, is_gone_in, size_made};
+ghost use Rattle.ov_store.specs.Owners.{text_in};
 
-use ov_base::{Memory, Name, Octets};
+use ov_base::{Memory, Octets};
 use ov_blocks::Extents;
 use ov_disk::{Disk, DiskFault};
 use ov_journal::CheckFault;
@@ -27,7 +26,7 @@ use ov_placed::CataloguePlaces;
 use ov_record::{Brief, Update};
 use ov_state::WIDTH;
 use ov_surface::reencrypt;
-use ov_tokens::{Layer, Master, Surface, Tokens};
+use ov_tokens::{Layer, Master, Surface};
 use std::alloc::Global;
 
 // So many zeros.
@@ -135,41 +134,79 @@ fn text_for<D: Disk>(
     Ok(Some(bytes))
 }
 
-// The replacement with these parts, with the text of its file, whose number this is, or zeros where
-// this file is gone; or none, where it has another number of bytes.
-fn whole_replacement<D: Disk>(
+// How many bytes the file has that the update makes, if it makes one.
+fn size_made(update: &Brief<WIDTH>) -> Option<u32>
+    ensures { result ≡ size_made (plain_brief update.now) }
+{
+    match update {
+        Brief::Create { length, .. } => Some(*length),
+        Brief::Replace { length, .. } => Some(*length),
+        _ => None,
+    }
+}
+
+// The text of the file that the update makes, whose number this is, or zeros where this file is
+// gone; or none, where it has another number of bytes. Where the update makes no file it has no
+// bytes.
+fn text_made<D: Disk>(
     alloc: Global,
     disk: &mut D,
     placed: &CataloguePlaces,
     surface: &Master,
+    update: &Brief<WIDTH>,
     file: u32,
-    name: Name,
-    tokens: Tokens,
-    tag: [u8; 32],
-    size: u32,
-) -> Result<Option<Update<WIDTH>>, CheckFault>
+) -> Result<Option<Octets>, CheckFault>
     requires { Told (D.tells.reads disk.old) (λ i.
         AllEndWithin (length i.blobs) placed.now.catalogue.files placed.now.placed) }
-    ensures brief { IfOk result (λ found. IfSome found (λ whole.
-        brief_as_spelled (sealed_update whole) ≡ SpelledReplace name tokens tag size)) }
-    ensures whole { let gone = is_gone_in placed.now.catalogue file in
-        IfOk result (λ found. Told (D.tells.reads disk.old) (λ i.
+    ensures many { IfOk result (λ found. IfSome found (λ text.
+        IfSome (size_made (plain_brief update.now)) (λ size. length text ≡ size))) }
+    ensures made { IfOk result (λ found. Told (D.tells.reads disk.old) (λ i.
         (names : List (List ℕ)) (u : SealedUpdate)
-        → brief u ≡ BriefReplace (place_of name names) tokens tag size
+        → brief u ≡ numbered_brief names (plain_brief update.now)
         → HasTextIn surface.now.bytes placed.now file i.blobs u
-        → option_map (λ whole. faded_if gone (numbered names (sealed_update whole))) found
-        ≡ Some (faded_if gone u))) }
+        → IsTextMade (is_gone_in placed.now.catalogue file) u found)) }
     ensures untouched { IsUntouched D.tells disk.old disk.new }
     ensures call { IsDiskCall D.tells (IsErrOf result DiskFailed) disk.old disk.new }
 {
-    match text_for(alloc, disk, placed, surface, file, size)? {
-        Some(bytes) => Ok(Some(Update::Replace {
+    match size_made(update) {
+        Some(size) => text_for(alloc, disk, placed, surface, file, size),
+        None => Ok(Some(Octets::from_vec(Vec::new(alloc)))),
+    }
+}
+
+// The update with these bytes of the file that it makes, if it makes one.
+fn with_text(update: Brief<WIDTH>, bytes: Octets) -> Update<WIDTH>
+    ensures { sealed_update result ≡ with_text (plain_brief update.entry) bytes }
+{
+    match update {
+        Brief::Enrol { name } => Update::Enrol { name },
+        Brief::Create {
+            name,
+            list,
+            tokens,
+            tag,
+            length: _,
+        } => Update::Create {
+            name,
+            list,
+            tokens,
+            tag,
+            bytes,
+        },
+        Brief::Grant { user, file, token } => Update::Grant { user, file, token },
+        Brief::Revoke { user, file } => Update::Revoke { user, file },
+        Brief::Remove { file } => Update::Remove { file },
+        Brief::Replace {
+            name,
+            tokens,
+            tag,
+            length: _,
+        } => Update::Replace {
             name,
             tokens,
             tag,
             bytes,
-        })),
-        None => Ok(None),
+        },
     }
 }
 
@@ -186,45 +223,19 @@ pub(crate) fn whole_update<D: Disk>(
     requires { Told (D.tells.reads disk.old) (λ i.
         AllEndWithin (length i.blobs) placed.now.catalogue.files placed.now.placed) }
     ensures brief { IfOk result (λ found. IfSome found (λ whole.
-        brief_as_spelled (sealed_update whole) ≡ plain_brief update)) }
+        brief_as_spelled (sealed_update whole) ≡ plain_brief update.entry)) }
     ensures whole { let gone = is_gone_in placed.now.catalogue file in
         IfOk result (λ found. Told (D.tells.reads disk.old) (λ i.
         (names : List (List ℕ)) (u : SealedUpdate)
-        → brief u ≡ numbered_brief names (plain_brief update)
+        → brief u ≡ numbered_brief names (plain_brief update.entry)
         → HasTextIn surface.now.bytes placed.now file i.blobs u
         → option_map (λ whole. faded_if gone (numbered names (sealed_update whole))) found
         ≡ Some (faded_if gone u))) }
     ensures untouched { IsUntouched D.tells disk.old disk.new }
     ensures call { IsDiskCall D.tells (IsErrOf result DiskFailed) disk.old disk.new }
 {
-    match update {
-        Brief::Enrol { name } => Ok(Some(Update::Enrol { name })),
-        Brief::Create {
-            name,
-            list,
-            tokens,
-            tag,
-            length,
-        } => match text_for(alloc, disk, placed, surface, file, length)? {
-            Some(bytes) => Ok(Some(Update::Create {
-                name,
-                list,
-                tokens,
-                tag,
-                bytes,
-            })),
-            None => Ok(None),
-        },
-        Brief::Grant { user, file, token } => Ok(Some(Update::Grant { user, file, token })),
-        Brief::Revoke { user, file } => Ok(Some(Update::Revoke { user, file })),
-        Brief::Remove { file } => Ok(Some(Update::Remove { file })),
-        Brief::Replace {
-            name,
-            tokens,
-            tag,
-            length,
-        } => whole_replacement(
-            alloc, disk, placed, surface, file, name, tokens, tag, length,
-        ),
+    match text_made(alloc, disk, placed, surface, &update, file)? {
+        Some(text) => Ok(Some(with_text(update, text))),
+        None => Ok(None),
     }
 }
