@@ -176,7 +176,7 @@ fn text_made<D: Disk>(
 
 // The update with these bytes of the file that it makes, if it makes one.
 fn with_text(update: Brief<WIDTH>, bytes: Octets) -> Update<WIDTH>
-    ensures { sealed_update result ≡ with_text (plain_brief update.entry) bytes }
+    ensures { sealed_update result ≡ with_text (plain_brief update) bytes }
 {
     match update {
         Brief::Enrol { name } => Update::Enrol { name },
@@ -223,11 +223,11 @@ pub(crate) fn whole_update<D: Disk>(
     requires { Told (D.tells.reads disk.old) (λ i.
         AllEndWithin (length i.blobs) placed.now.catalogue.files placed.now.placed) }
     ensures brief { IfOk result (λ found. IfSome found (λ whole.
-        brief_as_spelled (sealed_update whole) ≡ plain_brief update.entry)) }
+        brief_as_spelled (sealed_update whole) ≡ plain_brief update)) }
     ensures whole { let gone = is_gone_in placed.now.catalogue file in
         IfOk result (λ found. Told (D.tells.reads disk.old) (λ i.
         (names : List (List ℕ)) (u : SealedUpdate)
-        → brief u ≡ numbered_brief names (plain_brief update.entry)
+        → brief u ≡ numbered_brief names (plain_brief update)
         → HasTextIn surface.now.bytes placed.now file i.blobs u
         → option_map (λ whole. faded_if gone (numbered names (sealed_update whole))) found
         ≡ Some (faded_if gone u))) }
