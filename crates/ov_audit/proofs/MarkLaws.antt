@@ -1,6 +1,8 @@
 -- The marks of a state say which of its nodes have one of the users.
 use Rattle.std.proofs.Common.{◌≡◌, ◌≢◌, ◌⊎◌, ◌<◌, ◌≤◌, ◌==◌, ◌||◌, ℕ, Bool, true, false, List, [], ◌∷◌, length}
 use Rattle.std.proofs.Common.{refl, sym, ◌∙◌, ap, subst, inl, inr, arith, eq-eqb, get_or}
+use Rattle.std.proofs.Common.{◌++◌, drop, take}
+use Rattle.std.proofs.Math.Seq.{take-append_seam}
 use Rattle.std.specs.Prelude.{All, Contains, Option, Some, None, map, option_map, slice_index, slice_set}
 use Rattle.std.specs.Prelude.{unwrap_or}
 use Rattle.std.proofs.lemmas.Bool.{cases_eq, cases_lt, ne_eqb}
@@ -179,6 +181,13 @@ nodes_marked users c sets grants marks sound base is made k d low =
       length-map sets (meets users),
       ap length base,
     )
+
+-- marks that are written over all of a list are what it then has
+pub written_back : (n : ℕ) (marks old : List Bool) → n ≡ length marks
+    → take n (marks ++ drop (length marks) old) ≡ marks
+written_back n marks old all =
+    ap (λ k. take k (marks ++ drop (length marks) old)) all
+    ∙ take-append_seam marks (drop (length marks) old)
 
 -- the marks that two passes leave are those of the state
 pub marks_are : (users : ℕ) (c : Catalogue) (base surface : List ℕ) (grants : List Grant)

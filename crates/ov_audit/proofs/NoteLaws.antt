@@ -182,10 +182,13 @@ are_next users named c notes sound may are =
           ∙ length-with_new c notes may,
       λ file low.
           let note : Note = noted_or_new c file (slice_get notes file) in
+          let same : 0 + file ≡ file = omega arith in
           get-looked_all held covered c.epoch c.files 0 (with_new c notes) file
           ∙ ap
-          (λ (o : Option Note). option_map
-          (looked_by held covered c.epoch (living_at c.files (0 + file))) o)
+          (λ n. option_map (looked_by held covered c.epoch (living_at c.files n))
+          (slice_get (with_new c notes) file)) same
+          ∙ ap
+          (λ (o : Option Note). option_map (looked_by held covered c.epoch (living_at c.files file)) o)
           (get-with_note c notes may (living_at c.files (length notes)) refl file low)
           ∙ ap (λ (n : Note). Some n) (looked_is users named c sound are file note)
           ∙ ap (λ (n : Note). Some n) (next_is users c file (slice_get notes file)),

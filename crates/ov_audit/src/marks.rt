@@ -76,7 +76,7 @@ impl Marks {
     /// surface node or, where it has none, among the holders of its base node.
     pub fn is_listed(&self, file: Option<&FileEntry>) -> bool
         ensures { result ≡ listed_by self.now.held.items self.now.covered.items
-            (option_map (λ f. plain_file f.now) file) }
+            (option_map (λ f. plain_file f.now) file.entry) }
     {
         match file {
             None => false,

@@ -36,7 +36,7 @@ fn noted(now: bool, epoch: u32, before: Option<u32>) -> Option<u32>
 
 // Whether a file that is there has no surface.
 fn is_bare(file: Option<&FileEntry>) -> bool
-    ensures { result ≡ is_bare (option_map (λ f. plain_file f.now) file) }
+    ensures { result ≡ is_bare (option_map (λ f. plain_file f.now) file.entry) }
 {
     match file {
         None => false,
@@ -63,7 +63,7 @@ impl Note {
     // users who come to hold it later can read such a file as they can any other.
     fn look(&mut self, file: Option<&FileEntry>, epoch: u32, marks: &Marks)
         ensures { plain_note self.new ≡ looked_by marks.now.held.items marks.now.covered.items epoch
-            (option_map (λ f. plain_file f.now) file) (plain_note self.old) }
+            (option_map (λ f. plain_file f.now) file.entry) (plain_note self.old) }
     {
         self.listed = noted(marks.is_listed(file), epoch, self.listed);
         self.bare = noted(is_bare(file), epoch, self.bare);

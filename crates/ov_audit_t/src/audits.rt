@@ -22,6 +22,7 @@ enum Step {
     Grant(u32, u32, bool),
     Revoke(u32, u32),
     Remove(u32),
+    Replace(&'static [u8], usize),
 }
 
 /// a, b and c join; f1 and f2 are made for a and b; c is granted f1; and f3 is made for a and b. The
@@ -58,6 +59,17 @@ const REVOKED: [Step; 7] = [
     Step::Remove(0),
 ];
 
+/// f2 is replaced before c holds anything, and then c is granted f1: all three files have one node.
+const REPLACED: [Step; 7] = [
+    Step::Enrol(b"a"),
+    Step::Enrol(b"b"),
+    Step::Enrol(b"c"),
+    Step::Create(b"f1", &[0, 1], 2),
+    Step::Create(b"f2", &[0, 1], 0),
+    Step::Replace(b"f2", 0),
+    Step::Grant(2, 0, true),
+];
+
 /// The number of a file, its name, the cause and the epoch.
 type Row = (u32, &'static [u8], Cause, u32);
 
@@ -71,7 +83,7 @@ struct Case {
     found: &'static [Row],
 }
 
-static CASES: [Case; 8] = [
+static CASES: [Case; 10] = [
     Case {
         steps: &SHARED,
         mode: Mode::Delta,
@@ -144,6 +156,30 @@ static CASES: [Case; 8] = [
         server: false,
         found: &[(0, b"f1", Cause::Listed, 5)],
     },
+    Case {
+        steps: &REPLACED,
+        mode: Mode::Delta,
+        first: 0,
+        users: &[2],
+        server: false,
+        found: &[
+            (0, b"f1", Cause::Listed, 7),
+            (1, b"f2", Cause::Bare, 5),
+            (2, b"f2", Cause::Bare, 6),
+        ],
+    },
+    Case {
+        steps: &REPLACED,
+        mode: Mode::Full,
+        first: 0,
+        users: &[2],
+        server: true,
+        found: &[
+            (0, b"f1", Cause::Listed, 7),
+            (1, b"f2", Cause::Server, 5),
+            (2, b"f2", Cause::Server, 6),
+        ],
+    },
 ];
 
 fn name(rt: &impl Abort, text: &[u8]) -> Name {
@@ -191,6 +227,12 @@ fn brief(rt: &impl Abort, alloc: Global, step: Step) -> Brief<WIDTH>
         },
         Step::Revoke(user, file) => Brief::Revoke { user, file },
         Step::Remove(file) => Brief::Remove { file },
+        Step::Replace(text, count) => Brief::Replace {
+            name: name(rt, text),
+            tokens: tokens(rt, alloc, count),
+            tag: [0; 32],
+            length: 5,
+        },
     }
 }
 

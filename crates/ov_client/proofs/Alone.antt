@@ -124,10 +124,9 @@ pub all_right : (k : Masters) (p : PlainHistory) (g : SealedHistory)
     (histories : List SealedHistory)
     → IsRight k p g → AllAre g histories → AreRight k histories
 all_right k p g [] right same = tt
-all_right k p g (other ∷ histories) right (one, same) = (
-  (p, subst (λ (h : SealedHistory). IsRight k p h) (sym one) right),
-  all_right k p g histories right same,
-)
+all_right k p g (other ∷ histories) right (one, same) =
+    let (legal, is) = subst (λ (h : SealedHistory). IsRight k p h) (sym one) right in
+    ((p, legal, is), all_right k p g histories right same)
 
 -- ---- counts of faults
 

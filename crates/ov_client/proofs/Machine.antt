@@ -206,11 +206,11 @@ module _ (k : Masters) (r : Reader) (file : List ℕ) (holds : HoldsRootKeys k r
       along
   all_stand (a ∷ asks) stage last v end [] at_one under_k stands goes along right = absurd along
   all_stand (a ∷ asks) stage last v end (g ∷ histories) at_one under_k stands (next, moves, goes)
-      (others, made, at_g, at_u, along) ((p, is), right) =
+      (others, made, at_g, at_u, along) ((p, legal, is), right) =
       let here : SealedHistory = followed v.history others in
       let one = asked_stands v under_k others made p
-      (subst (λ (h : SealedHistory). IsRight k p h) at_g is) stage next a at_one stands moves
-      at_u in
+      (subst (λ (h : SealedHistory). IsRight k p h) at_g (legal, is)) stage next a at_one stands
+      moves at_u in
       subst (λ (h : SealedHistory). Stands end last
       (last_chain (now_if (is_chain a.request) h at_one) asks histories))
       (sym at_g)

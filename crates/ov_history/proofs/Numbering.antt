@@ -44,16 +44,19 @@ names_are_shown master c g stands =
 
 -- ---- names by number
 
--- a name that is among these is at its place
+-- a name that is among these is at its place: it is the first, or it is among the others
 pub name_at : (name : List ℕ) (names : List (List ℕ)) → place_of name names < length names
     → slice_index_or names (place_of name names) [] ≡ name
 name_at name [] below = absurd (omega (arith, below))
-name_at name (first ∷ names) below = by_test (bytes_eq name first) refl below where
-  by_test : (b : Bool) → bytes_eq name first ≡ b
-      → here_or_after b (place_of name names) < length (first ∷ names)
-      → slice_index_or (first ∷ names) (here_or_after b (place_of name names)) [] ≡ name
-  by_test true is low = sym ((bytes_eq-Decides name first).0 is)
-  by_test false is low = name_at name names (omega (arith, low))
+name_at name (first ∷ names) below =
+    by_test (bytes_eq name first) refl below (λ low. name_at name names low) where
+      by_test : (b : Bool) → bytes_eq name first ≡ b
+          → here_or_after b (place_of name names) < length (first ∷ names)
+          → (place_of name names < length names
+          → slice_index_or names (place_of name names) [] ≡ name)
+          → slice_index_or (first ∷ names) (here_or_after b (place_of name names)) [] ≡ name
+      by_test true is low others = sym ((bytes_eq-Decides name first).0 is)
+      by_test false is low others = others (omega (arith, low))
 
 pub length-names : (files : List (Option File)) → length (file_names files) ≡ length files
 length-names [] = refl

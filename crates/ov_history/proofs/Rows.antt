@@ -138,6 +138,7 @@ replaced_layers = refl
 
 -- into that node there are edges from both users' nodes
 replaced_edges : (plan_of (1 ∷ 2 ∷ []) 3).from ≡ 0 ∷ 1 ∷ []
+unfolding lib.Count.ones
 replaced_edges = refl
 
 -- with the new file removed, a file for the second user alone has the next number and that user's

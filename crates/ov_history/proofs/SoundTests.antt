@@ -15,7 +15,6 @@ use Rattle.ov_history.specs.Briefs.{Brief, BriefCreate, BriefEnrol, BriefGrant, 
 use Rattle.ov_history.specs.Catalogue.{Catalogue, Filed, files_shown, matrix_shown, outline}
 use Rattle.ov_history.specs.Sealed.{refusal_shown}
 use Rattle.std.specs.Prelude.{Option}
-use Rattle.ov_history.specs.Lists.{no_file}
 use Rattle.std.specs.Prelude.{option_map}
 use Rattle.std.specs.Prelude.{Some}
 use Rattle.std.specs.Prelude.{is_some}
@@ -109,10 +108,10 @@ accepted c b e =
                 (within-Within _ _ (true_of_not _ outside) user one),
             few_nodes _ room,
           )
-      by_update (BriefGrant user file token) (no_user, (no_file, (listed, (room, spent)))) =
-          ((is_below user (length c.users) no_user, file_is file c no_file), few_nodes _ room)
-      by_update (BriefRevoke user file) (no_user, (no_file, (listed, (room, spent)))) =
+      by_update (BriefGrant user file token) (no_user, (missing, (listed, (room, spent)))) =
+          ((is_below user (length c.users) no_user, file_is file c missing), few_nodes _ room)
+      by_update (BriefRevoke user file) (no_user, (missing, (listed, (room, spent)))) =
           (tt, few_nodes _ room)
-      by_update (BriefRemove file) (no_file, (room, spent)) = (tt, few_nodes _ room)
-      by_update (BriefReplace file tokens tag size) (no_file, (files, (bytes, (room, spent)))) =
-          (file_is file c no_file, few_nodes _ room)
+      by_update (BriefRemove file) (missing, (room, spent)) = (tt, few_nodes _ room)
+      by_update (BriefReplace file tokens tag size) (missing, (files, (bytes, (room, spent)))) =
+          (file_is file c missing, few_nodes _ room)

@@ -1,7 +1,7 @@
 -- The names on the pages of a catalogue.
 use Rattle.std.proofs.Common.{◌≡◌, ◌∙◌, ℕ, zero, suc, List, [], ◌∷◌, ◌++◌, length, take}
 use Rattle.std.proofs.Common.{Option, Some, None, refl, sym, ap, subst, arith, drop, get_or}
-use Rattle.std.proofs.Common.{◌≤◌, ◌+◌, ◌-◌}
+use Rattle.std.proofs.Common.{◌≤◌, ◌-◌}
 use Rattle.std.specs.Prelude.{◌↔◌, IfNone, IfSome, IsSome, map, option_map, slice_get}
 use Rattle.ov_base.specs.Names.{IsName}
 use Rattle.std.proofs.Math.Seq.{take-append_seam, take-length}
@@ -118,8 +118,7 @@ names_left y (f ∷ files) (suc n) = names_left y files n
 -- the entry of a file that isn't gone is longer than one byte
 file_long : (name : List ℕ) (node len generation : ℕ) (tag : List ℕ) (surface : Option ℕ)
     → entry_bytes (File name node len generation tag surface) ≡ 0 ∷ [] → ⊥
-file_long [] node len generation tag surface is =
-    let long : 13 + length (tag ++ optional u32 surface) ≡ 1 = ap length is in omega (arith, long)
+file_long [] node len generation tag surface is = absurd cc
 file_long (b ∷ name) node len generation tag surface is =
     let first : suc (length name) ≡ 0 = ap (λ (bytes : List ℕ). get_or bytes 0 0) is in
     omega (arith, first)

@@ -1,5 +1,5 @@
 -- What a call gives over a peer that tells which history it serves.
-use Rattle.std.specs.Prelude.{◌≡◌, ℕ, Bool, true, false, List, [], Result, Ok, Err}
+use Rattle.std.specs.Prelude.{◌≡◌, Bool, true, false, List, [], Result, Ok, Err}
 use Rattle.ov_record.specs.Updates.{SealedUpdate}
 use Rattle.ov_protocol.specs.Serving.{Service, later}
 use Rattle.ov_peer.specs.Alone.{IsAlone}

@@ -1,6 +1,6 @@
 -- What a change by the owner is at a history for which the machine stands: the machine's step.
 use Rattle.std.proofs.Common.{◌≡◌, ◌∙◌, inl, inr, ℕ, ◌+◌, [], ◌∷◌, length, length-append, false, sym, ap, subst, arith, true≢false, Result, Ok, Err}
-use Rattle.std.specs.Prelude.{◌⊎◌, IfSome, IsSome, is_some}
+use Rattle.std.specs.Prelude.{◌⊎◌, IfSome, IsSome, List, is_some}
 use Rattle.ov_disk.specs.Disk.{Image}
 use Rattle.ov_disk.proofs.Runs.{weaker}
 use Rattle.ov_disk.specs.Tells.{DiskTells}

@@ -1,7 +1,6 @@
 -- Servings whose stored bytes aren't told.
 use Rattle.std.proofs.Common.{◌≡◌, ℕ, List, [], Result, Ok, Err, refl, ap}
 use Rattle.std.specs.Prelude.{Option, Some, None, IsSome, option_map}
-use Rattle.ov_record.specs.Updates.{SealedUpdate}
 use Rattle.ov_history.specs.Catalogue.{Filed}
 use Rattle.ov_wire.specs.declared.request.Request.{Request}
 use Rattle.ov_wire.specs.declared.request.Request.TheVariants as requests
@@ -12,7 +11,7 @@ use Rattle.ov_history.specs.Places.{living_at}
 use Rattle.std.specs.Prelude.{slice_index_or}
 use Rattle.ov_protocol.specs.Serving.{Serving, hidden, serving_after}
 use Rattle.ov_protocol.specs.Reading.{AnswersChunk}
-use Rattle.ov_protocol.specs.Replies.{AnswersRead, Replies}
+use Rattle.ov_protocol.specs.Replies.{AnswersRead}
 use Rattle.ov_protocol.specs.Laws.{HiddenAnswers, HiddenReplies}
 
 -- ---- options

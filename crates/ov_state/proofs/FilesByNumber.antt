@@ -240,14 +240,15 @@ place-there : (files : List (Option Filed)) (name : List ℕ) → bytes_eq name 
     → place_of name (filed_names files) < length (filed_names files)
     → is_some (living_at files (place_of name (filed_names files))) ≡ true
 place-there [] name named low = absurd (omega arith)
-place-there (f ∷ files) name named low = step f (bytes_eq name (filed_name f)) refl low where
+place-there (f ∷ files) name named low = step f (bytes_eq name (filed_name f)) refl (place-there files name named) low where
   step : (f : Option Filed) (b : Bool) → bytes_eq name (filed_name f) ≡ b
+      → (place_of name (filed_names files) < length (filed_names files) → is_some (living_at files (place_of name (filed_names files))) ≡ true)
       → here_or_after b (place_of name (filed_names files)) < suc (length (filed_names files))
       → is_some (living_at (f ∷ files) (here_or_after b (place_of name (filed_names files)))) ≡ true
-  step None true is low = absurd (true≢false (sym is ∙ named))
-  step (Some f) true is low = refl
-  step None false is low = place-there files name named (omega arith)
-  step (Some f) false is low = place-there files name named (omega arith)
+  step None true is rest low = absurd (true≢false (sym is ∙ named))
+  step (Some f) true is rest low = refl
+  step None false is rest low = rest (omega arith)
+  step (Some f) false is rest low = rest (omega arith)
 
 pub number-there : (files : List (Option Filed)) (name : List ℕ) (r : Option ℕ) → bytes_eq name [] ≡ false
     → IsNumber (filed_names files) name r → IfSome r (λ file. is_some (living_at files file) ≡ true)

@@ -140,12 +140,12 @@ module _ {W : ℕ} (limit : ℕ) (master : List ℕ) (s : Catalogue) (file : ℕ
     named f at = ap (λ (g : Filed). g.name) (filed-at s file f at)
 
 -- the same of a file that was found by its name, and of its list as it was read off the layers
-pub replacement_by : {W : ℕ} (limit : ℕ) (master : List ℕ) (s : Catalogue) (file n list : ℕ) (name : List ℕ) (tokens : List Token) (tag : List ℕ)
+pub replacement_by : {W : ℕ} (limit : ℕ) (master : List ℕ) (s : Catalogue) (file n held : ℕ) (called : List ℕ) (tokens : List Token) (tag : List ℕ)
     (size : ℕ) (site : Site W) (entry : FileEntry) (c : Change W)
-    → IsWell limit s → file ≡ n → list ≡ list_in (outline s) file → (filed_at s file).name ≡ name → entry ≡ new_entry s name site.cover.node tag size
-    → IsSite master s list site → IsReplacement s site file list tokens entry c → refusal_at s (Replaced n size) ≡ None
-    → length tokens ≡ length (plan_of s.base.sets list).from → size ≤ MAX_FILE_BYTES → IsChange limit master s (BriefReplace n tokens tag size) c
-replacement_by {W} limit master s file n list name tokens tag size site entry c well same here named made place is refused parts fits =
+    → IsWell limit s → file ≡ n → held ≡ list_in (outline s) file → (filed_at s file).name ≡ called → entry ≡ new_entry s called site.cover.node tag size
+    → IsSite master s held site → IsReplacement s site file held tokens entry c → refusal_at s (Replaced n size) ≡ None
+    → length tokens ≡ length (plan_of s.base.sets held).from → size ≤ MAX_FILE_BYTES → IsChange limit master s (BriefReplace n tokens tag size) c
+replacement_by {W} limit master s file n held called tokens tag size site entry c well same here named made place is refused parts fits =
     let own : entry ≡ new_entry s (filed_at s file).name site.cover.node tag size =
     made ∙ ap (λ (k : List ℕ). new_entry s k site.cover.node tag size) (sym named) in
     let change : IsReplacement s site file (list_in (outline s) file) tokens (new_entry s (filed_at s file).name site.cover.node tag size) c =

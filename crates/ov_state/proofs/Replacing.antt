@@ -148,8 +148,8 @@ module _ (limit : ℕ) (s : Catalogue) (file size : ℕ) (well : IsWell limit s)
         file_low s file (true_of_not (is_file (matrix_shown s) file) none.0)
 
     -- the list that was read off the layers is that of the new file
-    pub replace-list : (n list : ℕ) → file ≡ n → list ≡ list_at (outline s) (place_of_file (filed_at s file)) → list ≡ list_in (outline s) n
-    replace-list n list same is = is ∙ sym (list_in-there s file replace-there) ∙ ap (list_in (outline s)) same
+    pub replace-list : (n found : ℕ) → file ≡ n → found ≡ list_at (outline s) (place_of_file (filed_at s file)) → found ≡ list_in (outline s) n
+    replace-list n found same is = is ∙ sym (list_in-there s file replace-there) ∙ ap (list_in (outline s)) same
 
     -- it is refused then only where there is no room for the new file
     pub replace-room : (n list : ℕ) → file ≡ n → list ≡ list_at (outline s) (place_of_file (filed_at s file))

@@ -7,7 +7,7 @@ use Rattle.ov_audit.proofs.finding.push_found.Goals as goal
 pub returns-in_ok-push-in-Some : goal.returns-in_ok-push-in-Some
 returns-in_ok-push-in-Some c =
     something_found c.args.list.now.items c.args.file c.args.note.now c.args.server c.in-Some.cause
-    c.in-Some.epoch c.push.new.self.items (c.copy.ensures)
+    c.in-Some.epoch c.copy.result c.push.new.self.items c.copy.ensures
     (sym c.why.ensures ∙ ap (option_map plain_why) c.in-Some.is) c.in_ok-push-in-Some.ensures.items
 
 pub returns-in-None : goal.returns-in-None

@@ -7,7 +7,7 @@ pub loop-node-preserved : goal.loop-node-preserved
 loop-node-preserved g c =
     let users = c.args.users.now in
     let sets = (g.G.Graph.contents c.args.graph.now).sets in
-    let inside : c.loop-node.node < length sets = omega (arith, c.count.ensures.nodes) in
+    let inside : c.loop-node.node < length sets = omega (arith, c.count-node-end.ensures.nodes) in
     c.in_ok-push.ensures.items
     ∙ ap (λ b. c.loop-node.marks.items ++ b ∷ []) (c.meets.ensures ∙ ap (meets users) c.set_of.ensures)
     ∙ ap (λ (bs : List Bool). bs ++ meets users (get_or sets c.loop-node.node 0) ∷ [])
@@ -20,4 +20,4 @@ returns g c =
     let sets = (g.G.Graph.contents c.args.graph.now).sets in
     c.loop-node.invariant
     ∙ ap (λ (xs : List ℕ). map (meets users) xs)
-    (take_all c.loop-node.node sets (omega (arith, c.count.ensures.nodes)))
+    (take_all c.loop-node.node sets (omega (arith, c.count-node-end.ensures.nodes)))

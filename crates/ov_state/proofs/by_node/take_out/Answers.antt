@@ -24,8 +24,8 @@ remove-requires c =
     found numbers c.as_slice.result.now c.args.number c.place_of.result (Some c.in-Some.place) c.as_slice.ensures.value c.place_of.ensures c.in-Some.is in
     omega (arith, (node_some numbers c.args.number c.in-Some.place some).0)
 
-pub returns-in-Some-clause-taken : goal.returns-in-Some-clause-taken
-returns-in-Some-clause-taken c =
+pub returns-clause-taken : goal.returns-clause-taken
+returns-clause-taken c =
     let numbers = c.args.numbers.now.items in
     let some : node_of numbers c.args.number ≡ Some c.in-Some.place =
     found numbers c.as_slice.result.now c.args.number c.place_of.result (Some c.in-Some.place) c.as_slice.ensures.value c.place_of.ensures c.in-Some.is in
@@ -33,5 +33,5 @@ returns-in-Some-clause-taken c =
     node_some numbers c.args.number c.in-Some.place some in
     (c.in-Some.place, there.0, there.1, c.remove.ensures.items)
 
-pub returns-in-Some-clause-room : goal.returns-in-Some-clause-room
-returns-in-Some-clause-room c = omega (arith, c.remove.ensures.capacity, c.remove.ensures.len)
+pub returns-clause-room : goal.returns-clause-room
+returns-clause-room c = omega (arith, c.remove.ensures.capacity, c.remove.ensures.len)

@@ -13,8 +13,8 @@ unreachable-requires c =
     sym c.entry_at.ensures ∙ ap (λ (r : Option (Bor FileEntry)). option_map (λ (f : Bor FileEntry). plain_file f.now) r) c.in-None.is in
     false≢true (sym (ap (λ (o : Option Filed). is_some o) none) ∙ c.requires)
 
-pub returns-in-Some : goal.returns-in-Some
-returns-in-Some c f is =
+pub returns : goal.returns
+returns c f is =
     let here : Some (plain_file c.in-Some.file.now) ≡ Some f =
     ap (λ (r : Option (Bor FileEntry)). option_map (λ (f : Bor FileEntry). plain_file f.now) r) (sym c.in-Some.is) ∙ c.entry_at.ensures ∙ is in
     let same : plain_file c.in-Some.file.now ≡ f = cc in

@@ -7,5 +7,5 @@ use Rattle.ov_audit.proofs.audit.Audit.findings.Given as goal
 abbrev pub invariant-loop-i : goal.invariant-loop-i
 invariant-loop-i l =
     plain_findings l.list.items
-    ++ findings_from l.self.server l.i (plain_notes (drop l.i l.self.inside.notes.items))
+    ++ findings_from l.self-inside.server l.i (plain_notes (drop l.i l.self-inside.notes.items))
     ≡ findings_from l.self.server 0 l.self.notes

@@ -13,11 +13,15 @@ returns c is =
     let next : s.epoch ≡ c.self.inside.epoch + 1 =
     omega (arith, c.is_one_more.ensures one_more, c.epoch.ensures) in
     let files : c.sizes.result.files ≡ length s.files = search rules in
-    let noted : length c.args.self.now.notes ≡ c.len.result =
-    sym (ap (λ (seen : Seen). length seen.notes) c.self.view_is)
-    ∙ length-plain c.self.inside.notes.items ∙ sym c.len.ensures in
+    let noted : length c.args.self.now.notes ≡ c.len-count.result =
+    omega (
+      arith,
+      ap (λ (seen : Seen). length seen.notes) c.self.view_is,
+      length-plain c.self.inside.notes.items,
+      c.len-count.ensures,
+    ) in
     let follows = c.may_follow.ensures is in
-    let there : c.is_some-there.result ≡ is_some (living_at s.files c.len.result) =
+    let there : c.is_some-there.result ≡ is_some (living_at s.files c.len-count.result) =
     c.is_some-there.ensures ∙ sym (is_some-map _ c.file_at.result) ∙ ap is_some c.file_at.ensures in (
       next ∙ ap (λ (seen : Seen). seen.epoch + 1) c.self.view_is,
       record {

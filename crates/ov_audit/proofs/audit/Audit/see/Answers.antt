@@ -7,14 +7,28 @@ use Rattle.ov_audit.specs.Seen.{Seen}
 use Rattle.ov_audit.proofs.NoteLaws.{are_next, length-looked_all, length-plain, length-with_new}
 use Rattle.ov_audit.proofs.NoteLaws.{looked_next}
 use Rattle.ov_audit.proofs.audit.Audit.see.Goals as goal
+use Rattle.ov_audit.proofs.audit.Audit.see.Goals.{After-drop-marks-3}
 
 pub push_new-requires : goal.push_new-requires
 push_new-requires c =
     subst (λ (notes : List Note). MayFollow notes c.args.state.now.catalogue)
     (sym (ap (λ (seen : Seen). seen.notes) c.self.view_is)) c.requires.1
 
+pub look_at_all-requires : goal.look_at_all-requires
+look_at_all-requires c =
+    let s = c.args.state.now.catalogue in
+    omega (
+      arith,
+      ap length
+          (c.in_ok-push_new.ensures.noted
+          ∙ ap (λ (notes : List Note). with_new s notes) (ap (λ (seen : Seen). seen.notes) c.self.view_is)),
+      length-plain c.push_new.new.notes.items,
+      length-with_new s c.args.self.now.notes c.requires.1,
+      c.known.ensures.files,
+    )
+
 -- the notes that are left, by what was seen before
-next : (c : goal.After-look_at_all)
+next : (c : After-drop-marks-3)
     → let s = c.args.state.now.catalogue in
     plain_notes c.look_at_all.new.notes.items
     ≡ looked_all (held_marks c.args.self.now.users s) (covered_marks c.args.self.now.users s) s.epoch
@@ -31,19 +45,8 @@ next c =
     ∙ ap (λ (notes : List Note). with_new s notes) (ap (λ (seen : Seen). seen.notes) c.self.view_is))
     c.look_at_all.ensures
 
-pub look_at_all-requires : goal.look_at_all-requires
-look_at_all-requires c =
-    let s = c.args.state.now.catalogue in
-    omega (
-      arith,
-      ap length c.in_ok-push_new.ensures.noted,
-      length-plain c.push_new.new.notes.items,
-      length-with_new s c.args.self.now.notes c.requires.1,
-      c.known.ensures.files,
-    )
-
-pub invariant_of-self : goal.invariant_of-self
-invariant_of-self c =
+pub invariant_of-self-2 : goal.invariant_of-self-2
+invariant_of-self-2 c =
     let s = c.args.state.now.catalogue in
     omega (
       arith,
@@ -60,7 +63,7 @@ returns-clause-seen c =
     let s = c.args.state.now.catalogue in (
       ap (λ (seen : Seen). seen.users) c.self.view_is,
       ap (λ (seen : Seen). seen.server) c.self.view_is,
-      c.epoch.ensures,
+      c.epoch-self-inside.ensures,
       λ members are.
           subst (λ (notes : List Note). AreNext members s c.args.self.now.notes notes) (sym (next c))
           (are_next members c.args.self.now.users s c.args.self.now.notes c.known.ensures.sound

@@ -12,8 +12,8 @@ use Rattle.ov_placed.specs.declared.preparing.Prepared.{Prepared}
 use Rattle.ov_placed.proofs.Making.{is_prepared}
 use Rattle.ov_placed.proofs.preparing.CataloguePlaces.prepare.Goals as goal
 
-pub returns-in-Some-clause-prepared : goal.returns-in-Some-clause-prepared
-returns-in-Some-clause-prepared c =
+pub returns-clause-prepared : goal.returns-clause-prepared
+returns-clause-prepared c =
     let master = c.args.surface.now.bytes in
     let d : Catalogue = c.self.inside.catalogue.catalogue in
     let s : SealedUpdate = sealed_update c.args.update in

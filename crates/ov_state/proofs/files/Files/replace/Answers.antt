@@ -20,7 +20,7 @@ push-requires c =
       c.requires.few,
     ) in
     let room : 1 ≤ c.remove.new.self.spare = omega (arith, c.requires.room, c.remove.ensures.room) in
-    (fresh, (few, room))
+    record { fresh = fresh; few = few; room = room }
 
 pub returns : goal.returns
 returns c = c.push.ensures ∙ ap (λ (fs : List (Option Filed)). fs ++ Some (plain_file c.args.new) ∷ []) c.remove.ensures.files

@@ -1,10 +1,13 @@
 use Rattle.std.proofs.Common.{◌≡◌, ◌*◌, sym, ◌∙◌, ap, subst, length, rules, false}
 use Rattle.std.specs.Prelude.{IfNone, Option}
+use Rattle.std.proofs.lemmas.Result.{err_from_is_err_and}
 use Rattle.ov_base.specs.NameLists.{is_among}
 use Rattle.ov_base.specs.declared.refusal.Refusal.{Refusal}
 use Rattle.ov_graph.specs.declared.cover.Cover.{Cover}
 use Rattle.ov_record.specs.Briefs.{BriefCreate as SpelledCreate}
 use Rattle.ov_state.specs.Entries.{filed_names}
+use Rattle.ov_state.specs.Plans.{IsFaultOf}
+use Rattle.ov_state.specs.declared.fault.PrepareFault.{PrepareFault}
 use Rattle.ov_state.proofs.Creating.{create-room, refused_before, refused_spent, not_refused, users_there}
 use Rattle.ov_state.proofs.CreationChange.{creation}
 use Rattle.ov_state.proofs.FileRoom.{refused_site}
@@ -26,9 +29,12 @@ pub returns-in_err-site : goal.returns-in_err-site
 returns-in_err-site g c =
     let room = create-room (64 * g.row.W) c.args.surface.now.bytes c.args.self.now.catalogue c.args.name c.args.list c.args.tokens c.args.tag c.args.size
     c.known.ensures (sym c.refusal_create.ensures.why ∙ c.in_default.is) in
-    let none = refused_site c.args.self.now.catalogue c.args.list g.row.W (SpelledCreate c.args.name c.args.list c.args.tokens c.args.tag c.args.size) room
+    let s = c.args.self.now.catalogue in
+    let asked = SpelledCreate c.args.name c.args.list c.args.tokens c.args.tag c.args.size in
+    let none = refused_site s c.args.list g.row.W asked room
     c.in_err-site.field-0.0 c.in_err-site.ensures.err in
-    search rules
+    let p = err_from_is_err_and c.from_residual.result c.from_residual.ensures.1 in
+    rw p.1 (subst (λ (fault : PrepareFault). IsFaultOf g.row.W s asked fault) (sym p.2) none)
 
 pub returns-then-is_spent : goal.returns-then-is_spent
 returns-then-is_spent g c =
