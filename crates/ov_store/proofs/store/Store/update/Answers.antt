@@ -1,15 +1,19 @@
-use Rattle.std.proofs.Common.{◌≡◌, true, false, Ok, Err, refl, ◌∙◌, ap, subst}
+use Rattle.std.proofs.Common.{◌≡◌, true, false, Ok, Err, refl, ◌∙◌, ap, subst, sym}
+use Rattle.std.proofs.lemmas.Result.{err_from_is_err_and}
 use Rattle.ov_images.specs.Images.{Keys}
+use Rattle.ov_record.specs.Briefs.{brief}
 use Rattle.ov_record.specs.Updates.{sealed_update}
 use Rattle.ov_history.specs.Catalogue.{Catalogue}
 use Rattle.ov_disk.specs.Disk.{Only, Told}
 use Rattle.ov_store.specs.Carrying.{IsCarriedOver, LeavesStep}
+use Rattle.ov_store.specs.Faults.{store_fault_of}
 use Rattle.ov_store.specs.Opened.{Opened}
 use Rattle.ov_store.specs.Updating.{LeavesEither, ServesMore, Updates}
+use Rattle.ov_store.specs.declared.fault.StoreFault.{StoreFault}
 use Rattle.ov_store.specs.declared.fault.StoreFault.TheVariants.{Disk as DiskFailed}
-use Rattle.ov_store.proofs.Going.{safe_same}
+use Rattle.ov_store.proofs.Going.{safe_same, same_view}
 use Rattle.ov_store.proofs.Looking.{store_of}
-use Rattle.ov_store.proofs.Made.{answered, any_moment, carried, faulted, held_lies, not_begun, safe_after}
+use Rattle.ov_store.proofs.Made.{answered, any_moment, carried, faulted, held_lies, not_begun, not_prepared, safe_after}
 use Rattle.ov_store.proofs.Made.{safe_after_fault, safe_unmade, served, step_kept, step_not_begun}
 use Rattle.ov_store.proofs.store.Store.update.Goals as goal
 
@@ -31,6 +35,26 @@ returns-in_err-prepared-clause-any_moment g c =
     not_begun g.D.Disk.tells (sealed_update c.args.update) c.args.self.now
     (store_of g.D.Disk.tells c.self.inside.disk k c.prepare.new.self c.self.inside.failed)
     (ap (λ (s : Opened g.row.D.Denot). s.disk) c.self.view_is)
+
+pub returns-in_err-prepared-clause-answer : goal.returns-in_err-prepared-clause-answer
+returns-in_err-prepared-clause-answer g c =
+    let tells = g.D.Disk.tells in
+    let k : Keys = record {
+      base_check = c.self.inside.base_check;
+      surface = c.self.inside.surface.bytes;
+    } in
+    let u = sealed_update c.args.update in
+    let why = c.in_err-prepared.field-0.0 in
+    let later : Opened g.row.D.Denot = store_of tells c.self.inside.disk k c.prepare.new.self c.self.inside.failed in
+    let same = same_view tells k c.self.inside.disk c.self.inside.failed c.self.inside.placed c.prepare.new.self
+    c.prepare.ensures.same in
+    let p = err_from_is_err_and c.from_residual.result c.from_residual.ensures.1 in
+    rw p.1 (subst (λ (fault : StoreFault). Updates u c.args.self.now later (Err fault)) (sym p.2)
+    (subst (λ (s : Opened g.row.D.Denot). Updates u s later (Err (store_fault_of why))) c.self.view_is (
+      not_prepared c.self.inside.placed.catalogue (brief u) why c.in_err-prepared.ensures.fault,
+      ap (λ (s : Opened g.row.D.Denot). s.catalogue) same,
+      ap (λ (s : Opened g.row.D.Denot). s.stored) same,
+    )))
 
 pub update-requires-clause-stands : goal.update-requires-clause-stands
 update-requires-clause-stands g c = c.self.invariant.stands c.if-self.false
