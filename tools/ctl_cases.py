@@ -187,7 +187,10 @@ FILE_IN_DOUBT = (
 )
 REPLACED = "it may be done: repeat it, with the same bytes, before you send any other file for its list"
 NEW_USER = "it may be done: repeat it, and `refused 1 Taken` says that it was"
-REMOVED = "it may be done: repeat it, and `refused 3 NoFile` says that it was"
+REMOVED = (
+    "it may be done: look with `overctl files` before you repeat it, "
+    "since another file may have the name"
+)
 AS_IT_WAS = "the store is as it was: try again"
 NO_OUTPUT = "cannot write standard output"
 TAKEN = "it is there: nothing is to be done where the command was a repeated one; else take another name"

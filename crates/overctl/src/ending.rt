@@ -130,6 +130,11 @@ const REPLACEMENT_IN_DOUBT: &str = concat!(
 const REPLACEMENT_FIRST: &str =
     "; then repeat this, with the same bytes, before you send any other file for its list";
 
+const REMOVAL_IN_DOUBT: &str = concat!(
+    "it may be done: look with `overctl files` before you repeat it, ",
+    "since another file may have the name"
+);
+
 // What to do where a command was sent and what came of it isn't known.
 fn doubt_of(asks: Asks) -> &'static str {
     match asks {
@@ -137,7 +142,7 @@ fn doubt_of(asks: Asks) -> &'static str {
         Asks::File => FILE_IN_DOUBT,
         Asks::Replacement => REPLACEMENT_IN_DOUBT,
         Asks::List => "it may be done: look with `overctl list` before you repeat it",
-        Asks::Removal => "it may be done: repeat it, and `refused 3 NoFile` says that it was",
+        Asks::Removal => REMOVAL_IN_DOUBT,
         Asks::Answer | Asks::Names | Asks::Bytes => "the store is as it was: try again",
         Asks::Nothing => "try again",
     }
