@@ -62,7 +62,7 @@ node_stays sets more set keeps there = by_node (node_of sets set) refl where
       ap (λ (o : Option ℕ). (planned o more set).node) first
 
 -- a wanted set that is there keeps its surface
-surface_stays : (sets more : List ℕ) (want : Option ℕ) → KeepsNodes sets more
+pub surface_stays : (sets more : List ℕ) (want : Option ℕ) → KeepsNodes sets more
     → ((set : ℕ) → want ≡ Some set → Contains sets set)
     → surface_at more want ≡ surface_at sets want
 surface_stays sets more None keeps there = refl

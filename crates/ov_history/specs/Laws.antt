@@ -1,7 +1,7 @@
 -- The laws of sealed histories and of the catalogues that stand for them. None of them needs to
 -- know which cipher lies over the bytes.
-use Rattle.std.specs.Prelude.{◌≡◌, ◌≢◌, ◌⊎◌, ◌↔◌, ℕ, ◌<◌, ◌≤◌, List, length, slice_get, Contains}
-use Rattle.std.specs.Prelude.{Some, None, Bool, true, IsTrue}
+use Rattle.std.specs.Prelude.{◌≡◌, ◌≢◌, ◌⊎◌, ◌↔◌, ℕ, ◌<◌, ◌≤◌, List, [], ◌∷◌, length, slice_get}
+use Rattle.std.specs.Prelude.{Contains, Some, None, Bool, true, IsTrue}
 use Rattle.ov_base.specs.declared.mode.Mode.{Mode}
 use Rattle.ov_base.specs.declared.refusal.Refusal.{Refusal}
 use Rattle.ov_base.specs.Refusals.{refusal_number}
@@ -9,6 +9,7 @@ use Rattle.ov_record.specs.Updates.{SealedUpdate as SpelledUpdate}
 use Rattle.ov_record.specs.Briefs.{brief as brief_as_spelled, text_of as text_as_spelled}
 use Rattle.ov_tokens.specs.declared.label.Kind.TheVariants.{Surface}
 use Rattle.ov_tokens.specs.declared.label.Label.{Label}
+use Rattle.ov_tokens.specs.declared.token.Token.{Token}
 use Rattle.ov_history.specs.Places.{living_at}
 use Rattle.ov_history.specs.History.{History, Matrix, Update, epoch_of, matrix_of}
 use Rattle.ov_history.specs.Lists.{file_names, is_listed}
@@ -16,9 +17,9 @@ use Rattle.ov_history.specs.Layers.{layers_of}
 use Rattle.ov_history.specs.Refusals.{IsLegal, read_refusal, read_tests, refusal_of, tests_of}
 use Rattle.ov_history.specs.Sent.{SealedUpdate, numbered, spelled}
 use Rattle.ov_history.specs.Briefs.{Brief, IsNamed, brief, numbered_brief, outer, spelled_brief}
-use Rattle.ov_history.specs.Briefs.{text_of}
+use Rattle.ov_history.specs.Briefs.{BriefRemove, BriefReplace, text_of}
 use Rattle.ov_history.specs.Catalogue.{Filed, Catalogue, catalogue_after, empty_catalogue}
-use Rattle.ov_history.specs.Catalogue.{file_names_shown, matrix_shown, outline}
+use Rattle.ov_history.specs.Catalogue.{file_names_shown, filed_at, matrix_shown, outline}
 use Rattle.ov_history.specs.Rewrites.{Rewrite, files_after, rewrites_of}
 use Rattle.ov_history.specs.Sealed.{SealedHistory, IsSealed, HasParts, StandsFor, catalogue_of}
 use Rattle.ov_history.specs.Sealed.{blank, file_names_of, outer_of, with_sealed, refusal_shown}
@@ -212,3 +213,44 @@ abbrev pub FilesAreThoseAfter : Type 0
 FilesAreThoseAfter =
     (master : List ℕ) (c : Catalogue) (b : Brief)
     → (catalogue_after master c b).files ≡ files_after c b
+
+-- ---- what a removal and a replacement leave
+
+-- each file that is there, but for this one, stays as it is filed: with its surface and its
+-- generation
+abbrev pub OthersStay : List ℕ → Catalogue → Brief → ℕ → Type 0
+OthersStay master c b file =
+    (other : ℕ) (f : Filed)
+    → other ≢ file → living_at c.files other ≡ Some f
+    → living_at (catalogue_after master c b).files other ≡ Some f
+
+-- a removal rewrites no file
+abbrev pub RemovalsRewriteNoFile : Type 0
+RemovalsRewriteNoFile =
+    (master : List ℕ) (c : Catalogue) (g : SealedHistory) (file : ℕ)
+    → StandsFor master c g → rewrites_of c (BriefRemove file) ≡ []
+
+-- all files but the one that is removed stay as they are filed
+abbrev pub RemovalsLeaveOthers : Type 0
+RemovalsLeaveOthers =
+    (master : List ℕ) (c : Catalogue) (g : SealedHistory) (file : ℕ)
+    → StandsFor master c g → OthersStay master c (BriefRemove file) file
+
+-- a replacement rewrites no file but the new one, which has the next number and the size that was
+-- sent
+abbrev pub ReplacementsRewriteTheNewFile : Type 0
+ReplacementsRewriteTheNewFile =
+    (master : List ℕ) (c : Catalogue) (g : SealedHistory) (file : ℕ) (tokens : List Token)
+    (tag : List ℕ) (size : ℕ)
+    → StandsFor master c g
+    → let b = BriefReplace file tokens tag size in
+    let new = filed_at (catalogue_after master c b) (length c.files) in
+    rewrites_of c b
+    ≡ record { file = length c.files; length = size; old = None; new = new.surface } ∷ []
+
+-- all files but the one that is replaced stay as they are filed
+abbrev pub ReplacementsLeaveOthers : Type 0
+ReplacementsLeaveOthers =
+    (master : List ℕ) (c : Catalogue) (g : SealedHistory) (file : ℕ) (tokens : List Token)
+    (tag : List ℕ) (size : ℕ)
+    → StandsFor master c g → OthersStay master c (BriefReplace file tokens tag size) file

@@ -29,7 +29,8 @@
 //!
 //! A file that is removed is gone: its name and its entry are forgotten, and its number isn't given
 //! to another. Its base node and the access tokens to that node stay, since other files may be
-//! there. So the holders stay, and a removal rewrites no file.
+//! there. So the holders stay, and a removal rewrites no file (`removals_rewrite_no_file` of
+//! ov_history).
 //!
 //! A file that is replaced is gone too, and a new one has its name, its list and the next number.
 //! The new one is at the base node of the list as it is now: who was taken off the list before
