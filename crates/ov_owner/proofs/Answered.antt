@@ -12,6 +12,7 @@ use Rattle.ov_history.specs.Masters.{Masters}
 use Rattle.ov_history.specs.Plain.{PlainHistory, history_of}
 use Rattle.ov_history.specs.Refusals.{IsLegal}
 use Rattle.ov_history.specs.Sealing.{IsSealedAs}
+use Rattle.ov_history.proofs.Since.{sealed_since}
 use Rattle.ov_model.specs.Step.{reply_to}
 use Rattle.ov_wire.specs.declared.answer.Answer.{Answer}
 use Rattle.ov_wire.specs.declared.answer.Answer.TheVariants as answers
@@ -32,7 +33,8 @@ use Rattle.ov_peer.specs.declared.fault.ExchangeFault.TheVariants as exchange
 use Rattle.ov_client.specs.Completeness.{FailsDisk, IsStoreUnder}
 use Rattle.ov_client.specs.Readers.{Reader}
 use Rattle.ov_owner.specs.Clients.{HasUser, reader_in}
-use Rattle.ov_owner.specs.Completeness.{IsCompleteCall, IsSaidOrCut, SaysList, SaysReader, SaysWelcome}
+use Rattle.ov_owner.specs.Completeness.{IsCompleteCall, IsSaidOrCut, IsStoreSince, SaysList}
+use Rattle.ov_owner.specs.Completeness.{SaysReader, SaysWelcome}
 use Rattle.ov_owner.specs.Helpers.{owner_fault}
 use Rattle.ov_owner.specs.Questions.{AsksOnce, RepliesThere, names_in, welcome_in}
 use Rattle.ov_owner.specs.declared.fault.OwnerFault.{OwnerFault}
@@ -118,19 +120,27 @@ module _ {P : Type 0} (peer : PeerTells P) (alone : IsAlone peer) (k : Masters) 
   replies_here command reply (others, (same, then), replies) =
       replies k h store.surface store.legal (told_here others same)
 
+  -- what is served is what it was before a list
+  store_stays : IsStoreSince k h h v
+  store_stays = record {
+    surface = store.surface;
+    legal = store.legal;
+    history = sealed_since k h v.history store.history;
+  }
+
   names_said : (file : List ℕ) (a : Answer) → Answers (served v) (requests.List file) a → Then v
       → IsSaidOrCut (SaysList k file h v Then) Disk Linked (names_in a)
   names_said file (answers.Listed names) answered still = (
     replies_here (ListNames file) (replies.List file names)
         (list_told Here v file (answers.Listed names)
         (tells_here (requests.List file) (answers.Listed names) refl answered still)),
-    (v, store, still),
+    (v, store_stays, still),
   )
   names_said file (answers.Refused why) answered still = (
     replies_here (ListNames file) (replies.Refused why)
         (list_told Here v file (answers.Refused why)
         (tells_here (requests.List file) (answers.Refused why) refl answered still)),
-    (v, store, still),
+    (v, store_stays, still),
   )
   names_said file a answered still = absurd answered
 

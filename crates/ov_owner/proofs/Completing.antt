@@ -7,11 +7,12 @@ use Rattle.ov_record.specs.Updates.{SealedUpdate}
 use Rattle.ov_script.specs.declared.command.Command.{Command}
 use Rattle.ov_script.specs.declared.reply.Reply.{Reply}
 use Rattle.ov_script.specs.declared.reply.Reply.TheVariants as replies
+use Rattle.ov_history.specs.FadingLaws.{IsRight}
 use Rattle.ov_history.specs.Masters.{Masters}
 use Rattle.ov_history.specs.Plain.{PlainHistory, history_of, measured}
 use Rattle.ov_history.specs.Refusals.{IsLegal, refusal_of}
 use Rattle.ov_history.specs.Sealed.{SealedHistory}
-use Rattle.ov_history.specs.Sealing.{IsSealedAs}
+use Rattle.ov_history.specs.Sealing.{IsSealedAs, IsSealedSince}
 use Rattle.ov_history.proofs.Keeping.{legal-push}
 use Rattle.ov_history.proofs.PlainLaws.{history_of-push}
 use Rattle.ov_model.specs.Step.{after, reply_to, update_step}
@@ -41,6 +42,7 @@ use Rattle.ov_owner.proofs.Leaving.{Serves, leaves_one, nothing_due, one_ask}
 use Rattle.ov_owner.proofs.Owning.{errand_for}
 use Rattle.ov_owner.proofs.Proper.{talks_are_proper}
 use Rattle.ov_owner.proofs.Replying.{talks_are_steps}
+use Rattle.ov_owner.proofs.StepsAlike.{since_alike}
 use Rattle.ov_owner.proofs.Telling.{under}
 
 -- ---- the history after a command
@@ -118,13 +120,15 @@ module _ (k : Masters) (command : Command) (e : Errand) (d : Does k command e) (
     -- they are right too, and that is answered alike
     last_is : (reply : Reply) (histories : List SealedHistory) (last : SealedHistory)
         → AllAre s histories → IsLastStep k command reply histories last
-        → (reply_to p command ≡ reply) × IsSealedAs k (after p command) last
+        → (reply_to p command ≡ reply) × IsSealedSince k p (after p command) last
     last_is reply [] last same is = absurd is
     last_is reply (g ∷ []) last (same, none) is =
         let here : IsSealedAs k p g = subst (IsSealedAs k p) (sym same) right in
-        let (replies_so, goes_so) =
-        right_histories_step_alike k is.before p g last command (is.legal, is.same) (legal, here) in
-        (sym replies_so ∙ is.replied, goes_so is.next)
+        let one : IsRight k is.before g = (is.legal, is.same) in
+        let two : IsRight k p g = (legal, here) in (
+          sym (right_histories_step_alike k is.before p g last command one two).0 ∙ is.replied,
+          since_alike k command e d is.before p g one two last is.next,
+        )
     last_is reply (g ∷ (h ∷ more)) last (same, others) is =
         last_is reply (h ∷ more) last others is
 

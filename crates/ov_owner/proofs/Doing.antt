@@ -7,7 +7,7 @@ use Rattle.ov_script.specs.declared.command.Command.TheVariants as commands
 use Rattle.ov_model.specs.Step.{step, update}
 use Rattle.ov_history.specs.Asking.{file_named, user_named}
 use Rattle.ov_history.specs.Catalogue.{Catalogue}
-use Rattle.ov_history.specs.History.{Matrix, matrix_of}
+use Rattle.ov_history.specs.History.{History, Matrix, matrix_of}
 use Rattle.ov_history.specs.Lists.{file_number, set_named, user_number}
 use Rattle.ov_history.specs.Masters.{Masters}
 use Rattle.ov_history.specs.Plain.{PlainCreate, PlainEnrol, PlainGrant, PlainHistory, PlainRemove, PlainReplace, PlainRevoke, PlainUpdate, history_of, measured}
@@ -200,17 +200,24 @@ replacing_makes k file bytes = record {
 
 -- ---- by the command
 
+-- an update that a matrix names is named alike by plain histories of one history
+pub named_alike : (named : Matrix → PlainUpdate) (p q : PlainHistory) → history_of p ≡ history_of q
+    → named_at named p ≡ named_at named q
+named_alike named p q same = ap (λ (h : History). named (matrix_of h)) same
+
 -- what an owner does for a command: the plain updates that it makes, which are the machine's
 pub record Does (k : Masters) (command : Command) (e : Errand) : Type 0 where
   pub plain : PlainHistory → PlainUpdate
   pub makes : Makes k e plain
   pub as_update : (p : PlainHistory) → step p command ≡ update p (plain p)
+  pub by_history : (p q : PlainHistory) → history_of p ≡ history_of q → plain p ≡ plain q
 
 abbrev pub enrol_does : (k : Masters) (user : List ℕ) → Does k (commands.Enrol user) (enrolling user)
 enrol_does k user = record {
   plain = named_at (enrol_named user);
   makes = enrolling_makes k user;
   as_update = λ p. refl;
+  by_history = named_alike (enrol_named user);
 }
 
 abbrev pub create_does : (k : Masters) (file : List ℕ) (names : List (List ℕ)) (bytes : List ℕ)
@@ -219,6 +226,7 @@ create_does k file names bytes = record {
   plain = named_at (create_named file names bytes);
   makes = creating_makes k file names bytes;
   as_update = λ p. refl;
+  by_history = named_alike (create_named file names bytes);
 }
 
 abbrev pub grant_does : (k : Masters) (user file : List ℕ)
@@ -227,6 +235,7 @@ grant_does k user file = record {
   plain = named_at (grant_named user file);
   makes = granting_makes k user file;
   as_update = λ p. refl;
+  by_history = named_alike (grant_named user file);
 }
 
 abbrev pub revoke_does : (k : Masters) (user file : List ℕ)
@@ -235,6 +244,7 @@ revoke_does k user file = record {
   plain = named_at (revoke_named user file);
   makes = revoking_makes k user file;
   as_update = λ p. refl;
+  by_history = named_alike (revoke_named user file);
 }
 
 abbrev pub remove_does : (k : Masters) (file : List ℕ) → Does k (commands.Remove file) (removing file)
@@ -242,6 +252,7 @@ remove_does k file = record {
   plain = named_at (remove_named file);
   makes = removing_makes k file;
   as_update = λ p. refl;
+  by_history = named_alike (remove_named file);
 }
 
 abbrev pub replace_does : (k : Masters) (file bytes : List ℕ)
@@ -250,6 +261,7 @@ replace_does k file bytes = record {
   plain = named_at (replace_named file bytes);
   makes = replacing_makes k file bytes;
   as_update = λ p. refl;
+  by_history = named_alike (replace_named file bytes);
 }
 
 pub does : (k : Masters) (command : Command) (e : Errand) → IsErrandFor k.base command e

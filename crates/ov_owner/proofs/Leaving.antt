@@ -10,10 +10,10 @@ use Rattle.ov_history.specs.Masters.{Masters}
 use Rattle.ov_history.specs.Plain.{PlainHistory, history_of, measured, with_plain}
 use Rattle.ov_history.specs.Refusals.{IsLegal, refusal_of}
 use Rattle.ov_history.specs.Sealed.{SealedHistory, catalogue_of, file_names_of, with_sealed, with_spelled}
-use Rattle.ov_history.specs.Sealing.{IsSealedAs, sealed, sealed_update}
+use Rattle.ov_history.specs.Sealing.{IsSealedAs, IsSealedSince, sealed, sealed_update}
 use Rattle.ov_history.specs.Sent.{SealedUpdate as NumberedUpdate, numbered, spelled}
 use Rattle.ov_model.specs.Step.{step, update_step}
-use Rattle.ov_history.proofs.Agreeing.{right_goes_on}
+use Rattle.ov_history.proofs.Since.{sealed_since, sealed_since_goes_on}
 use Rattle.ov_wire.specs.declared.answer.Answer.{Answer}
 use Rattle.ov_protocol.specs.Serving.{Service, followed, later, served}
 use Rattle.ov_protocol.specs.Answers.{Answers}
@@ -62,7 +62,7 @@ module _ (k : Masters) (command : Command) (e : Errand) (d : Does k command e) (
       → spelled (names_after p) (sealed_update k (layers_of (history_of p)) (d.plain p)) ≡ u
   is_spelling epoch u ready = spelled_as k p legal (d.plain p) u ready.is_sealed ready.free
 
-  -- what is left is right by that history, or by that with the command's update
+  -- what is left is right by that history, or it is sealed of that with the command's update
   abbrev Left : Service → Type 0
   Left w = IsOneOrNone k p command w.history
 
@@ -98,9 +98,11 @@ module _ (k : Masters) (command : Command) (e : Errand) (d : Does k command e) (
         ≡ sealed_update k (layers_of (history_of p)) (d.plain p) =
         ap (λ (names : List (List ℕ)). numbered names u) (right_names k p s right)
         ∙ ready.is_sealed in
-        inr (subst (λ (x : Reply × PlainHistory). IsSealedAs k x.1 (with_spelled s u)) (sym next)
-        (subst (λ (v : NumberedUpdate). IsSealedAs k (with_plain p (d.plain p)) (with_sealed s v))
-        (sym numbered_here) (right_goes_on k p (d.plain p) s right)))
+        inr (subst (λ (x : Reply × PlainHistory). IsSealedSince k p x.1 (with_spelled s u))
+        (sym next)
+        (subst
+        (λ (v : NumberedUpdate). IsSealedSince k p (with_plain p (d.plain p)) (with_sealed s v))
+        (sym numbered_here) (sealed_since_goes_on k p p (d.plain p) s (sealed_since k p s right))))
 
     -- what is served at a stage
     abbrev pub Serves : Stage → SealedHistory → Type 0

@@ -20,6 +20,7 @@ pub mod Proper
 pub mod Alone
 pub mod Making
 pub mod FailingDisks
+pub mod StepsAlike
 pub mod Completing
 pub mod Answered
 pub mod WrittenLists

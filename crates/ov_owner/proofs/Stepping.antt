@@ -21,11 +21,12 @@ use Rattle.ov_history.specs.Masters.{Masters}
 use Rattle.ov_history.specs.Plain.{PlainHistory, history_of, measured, with_plain}
 use Rattle.ov_history.specs.Refusals.{IsLegal, refusal_of}
 use Rattle.ov_history.specs.Sealed.{SealedHistory, catalogue_of, file_names_of, refusal_shown, with_sealed}
-use Rattle.ov_history.specs.Sealing.{IsSealedAs, sealed, sealed_update}
+use Rattle.ov_history.specs.Sealing.{IsSealedAs, IsSealedSince, sealed, sealed_update}
 use Rattle.ov_history.specs.Sent.{SealedUpdate as NumberedUpdate, numbered}
 use Rattle.ov_history.proofs.Keeping.{kept_refusals, kept_shows}
 use Rattle.ov_model.specs.Step.{step, update_step}
-use Rattle.ov_history.proofs.Agreeing.{right_goes_on, right_shows}
+use Rattle.ov_history.proofs.Agreeing.{right_shows}
+use Rattle.ov_history.proofs.Since.{sealed_since, sealed_since_goes_on}
 use Rattle.ov_wire.specs.declared.answer.Answer.TheVariants as answers
 use Rattle.ov_protocol.specs.Serving.{Service, followed, served}
 use Rattle.ov_protocol.specs.Answers.{Answers, made_by}
@@ -53,7 +54,7 @@ module _ (k : Masters) (command : Command) (e : Errand) (d : Does k command e) (
       → IsLegal (history_of p) → IsSealedAs k p answered
       → refusal_of (history_of p) (measured (d.plain p)) ≡ None
       → n ≡ epoch_of (history_of p) + 1
-      → IsSealedAs k (with_plain p (d.plain p)) last
+      → IsSealedSince k p (with_plain p (d.plain p)) last
       → IsStep k command (replies.Accepted n) answered last
   accepted_step p n answered last legal same none epoch is =
       let so : step p command ≡ (replies.Accepted (epoch_of (history_of p) + 1), with_plain p (d.plain p)) =
@@ -62,7 +63,7 @@ module _ (k : Masters) (command : Command) (e : Errand) (d : Does k command e) (
         legal = legal;
         same = same;
         replied = ap (λ (x : Reply × PlainHistory). x.0) so ∙ ap replies.Accepted (sym epoch);
-        next = subst (λ (x : Reply × PlainHistory). IsSealedAs k x.1 last) (sym so) is;
+        next = subst (λ (x : Reply × PlainHistory). IsSealedSince k p x.1 last) (sym so) is;
       }
 
   pub refused_step : (p : PlainHistory) (why : Refusal) (answered last : SealedHistory)
@@ -77,8 +78,8 @@ module _ (k : Masters) (command : Command) (e : Errand) (d : Does k command e) (
         legal = legal;
         same = same;
         replied = ap (λ (x : Reply × PlainHistory). x.0) so;
-        next = subst (λ (x : Reply × PlainHistory). IsSealedAs k x.1 last) (sym so)
-            (subst (IsSealedAs k p) (sym is) same);
+        next = subst (λ (x : Reply × PlainHistory). IsSealedSince k p x.1 last) (sym so)
+            (sealed_since k p last (subst (IsSealedAs k p) (sym is) same));
       }
 
   -- ---- what is known of what is served at a stage
@@ -171,8 +172,8 @@ module _ (k : Masters) (command : Command) (e : Errand) (d : Does k command e) (
       accepted_step t.p n here (followed here made) t.legal right
       (refused_there g epoch u t ∙ none)
       (next ∙ ap (λ x. x + 1) shows.epoch)
-      (subst (IsSealedAs k (with_plain t.p (d.plain t.p))) left
-      (right_goes_on k t.p (d.plain t.p) here right))
+      (subst (IsSealedSince k t.p (with_plain t.p (d.plain t.p))) left
+      (sealed_since_goes_on k t.p t.p (d.plain t.p) here (sealed_since k t.p here right)))
 
   pub update_refused : (g : SealedHistory) (others made : List SealedUpdate) (epoch : ℕ)
       (why : Refusal) (u : SealedUpdate)

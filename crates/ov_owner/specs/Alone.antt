@@ -5,7 +5,7 @@ use Rattle.ov_script.specs.declared.command.Command.{Command}
 use Rattle.ov_history.specs.Masters.{Masters}
 use Rattle.ov_history.specs.Plain.{PlainHistory}
 use Rattle.ov_history.specs.Sealed.{SealedHistory}
-use Rattle.ov_history.specs.Sealing.{IsSealedAs}
+use Rattle.ov_history.specs.Sealing.{IsSealedAs, IsSealedSince}
 use Rattle.ov_model.specs.Step.{after}
 use Rattle.ov_wire.specs.declared.answer.Answer.{Answer}
 use Rattle.ov_protocol.specs.Answers.{Answers}
@@ -34,9 +34,10 @@ abbrev pub AskedAlone : Service → List Ask → Option (List ℕ) → Service �
 AskedAlone v asks unanswered last =
     (m : Service) × AnsweredAlone v asks m × LeftAlone m unanswered last
 
--- the history is right by the one of before, or by that with the update of this command
+-- the history is right by the one of before, or it is the sealed form of that with the update of
+-- this command, but for files that were gone before
 abbrev pub IsOneOrNone : Masters → PlainHistory → Command → SealedHistory → Type 0
-IsOneOrNone k p command now = IsSealedAs k p now ⊎ IsSealedAs k (after p command) now
+IsOneOrNone k p command now = IsSealedAs k p now ⊎ IsSealedSince k p (after p command) now
 
 -- ---- any history
 

@@ -9,7 +9,9 @@ use Rattle.ov_script.specs.declared.reply.Reply.{Reply}
 use Rattle.ov_script.specs.declared.reply.Reply.TheVariants.{Accepted, List as Listed}
 use Rattle.ov_script.specs.declared.reply.Reply.TheVariants.{Refused}
 use Rattle.ov_history.specs.Masters.{Masters}
-use Rattle.ov_history.specs.Plain.{PlainHistory}
+use Rattle.ov_history.specs.Plain.{PlainHistory, history_of}
+use Rattle.ov_history.specs.Refusals.{IsLegal}
+use Rattle.ov_history.specs.Sealing.{IsSealedSince}
 use Rattle.ov_model.specs.Step.{after, reply_to}
 use Rattle.ov_wire.specs.declared.answer.Welcome.{Welcome}
 use Rattle.ov_protocol.specs.Answers.{welcome_of}
@@ -48,12 +50,20 @@ IsCompleteCall peer k p q Says result =
 
 -- ---- what is said of each
 
--- the machine replies so to the command at this history, and what is served then is the store after
--- it
+-- what is served is the sealed form of this legal history, but for files that were gone at a start,
+-- under these masters and their surface master
+pub record IsStoreSince (k : Masters) (start h : PlainHistory) (v : Service) : Type 0 where
+  pub surface : v.surface ≡ k.surface
+  pub legal : IsLegal (history_of h)
+  pub history : IsSealedSince k start h v.history
+
+-- The machine replies so to the command at this history, and what is served then is the store after
+-- it. A file that the command removes or replaces has the tag and the bytes with which it was
+-- sealed there.
 abbrev pub StepsTo : Masters → Command → PlainHistory → (Service → Type 0) → Reply → Type 0
 StepsTo k command h Then reply =
     (reply_to h command ≡ reply)
-    × ((now : Service) × IsStoreUnder k (after h command) now × Then now)
+    × ((now : Service) × IsStoreSince k h (after h command) now × Then now)
 
 -- the machine makes an epoch of the command, or refuses it
 abbrev pub SaysUpdate : Masters → Command → PlainHistory → Service → (Service → Type 0)

@@ -43,8 +43,9 @@ StaleEpochsRise =
     → (length epochs ≡ MAX_TRIES) × Rises epochs
 
 -- Of a server under the owner's surface master that nobody else updates meanwhile, and whose
--- history is right by a plain one, a call leaves what is right by this, or by this with the update
--- of its command. It does so after memory was refused and after a fault too.
+-- history is right by a plain one, a call leaves what is right by this, or the sealed form of this
+-- with the update of its command, but for files that were gone before. It does so after memory was
+-- refused and after a fault too.
 abbrev pub OneUpdateAtMost : Type 0
 OneUpdateAtMost =
     (k : Masters) (command : Command) (e : Errand) (asks : List Ask) (unanswered : Option (List ℕ))

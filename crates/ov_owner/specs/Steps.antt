@@ -9,7 +9,7 @@ use Rattle.ov_history.specs.Masters.{Masters}
 use Rattle.ov_history.specs.Plain.{PlainHistory, history_of}
 use Rattle.ov_history.specs.Refusals.{IsLegal}
 use Rattle.ov_history.specs.Sealed.{SealedHistory}
-use Rattle.ov_history.specs.Sealing.{IsSealedAs}
+use Rattle.ov_history.specs.Sealing.{IsSealedAs, IsSealedSince}
 use Rattle.ov_model.specs.Step.{after, reply_to}
 use Rattle.ov_protocol.specs.Serving.{Service}
 use Rattle.ov_peer.specs.Asks.{Along, AreRight, Ask}
@@ -29,14 +29,15 @@ IsErrandFor base (Replace file bytes) e = e ≡ replacing base file bytes
 IsErrandFor base command e = ⊥
 
 -- The machine replies so to the command at a legal history by which the one that answered an ask is
--- right, and what is served then is right by the history after it.
+-- right, and what is served then is the sealed form of the history after it, but for files that
+-- were gone before it.
 pub record IsStep (k : Masters) (command : Command) (reply : Reply)
     (answered last : SealedHistory) : Type 0 where
   pub before : PlainHistory
   pub legal : IsLegal (history_of before)
   pub same : IsSealedAs k before answered
   pub replied : reply_to before command ≡ reply
-  pub next : IsSealedAs k (after before command) last
+  pub next : IsSealedSince k before (after before command) last
 
 -- The machine replies so to the command at the last of these histories, and what is served then is
 -- that of the history after it.
