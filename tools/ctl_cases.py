@@ -415,7 +415,12 @@ def questions_that_are_not_answered():
     case("users @", moving * 9, 13, b"", error, "try again", asked=27)
     case("epoch @", ["LISTED"], 11, b"", NO_ANSWER, SAME_VERSION, asked=1)
     case("users @", ["WELCOME", file_page(b"f1")], 11, b"", NO_ANSWER, SAME_VERSION, asked=2)
-    case("files @", ["WELCOME", *USERS, file_page(b"f1"), NO_PAGE, b"\x88\x03"], 11, b"", NO_ANSWER, SAME_VERSION)
+    pages = ["WELCOME", *USERS, file_page(b"f1"), file_page(b"f2"), NO_PAGE]
+    removed = [*pages, b"\x88\x03"]
+    left = ["WELCOME", *USERS, GONE_PAGE, file_page(b"f2"), NO_PAGE, "LISTED", "WELCOME"]
+    case("files @", [*removed, *left], 0, b"list f2 a,b\n", asked=17)
+    case("files @", removed * 9, 13, b"", error, "try again", asked=72)
+    case("files @", [*pages, "WELCOME"], 11, b"", NO_ANSWER, SAME_VERSION, asked=8)
     endless = ["WELCOME", *[user_page(b"a")] * 1_100]
     case("users @", endless, 11, b"", NO_ANSWER, SAME_VERSION, asked=1_026)
     case("epoch @", ["NO_MEMORY"], 7, b"", "out of memory, here or at @", AS_IT_WAS)

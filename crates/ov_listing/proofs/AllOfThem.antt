@@ -2,16 +2,20 @@
 use Rattle.std.proofs.Common.{◌≡◌, ◌∙◌, ℕ, zero, suc, ◌+◌, ◌<◌, List, [], ◌∷◌, ◌++◌, length, take}
 use Rattle.std.proofs.Common.{map, Bool, Option, Some, None, Result, Ok, Err, refl, sym, ap}
 use Rattle.std.proofs.Common.{add-one, get_or}
-use Rattle.std.specs.Prelude.{Vec, option_map, slice_get}
+use Rattle.std.specs.Prelude.{Vec, option_map, slice_get, true}
+use Rattle.std.specs.Str.{bytes_eq}
 use Rattle.std.specs.declared.alloc.Global.{Global}
 use Rattle.std.proofs.lemmas.List.{append-nil, append_assoc, map-append}
+use Rattle.std.proofs.lemmas.List.Folds.{list_any_at}
 use Rattle.std.proofs.lemmas.Option.{same_Some, slice_get-get_or}
 use Rattle.std.proofs.Math.Seq.{take-length}
+use Rattle.std.proofs.lemmas.Slice.Eq.{bytes_eq-Decides}
 use Rattle.ov_base.proofs.NamePlaces.{take_push}
+use Rattle.ov_base.specs.NameLists.{is_among}
 use Rattle.ov_history.specs.History.{File, Matrix}
 use Rattle.ov_protocol.specs.Serving.{Service}
 use Rattle.ov_listing.specs.Listings.{files_wanted, listed, living_names}
-use Rattle.ov_listing.specs.Questions.{AreFilesAt, AreListsAt, IsListAt, IsShownAt}
+use Rattle.ov_listing.specs.Questions.{AreFilesAt, AreListsAt, HasNoFile, IsListAt, IsShownAt}
 use Rattle.ov_listing.specs.Questions.{matrix_at, name_of_file, name_shown, named}
 use Rattle.ov_listing.specs.Questions.{names_by_number, names_in_part}
 use Rattle.ov_listing.specs.Telling.{Told, ToldOfOne}
@@ -124,16 +128,28 @@ module _ (alone : Bool) (v : Service) (Mid Then : Service → Type 0) (files : L
     (lists : List Listed) (so_far : Meanwhile alone v Mid (AreListed files n lists v)) where
   pub one_listed : (file : List ℕ) (names : List (List ℕ))
       → n < length files → file ≡ get_or files n file
-      → ((w : Service) → Mid w → Told alone w Then (IsListAt file) (Ok names))
+      → ((w : Service) → Mid w → Told alone w Then (IsListAt file) (Ok (Some names)))
       → Meanwhile alone v Then
       (AreListed files (n + 1) (lists ++ record { file = file; names = names } ∷ []) v)
   one_listed file names low is told =
       also alone v Then
-      (AreListed files n lists v × IsListAt file names v)
+      (AreListed files n lists v × IsListAt file (Some names) v)
       (AreListed files (n + 1) (lists ++ record { file = file; names = names } ∷ []) v)
-      (behind alone v Mid Then (AreListed files n lists v) (IsListAt file names) so_far
-      (λ w mid. of_one alone w Then (IsListAt file) names (told w mid)))
+      (behind alone v Mid Then (AreListed files n lists v) (IsListAt file (Some names)) so_far
+      (λ w mid. of_one alone w Then (IsListAt file) (Some names) (told w mid)))
       (λ (first, right). more_listed (matrix_at v) files n file lists names low is first right)
+
+  pub none_listed : (file : List ℕ) → n < length files → file ≡ get_or files n file
+      → ((w : Service) → Mid w → Told alone w Then (IsListAt file) (Ok None))
+      → Meanwhile alone v Then (AreListsAt files None v)
+  none_listed file low is told =
+      let same : bytes_eq file (get_or files n file) ≡ true =
+      (bytes_eq-Decides file (get_or files n file)).1 is in
+      let among : is_among file files ≡ true = list_any_at (bytes_eq file) files n file low same in
+      also alone v Then (AreListed files n lists v × HasNoFile file v) (AreListsAt files None v)
+      (behind alone v Mid Then (AreListed files n lists v) (HasNoFile file) so_far
+      (λ w mid. of_one alone w Then (IsListAt file) None (told w mid)))
+      (λ (first, none). (file, among, none))
 
   pub all_listed : n ≡ length files → Meanwhile alone v Mid (lists ≡ map (listed (matrix_at v)) files)
   all_listed all =
@@ -145,18 +161,27 @@ module _ (alone : Bool) (v : Service) (Mid Then : Service → Type 0) (files : L
 -- ---- the files that are wanted
 
 pub files_told : (alone : Bool) (v : Service) (Mid Then : Service → Type 0) (wanted : Wanted)
-    (names files : List (List ℕ)) (result : Result (Vec Listed Global) ListingFault)
+    (names files : List (List ℕ)) (result : Result (Option (Vec Listed Global)) ListingFault)
     → wanted ≡ wants.Files → files ≡ names
     → Meanwhile alone v Mid (names ≡ names_in_part parts.Files (matrix_at v))
-    → ((w : Service) → Mid w → ToldOfOne alone w Then (λ lists. AreListsAt files lists.items) result)
-    → ToldOfOne alone v Then (λ lists. AreFilesAt wanted lists.items) result
+    → ((w : Service) → Mid w → ToldOfOne alone w Then (AreListsAt files) result)
+    → ToldOfOne alone v Then (AreFilesAt wanted) result
 files_told alone v Mid Then wanted names files (Err fault) is same so_far told = tt
-files_told alone v Mid Then wanted names files (Ok lists) is same so_far told =
+files_told alone v Mid Then wanted names files (Ok None) is same so_far told =
     let m = matrix_at v in
     also alone v Then
-    ((names ≡ names_in_part parts.Files m) × AreListsAt files lists.items v)
-    (AreFilesAt wanted lists.items v)
-    (behind alone v Mid Then (names ≡ names_in_part parts.Files m) (AreListsAt files lists.items)
+    ((names ≡ names_in_part parts.Files m) × AreListsAt files None v) (AreFilesAt wanted None v)
+    (behind alone v Mid Then (names ≡ names_in_part parts.Files m) (AreListsAt files None)
+    so_far told)
+    (λ (all, missing).
+    let (file, among, none) = missing in
+    absurd (cc (sym among ∙ ap (is_among file) (same ∙ all) ∙ none)))
+files_told alone v Mid Then wanted names files (Ok (Some lists)) is same so_far told =
+    let m = matrix_at v in
+    also alone v Then
+    ((names ≡ names_in_part parts.Files m) × AreListsAt files (Some lists) v)
+    (AreFilesAt wanted (Some lists) v)
+    (behind alone v Mid Then (names ≡ names_in_part parts.Files m) (AreListsAt files (Some lists))
     so_far told)
     (λ (all, each).
     each ∙ ap (map (listed m)) (same ∙ all) ∙ ap (λ (x : Wanted). files_wanted x m) (sym is))

@@ -3,6 +3,7 @@ use Rattle.std.proofs.Common.{◌≡◌, ℕ, ◌+◌, suc, arith, List, Option,
 use Rattle.std.proofs.Common.{Result, Ok, Err}
 use Rattle.std.proofs.Common.{refl, sym, subst, inl, inr}
 use Rattle.std.specs.Prelude.{IfErr, IfOk}
+use Rattle.ov_base.specs.declared.refusal.Refusal.TheVariants.{NoFile}
 use Rattle.ov_peer.specs.Exchanges.{Answered, Exchanges}
 use Rattle.ov_peer.specs.Tells.{PeerTells}
 use Rattle.ov_peer.specs.declared.fault.ExchangeFault.{ExchangeFault}
@@ -15,7 +16,8 @@ use Rattle.ov_wire.specs.declared.request.Request.TheVariants as requests
 use Rattle.ov_listing.specs.Causes.{IsSettled, listing_fault}
 use Rattle.ov_listing.specs.Questions.{ShownIn, listed_in, most_in, part_number, welcome_in}
 use Rattle.ov_listing.specs.Reasons.{BlamesChanges, BlamesReply, Greets, HasLastPage}
-use Rattle.ov_listing.specs.Reasons.{HasPage, IsOnPage, IsTooHigh, SeesChange, SeesChanges}
+use Rattle.ov_listing.specs.Reasons.{HasPage, IsNoneByRefusal, IsOnPage, IsTooHigh, SeesChange}
+use Rattle.ov_listing.specs.Reasons.{SeesChanges}
 use Rattle.ov_listing.specs.declared.fault.ListingFault.{ListingFault}
 use Rattle.ov_listing.specs.declared.fault.ListingFault.TheVariants as faults
 use Rattle.ov_listing.specs.declared.part.Part.{Part}
@@ -27,6 +29,13 @@ pub is_welcome : (a : Answer) (w : Welcome) → welcome_in a ≡ Ok w → a ≡ 
 is_welcome (answers.Welcome welcome) w is = cc is
 is_welcome answers.NoMemory w is = absurd (cc is)
 is_welcome a w is = absurd (cc is)
+
+-- the list of a file is refused where it is taken so
+is_refused : (a : Answer) → listed_in a ≡ Ok None → a ≡ answers.Refused NoFile
+is_refused (answers.Refused NoFile) is = refl
+is_refused answers.NoMemory is = absurd (cc is)
+is_refused (answers.Listed names) is = absurd (cc is)
+is_refused a is = absurd (cc is)
 
 -- a number past the last name is too high
 pub past_last : (part : Part) → IsTooHigh (part_number part) (most_in part)
@@ -76,9 +85,9 @@ module _ {P : Type 0} (peer : PeerTells P) (p q : P) where
 
   -- the list of a file
   pub list_blames : (file : List ℕ) (a : Answer) → Answered peer p q (requests.List file) (Ok a)
-      → (result : Result (List (List ℕ)) ListingFault) → result ≡ listed_in a
+      → (result : Result (Option (List (List ℕ))) ListingFault) → result ≡ listed_in a
       → IfErr result (BlamesReply peer q)
-  list_blames file a answered (Ok names) is = tt
+  list_blames file a answered (Ok found) is = tt
   list_blames file a answered (Err faults.Link) is = tt
   list_blames file a answered (Err faults.Unsettled) is = tt
   list_blames file a answered (Err faults.Memory) is = tt
@@ -88,6 +97,18 @@ module _ {P : Type 0} (peer : PeerTells P) (p q : P) where
     read = Ok a;
     answered = answered;
     wrong = sym is;
+  }
+
+  pub list_refuses : (file : List ℕ) (a : Answer) → Answered peer p q (requests.List file) (Ok a)
+      → (result : Result (Option (List (List ℕ))) ListingFault) → result ≡ listed_in a
+      → IfOk result (IsNoneByRefusal peer q)
+  list_refuses file a answered (Err fault) is = tt
+  list_refuses file a answered (Ok (Some names)) is = tt
+  list_refuses file a answered (Ok None) is = record {
+    before = p;
+    file = file;
+    refuses = subst (λ (x : Answer). Answered peer p q (requests.List file) (Ok x))
+        (is_refused a (sym is)) answered;
   }
 
   -- a page
@@ -123,7 +144,7 @@ one_page peer part number q page =
     let next : suc number ≡ number + 1 = omega arith in
     subst (λ (n : ℕ). HasLastPage peer part n q) next page
 
--- one try more saw the epoch change
+-- one try more saw the store change
 pub one_change : {P : Type 0} (peer : PeerTells P) (tries : ℕ) (p m q : P)
     → SeesChanges peer tries p m → SeesChange peer m q → SeesChanges peer (tries + 1) p q
 one_change peer tries p m q before change =

@@ -1,5 +1,6 @@
 pub mod Meanwhile
 pub mod Pages
+pub mod GoneFiles
 pub mod OneQuestion
 pub mod AllOfThem
 pub mod OneEpoch

@@ -35,15 +35,15 @@ module _ (alone : Bool) (v : Service) (One Two Three Then : Service → Type 0) 
     (first : Told alone v One IsWelcomeAt (Ok before))
     (names : (w : Service) → One w → Meanwhile alone w Two (AreNamesAt Users listing.users.items w))
     (lists : (w : Service) → Two w
-    → Meanwhile alone w Three (AreFilesAt wanted listing.files.items w))
+    → Meanwhile alone w Three (AreFilesAt wanted (Some listing.files) w))
     (last : (w : Service) → Three w → Told alone w Then IsWelcomeAt (Ok after)) where
   -- others made these meanwhile, and what was told first is of what was served first
   between : (w : Service) → One w
       → Meanwhile alone w Three
-      (AreNamesAt Users listing.users.items w × AreFilesAt wanted listing.files.items w)
+      (AreNamesAt Users listing.users.items w × AreFilesAt wanted (Some listing.files) w)
   between w one =
       behind alone w Two Three (AreNamesAt Users listing.users.items w)
-      (AreFilesAt wanted listing.files.items) (names w one) lists
+      (AreFilesAt wanted (Some listing.files)) (names w one) lists
 
   pub settled : after.epoch ≡ before.epoch → listing.mode ≡ after.mode
       → listing.epoch ≡ after.epoch

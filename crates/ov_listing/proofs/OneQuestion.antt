@@ -1,6 +1,7 @@
 -- One question to a told peer.
 use Rattle.std.proofs.Common.{◌≡◌, ◌∙◌, ℕ, List, [], Bool, true, false, Option, Some, None}
 use Rattle.std.proofs.Common.{Result, Ok, Err, refl, sym, subst, inl, inr}
+use Rattle.ov_base.specs.declared.refusal.Refusal.TheVariants.{NoFile}
 use Rattle.ov_record.specs.Updates.{SealedUpdate}
 use Rattle.ov_wire.specs.Requests.{HasRequestForm, request_bytes}
 use Rattle.ov_wire.specs.declared.answer.Answer.{Answer}
@@ -16,11 +17,12 @@ use Rattle.ov_peer.specs.Tells.{PeerTells}
 use Rattle.ov_peer.proofs.Needing.{needs_disk}
 use Rattle.ov_peer.proofs.Telling.{answer_at, exchanges_told}
 use Rattle.ov_listing.specs.Questions.{IsListAt, IsShownAt, IsWelcomeAt, ShownIn, listed_in}
-use Rattle.ov_listing.specs.Questions.{part_number, welcome_in}
+use Rattle.ov_listing.specs.Questions.{matrix_at, part_number, welcome_in}
 use Rattle.ov_listing.specs.Telling.{IsAloneIf, MayBeMade, Told}
 use Rattle.ov_listing.specs.declared.fault.ListingFault.{ListingFault}
 use Rattle.ov_listing.specs.declared.part.Part.{Part}
 use Rattle.ov_listing.specs.declared.shown.Shown.{Shown}
+use Rattle.ov_listing.proofs.GoneFiles.{none_named}
 use Rattle.ov_listing.proofs.Meanwhile.{same_left}
 use Rattle.ov_listing.proofs.Pages.{no_page, page_shown}
 
@@ -111,5 +113,9 @@ module _ {P : Type 0} (peer : PeerTells P) (p q : P) (alone : Bool) (v : Service
       let (others, may, then, is) = answered_at peer p q (requests.List file) (quiet_list file) form
       alone v (answers.Listed names) answered is_alone serves in
       (others, may, then, is.1)
+  list_told file form (answers.Refused NoFile) answered =
+      let (others, may, then, is) = answered_at peer p q (requests.List file) (quiet_list file) form
+      alone v (answers.Refused NoFile) answered is_alone serves in
+      (others, may, then, none_named (matrix_at (later v others)) file form.is_request is)
   list_told file form answers.NoMemory answered = tt
   list_told file form a answered = tt

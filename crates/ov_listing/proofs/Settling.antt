@@ -1,6 +1,7 @@
 -- No part of a try is unsettled, and where nobody else updates one try is enough.
 use Rattle.std.proofs.Common.{◌≡◌, ◌∙◌, true, Option, Result, Ok, Err}
 use Rattle.std.proofs.Common.{sym, ap}
+use Rattle.ov_base.specs.declared.refusal.Refusal.TheVariants.{NoFile}
 use Rattle.ov_peer.specs.declared.fault.ExchangeFault.{ExchangeFault}
 use Rattle.ov_peer.specs.declared.fault.ExchangeFault.TheVariants as exchange
 use Rattle.ov_protocol.specs.Serving.{Service, later, served}
@@ -22,6 +23,7 @@ welcome_settled a = tt
 
 pub list_settled : (a : Answer) → IsSettled (listed_in a)
 list_settled (answers.Listed names) = tt
+list_settled (answers.Refused NoFile) = tt
 list_settled answers.NoMemory = tt
 list_settled a = tt
 

@@ -1,8 +1,11 @@
 -- Inner, but for `IsWelcomeAt` and for what `Reasons` names. What is taken of one answer, and of
 -- several.
-use Rattle.std.specs.Prelude.{◌≡◌, ◌≢◌, ℕ, List, [], ◌∷◌, ◌++◌, map, slice_get}
+use Rattle.std.specs.Prelude.{◌≡◌, ◌≢◌, ℕ, List, [], ◌∷◌, ◌++◌, map, slice_get, Vec, true, false}
 use Rattle.std.specs.Prelude.{Option, Some, None, option_map, Result, Ok, Err}
+use Rattle.std.specs.declared.alloc.Global.{Global}
+use Rattle.ov_base.specs.NameLists.{is_among}
 use Rattle.ov_base.specs.Names.{IsName}
+use Rattle.ov_base.specs.declared.refusal.Refusal.TheVariants.{NoFile}
 use Rattle.ov_base.specs.declared.limits.TheConstants.{MAX_FILES, MAX_USERS}
 use Rattle.ov_fields.specs.Spelling.{name_field}
 use Rattle.ov_history.specs.Catalogue.{matrix_shown}
@@ -31,9 +34,10 @@ welcome_in (answers.Welcome welcome) = Ok welcome
 welcome_in answers.NoMemory = Err Memory
 welcome_in answer = Err (BadReply 0)
 
--- the names that are listed, or why there are none
-abbrev pub listed_in : Answer → Result (List (List ℕ)) ListingFault
-listed_in (answers.Listed names) = Ok names
+-- the names that are listed, or none where there is no such file; or why neither is told
+abbrev pub listed_in : Answer → Result (Option (List (List ℕ))) ListingFault
+listed_in (answers.Listed names) = Ok (Some names)
+listed_in (answers.Refused NoFile) = Ok None
 listed_in answers.NoMemory = Err Memory
 listed_in answer = Err (BadReply 0)
 
@@ -118,17 +122,24 @@ IsShownAt part number shown w =
 abbrev pub AreNamesAt : Part → List (List ℕ) → Service → Type 0
 AreNamesAt part names w = names ≡ names_in_part part (matrix_at w)
 
--- the names in the file's list
-abbrev pub IsListAt : List ℕ → List (List ℕ) → Service → Type 0
-IsListAt file names w = names ≡ (listed (matrix_at w) file).names
+-- no file has this name
+abbrev pub HasNoFile : List ℕ → Service → Type 0
+HasNoFile file w = is_among file (living_names (matrix_at w).files) ≡ false
 
--- each of these files with its list
-abbrev pub AreListsAt : List (List ℕ) → List Listed → Service → Type 0
-AreListsAt files lists w = lists ≡ map (listed (matrix_at w)) files
+-- the names in the file's list, or none where no file has this name
+abbrev pub IsListAt : List ℕ → Option (List (List ℕ)) → Service → Type 0
+IsListAt file (Some names) w = names ≡ (listed (matrix_at w) file).names
+IsListAt file None w = HasNoFile file w
 
--- the files that are wanted
-abbrev pub AreFilesAt : Wanted → List Listed → Service → Type 0
-AreFilesAt wanted files w = files ≡ files_wanted wanted (matrix_at w)
+-- each of these files with its list, or none where no file has the name of one of them
+abbrev pub AreListsAt : List (List ℕ) → Option (Vec Listed Global) → Service → Type 0
+AreListsAt files (Some lists) w = lists.items ≡ map (listed (matrix_at w)) files
+AreListsAt files None w = (file : List ℕ) × (is_among file files ≡ true) × HasNoFile file w
+
+-- the files that are wanted; they aren't missing
+abbrev pub AreFilesAt : Wanted → Option (Vec Listed Global) → Service → Type 0
+AreFilesAt wanted (Some files) w = files.items ≡ files_wanted wanted (matrix_at w)
+AreFilesAt wanted None w = ⊥
 
 -- a listing of the history that is served, or none
 abbrev pub IsTryAt : Wanted → Option Listing → Service → Type 0

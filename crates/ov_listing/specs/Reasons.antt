@@ -2,6 +2,7 @@
 use Rattle.std.specs.Prelude.{◌≡◌, ◌≢◌, ◌⊎◌, ℕ, zero, suc, List}
 use Rattle.std.specs.Prelude.{Option, Some, None, Result, Ok, Err}
 use Rattle.ov_base.specs.declared.limits.TheConstants.{MAX_FILES, MAX_USERS}
+use Rattle.ov_base.specs.declared.refusal.Refusal.TheVariants.{NoFile}
 use Rattle.ov_peer.specs.Exchanges.{Answered}
 use Rattle.ov_peer.specs.Tells.{PeerTells}
 use Rattle.ov_wire.specs.declared.answer.Answer.{Answer}
@@ -27,7 +28,8 @@ HasEntry answer = (entry : List ℕ) × (answer ≡ answers.PageOf (Some entry))
 
 -- The answer to this question is wrong at this place: at 0 where it is of another kind, at 1 where
 -- a page has one entry more than a store can have, and at 2 where an entry shows neither a name nor
--- that a file is gone.
+-- that a file is gone. That there is no such file is no wrong answer for a list: a file can be
+-- removed after its page was shown.
 abbrev pub IsWrongAnswer : Request → Answer → ℕ → Type 0
 IsWrongAnswer requests.Hello answer place = welcome_in answer ≡ Err (BadReply place)
 IsWrongAnswer (requests.List file) answer place = listed_in answer ≡ Err (BadReply place)
@@ -53,23 +55,34 @@ abbrev pub BlamesReply : {P : Type 0} → PeerTells P → P → ListingFault →
 BlamesReply peer q (BadReply place) = RepliesWrong peer q place
 BlamesReply peer q fault = Unit {0}
 
--- ---- epochs that move
+-- ---- stores that change
 
 -- the peer was asked for mode and epoch, and answered so
 abbrev pub Greets : {P : Type 0} → PeerTells P → P → P → Welcome → Type 0
 Greets peer p q welcome = Answered peer p q requests.Hello (Ok (answers.Welcome welcome))
 
--- A try saw the epoch change: its first question and its last have answers with other epochs.
+-- the last answer of the peer has another epoch than this one
+pub record MovesFrom {P : Type 0} (peer : PeerTells P) (epoch : ℕ) (q : P) : Type 0 where
+  pub before : P
+  pub last : Welcome
+  pub greets : Greets peer before q last
+  pub moved : last.epoch ≢ epoch
+
+-- the last answer of the peer is that the file whose list was asked for isn't there
+pub record RefusesList {P : Type 0} (peer : PeerTells P) (q : P) : Type 0 where
+  pub before : P
+  pub file : List ℕ
+  pub refuses : Answered peer before q (requests.List file) (Ok (answers.Refused NoFile))
+
+-- A try saw the store change: it asked for the epoch first, and its last answer has another one, or
+-- refuses the list of a file.
 pub record SeesChange {P : Type 0} (peer : PeerTells P) (p q : P) : Type 0 where
   pub first : Welcome
-  pub last : Welcome
   pub behind : P
-  pub before : P
   pub begins : Greets peer p behind first
-  pub ends : Greets peer before q last
-  pub moved : last.epoch ≢ first.epoch
+  pub ends : MovesFrom peer first.epoch q ⊎ RefusesList peer q
 
--- there were so many tries, one behind the other, and each saw the epoch change
+-- there were so many tries, one behind the other, and each saw the store change
 abbrev pub SeesChanges : {P : Type 0} → PeerTells P → ℕ → P → P → Type 0
 SeesChanges peer zero p q = q ≡ p
 SeesChanges {P} peer (suc tries) p q =
@@ -80,7 +93,12 @@ abbrev pub BlamesChanges : {P : Type 0} → PeerTells P → P → P → ListingF
 BlamesChanges peer p q Unsettled = SeesChanges peer 9 p q
 BlamesChanges peer p q fault = Unit {0}
 
--- inner: a try of which nothing came saw the epoch change
+-- inner: where nothing came of a question, a list was refused
+abbrev pub IsNoneByRefusal : {T P : Type 0} → PeerTells P → P → Option T → Type 0
+IsNoneByRefusal peer q (Some found) = Unit {0}
+IsNoneByRefusal peer q None = RefusesList peer q
+
+-- inner: a try of which nothing came saw the store change
 abbrev pub IsNoneByChange : {T P : Type 0} → PeerTells P → P → P → Option T → Type 0
 IsNoneByChange peer p q (Some found) = Unit {0}
 IsNoneByChange peer p q None = SeesChange peer p q

@@ -6,14 +6,14 @@ ghost use Rattle.ov_listing.specs.Causes.{HasListingCause, IsSettled};
 ghost use Rattle.ov_listing.specs.Questions.{HasNoName, ShownBy, ShownIn, listed_in, part_number};
 ghost use Rattle.ov_listing.specs.Questions.{welcome_in};
 ghost use Rattle.ov_listing.specs.Questions.{IsListAt, IsShownAt, IsWelcomeAt};
-ghost use Rattle.ov_listing.specs.Reasons.{BlamesReply, Greets, IsOnPage};
+ghost use Rattle.ov_listing.specs.Reasons.{BlamesReply, Greets, IsNoneByRefusal, IsOnPage};
 ghost use Rattle.ov_listing.specs.Telling.{IsAloneIf, Told};
 
 use crate::ListingFault;
 use crate::fault::fault_of;
 use crate::part::Part;
 use crate::shown::Shown;
-use ov_base::{Name, Names};
+use ov_base::{Name, Names, Refusal};
 use ov_peer::{Peer, exchange};
 use ov_wire::{Answer, Request, Welcome};
 use std::alloc::Global;
@@ -115,24 +115,34 @@ pub fn shown_at<P: Peer>(
     }
 }
 
-/// The names that are listed, or why there are none. A file that has a page has a list.
-fn listed_in(answer: Answer) -> Result<Names, ListingFault>
+/// The names that are listed, or none where there is no such file: one that had a page may have
+/// been removed meanwhile.
+fn listed_in(answer: Answer) -> Result<Option<Names>, ListingFault>
     ensures { result ≡ listed_in answer }
 {
     match answer {
-        Answer::Listed { names } => Ok(names),
+        Answer::Listed { names } => Ok(Some(names)),
+        Answer::Refused {
+            refusal: Refusal::NoFile,
+        } => Ok(None),
         Answer::NoMemory => Err(ListingFault::Memory),
         _ => Err(ListingFault::BadReply { at: 0 }),
     }
 }
 
-/// Asks for the names in the list of a file, in the order of the users.
-pub fn list_of<P: Peer>(alloc: Global, peer: &mut P, file: &Name) -> Result<Names, ListingFault>
+/// Asks for the names in the list of a file, in the order of the users; none where there is no such
+/// file.
+pub fn list_of<P: Peer>(
+    alloc: Global,
+    peer: &mut P,
+    file: &Name,
+) -> Result<Option<Names>, ListingFault>
     ensures told { (alone : Bool) (v : Service) → IsAloneIf alone P.tells
         → P.tells.serves peer.old v
         → Told alone v (P.tells.serves peer.new) (IsListAt file.now) result }
     ensures settled { IsSettled result }
     ensures blames { IfErr result (BlamesReply P.tells peer.new) }
+    ensures refused { IfOk result (IsNoneByRefusal P.tells peer.new) }
     ensures same { P.tells.borrow peer.new ≡ P.tells.borrow peer.old }
     ensures cause { HasListingCause (P.tells.faults peer.old) (P.tells.faults peer.new) result }
 {

@@ -12,10 +12,12 @@ pub enum ListingFault {
     #[error("the link failed")]
     Link,
     /// A reply can't be: its request allows no such answer, or there are more names than a store
-    /// can have; `at` is the place of its first wrong byte.
+    /// can have; `at` is the place of its first wrong byte. That a file isn't there any more is an
+    /// answer to the request for its list.
     #[error("a reply is no answer (byte {at})")]
     BadReply { at: u32 },
-    /// The store was changed in each of nine tries.
+    /// The store was changed in each of nine tries: its epoch moved, or a file was removed before its
+    /// list was asked for.
     #[error("the store changed while it was listed, in each of nine tries")]
     Unsettled,
     /// Memory was refused, here or at the server.

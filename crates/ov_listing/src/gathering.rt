@@ -1,9 +1,9 @@
 //! All names of a part of the catalogue, and the lists of all files.
-ghost use Rattle.std.specs.Prelude.{◌≡◌, ◌++◌, Bool, IfErr, OnOk};
+ghost use Rattle.std.specs.Prelude.{◌≡◌, ◌++◌, Bool, IfErr, IfOk, OnOk};
 ghost use Rattle.ov_protocol.specs.Serving.{Service};
 ghost use Rattle.ov_listing.specs.Causes.{HasListingCause, IsSettled};
 ghost use Rattle.ov_listing.specs.Questions.{AreListsAt, AreNamesAt, name_shown, named};
-ghost use Rattle.ov_listing.specs.Reasons.{BlamesReply};
+ghost use Rattle.ov_listing.specs.Reasons.{BlamesReply, IsNoneByRefusal};
 ghost use Rattle.ov_listing.specs.Telling.{IsAloneIf, ToldOfOne};
 
 use crate::asking::{list_of, shown_at};
@@ -51,25 +51,26 @@ pub fn names_of<P: Peer>(alloc: Global, peer: &mut P, part: Part) -> Result<Vec<
     Err(ListingFault::BadReply { at: 1 })
 }
 
-/// Asks for the list of each of these files.
+/// Asks for the list of each of these files; none where one of them isn't there any more.
 pub fn lists_of<P: Peer>(
     alloc: Global,
     peer: &mut P,
     files: &[Name],
-) -> Result<Vec<Listed>, ListingFault>
+) -> Result<Option<Vec<Listed>>, ListingFault>
     ensures told { (alone : Bool) (v : Service) → IsAloneIf alone P.tells
         → P.tells.serves peer.old v
-        → ToldOfOne alone v (P.tells.serves peer.new) (λ lists. AreListsAt files.now lists.items)
-        result }
+        → ToldOfOne alone v (P.tells.serves peer.new) (AreListsAt files.now) result }
     ensures settled { IsSettled result }
     ensures blames { IfErr result (BlamesReply P.tells peer.new) }
+    ensures refused { IfOk result (IsNoneByRefusal P.tells peer.new) }
     ensures same { P.tells.borrow peer.new ≡ P.tells.borrow peer.old }
     ensures cause { HasListingCause (P.tells.faults peer.old) (P.tells.faults peer.new) result }
 {
     let mut lists = Vec::new(alloc);
     for file in files {
         let names = match list_of(alloc, peer, file) {
-            Ok(names) => names,
+            Ok(Some(names)) => names,
+            Ok(None) => return Ok(None),
             Err(fault) => return Err(fault),
         };
         match lists.push(Listed {
@@ -80,5 +81,5 @@ pub fn lists_of<P: Peer>(
             Err(_) => return Err(ListingFault::Memory),
         }
     }
-    Ok(lists)
+    Ok(Some(lists))
 }

@@ -5,15 +5,16 @@
 //! [`ask_listing`] asks besides, page by page, for the names of the users and of the files, and for
 //! the list of each file. A file that was removed keeps its page, which shows that it is gone, and
 //! isn't listed. What it gives is of one epoch: the server is asked for its epoch before and after,
-//! and where that moved meanwhile all is asked again, nine times in all. No key is needed, since
-//! the catalogue is public.
+//! and where that moved meanwhile all is asked again, nine times in all. A list that is refused has
+//! it begin again too: its file was removed after its page was shown. No key is needed, since the
+//! catalogue is public.
 //!
 //! ```text
 //! answer ──► ask_listing ──► try_once ──► ask_welcome           Hello: mode and epoch
 //!                 ▲             ├───────► names_of ──► shown_at Page: a name, a gone file, or none
-//!                 │             ├───────► lists_of ──► list_of  List: the names in a file's list
+//!                 │             ├───────► lists_of ──► list_of  List: the names in it, or no file
 //!                 │             └───────► ask_welcome           Hello: the epoch again
-//!                 └── again, up to nine tries, where the epoch is another
+//!                 └── again, up to nine tries, where the epoch is another or a list is refused
 //! ```
 //!
 //! Over a peer that tells which history it serves, a listing is that of the access matrix of the

@@ -5,6 +5,7 @@ ghost use Rattle.ov_listing.specs.Causes.{HasListingCause, IsOneTry, IsSettled};
 ghost use Rattle.ov_listing.specs.Listings.{IsListingAt};
 ghost use Rattle.ov_listing.specs.Questions.{AreFilesAt, IsTryAt};
 ghost use Rattle.ov_listing.specs.Reasons.{BlamesChanges, BlamesReply, IsNoneByChange};
+ghost use Rattle.ov_listing.specs.Reasons.{IsNoneByRefusal};
 ghost use Rattle.ov_listing.specs.Telling.{IsAloneIf, Told, ToldOfOne};
 ghost use Rattle.ov_peer.specs.Alone.{IsAlone};
 
@@ -18,23 +19,24 @@ use std::alloc::Global;
 /// How often a listing begins.
 const TRIES: usize = 9;
 
-/// Asks for the files that are wanted, with their lists.
+/// Asks for the files that are wanted, with their lists; none where a file was removed before its
+/// list was asked for.
 fn files_of<P: Peer>(
     alloc: Global,
     peer: &mut P,
     wanted: Wanted,
-) -> Result<Vec<Listed>, ListingFault>
+) -> Result<Option<Vec<Listed>>, ListingFault>
     ensures told { (alone : Bool) (v : Service) → IsAloneIf alone P.tells
         → P.tells.serves peer.old v
-        → ToldOfOne alone v (P.tells.serves peer.new) (λ files. AreFilesAt wanted files.items)
-        result }
+        → ToldOfOne alone v (P.tells.serves peer.new) (AreFilesAt wanted) result }
     ensures settled { IsSettled result }
     ensures blames { IfErr result (BlamesReply P.tells peer.new) }
+    ensures refused { IfOk result (IsNoneByRefusal P.tells peer.new) }
     ensures same { P.tells.borrow peer.new ≡ P.tells.borrow peer.old }
     ensures cause { HasListingCause (P.tells.faults peer.old) (P.tells.faults peer.new) result }
 {
     match wanted {
-        Wanted::Users => Ok(Vec::new(alloc)),
+        Wanted::Users => Ok(Some(Vec::new(alloc))),
         Wanted::Files => match names_of(alloc, peer, Part::Files) {
             Ok(names) => lists_of(alloc, peer, &names),
             Err(fault) => Err(fault),
@@ -42,7 +44,8 @@ fn files_of<P: Peer>(
     }
 }
 
-/// One try: a listing, or none where the epoch moved meanwhile.
+/// One try: a listing, or none where the store changed meanwhile. It did where a list is refused, or
+/// where the epoch at the end is another.
 fn try_once<P: Peer>(
     alloc: Global,
     peer: &mut P,
@@ -68,7 +71,8 @@ fn try_once<P: Peer>(
         Err(fault) => return Err(fault),
     };
     let files = match files_of(alloc, peer, wanted) {
-        Ok(files) => files,
+        Ok(Some(files)) => files,
+        Ok(None) => return Ok(None),
         Err(fault) => return Err(fault),
     };
     let after = match ask_welcome(alloc, peer) {

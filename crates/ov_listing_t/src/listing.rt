@@ -10,7 +10,8 @@ use ov_peer::{FixedPeer, Peer};
 use ov_server::{LocalPeer, Server};
 use ov_store::Store;
 use rows::{
-    Asked, Row, anew, questions, questions_anew, questions_replaced, replaced, rows, updates,
+    Asked, Row, anew, file_rows, questions, questions_anew, questions_replaced, replaced, rows,
+    updates,
 };
 use std::alloc::Global;
 use std::process::Abort;
@@ -143,14 +144,15 @@ fn peer_of(alloc: Global, row: &Row) -> Result<FixedPeer, Fail> {
     Ok(FixedPeer::new(all, Octets::new(alloc)))
 }
 
-/// Makes sure that a question for the users, asked of this peer, ends so.
+/// Makes sure that a question, asked of this peer, ends so.
 fn expect_end<P: Peer>(
     rt: &impl Abort,
     alloc: Global,
     peer: &mut P,
+    question: &Question,
     text: &str,
 ) -> Result<(), Fail> {
-    let found = told(alloc, asked(alloc, peer, &Question::Users))?;
+    let found = told(alloc, asked(alloc, peer, question))?;
     assert_eq!(rt; found.as_str(), text);
     Ok(())
 }
@@ -160,7 +162,18 @@ fn each_end_has_its_replies(rt: HostRuntime) -> Result<(), Fail> {
     let alloc = rt.alloc();
     for row in rows() {
         let mut peer = peer_of(alloc, row)?;
-        expect_end(&rt, alloc, &mut peer, row.text)?;
+        expect_end(&rt, alloc, &mut peer, &Question::Users, row.text)?;
+    }
+    Ok(())
+}
+
+#[test]
+fn a_listing_begins_again_where_a_list_is_refused(rt: HostRuntime) -> Result<(), Fail> {
+    let alloc = rt.alloc();
+    let files = Question::Files { user: None };
+    for row in file_rows() {
+        let mut peer = peer_of(alloc, row)?;
+        expect_end(&rt, alloc, &mut peer, &files, row.text)?;
     }
     Ok(())
 }

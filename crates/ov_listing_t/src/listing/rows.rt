@@ -103,11 +103,23 @@ const FILE: &[u8] = b"\
     \x1a\x7d\x37\x58\xce\xe1\xeb\x73\x56\x7e\x8e\xce\x1d\xa1\x49\x02\x45\x70\x25\xcf\x2c\
     \x4f\x9f\x3f\xb2\xa8\x34\x9f\x01\x00\x00\x00\x03";
 
+/// The page of f1.
+const FILE_1: &[u8] = b"\
+    \x87\x01\x02\x66\x31\x00\x00\x00\x02\x00\x00\x00\x02\x00\x00\x00\x05\x02\x0e\x44\xd4\
+    \x09\x81\x4d\xe9\x2b\x3d\xb3\xd7\x09\xb3\x27\xfa\x98\xa6\x33\x6b\x94\x21\x9b\x9f\x2d\
+    \x49\x53\x16\xd6\x73\x17\x6f\x01\x00\x00\x00\x03";
+
 /// The page of a file that is gone, which is no user's either.
 const GONE: &[u8] = b"\x87\x01\0";
 
 /// The list of a, b and c.
 const LIST: &[u8] = b"\x8f\0\x03\x01a\x01b\x01c";
+
+/// That there is no file of the name whose list was asked for, and that there is no such user, which
+/// is no answer to that.
+const NO_FILE: &[u8] = b"\x88\x03";
+
+const NO_USER: &[u8] = b"\x88\x02";
 
 /// That the server's memory ran out.
 const NO_MEMORY: &[u8] = b"\x8e";
@@ -209,7 +221,7 @@ pub fn questions_replaced() -> &'static [Asked] {
 }
 
 /// Replies, each this often in turn and all of them in this many rounds, the replies behind them, and
-/// what comes of a question for the users.
+/// what comes of a question.
 pub struct Row {
     pub rounds: usize,
     pub replies: &'static [(usize, &'static [u8])],
@@ -301,4 +313,103 @@ static ROWS: [Row; 11] = [
 /// How a question for the users ends.
 pub fn rows() -> &'static [Row] {
     &ROWS
+}
+
+static FILE_ROWS: [Row; 6] = [
+    // A file that is removed between its page and its list, in one try, in nine, and in eight of nine.
+    Row {
+        rounds: 1,
+        replies: &[
+            (1, HELLO_6),
+            (1, NO_PAGE),
+            (1, FILE_1),
+            (1, FILE),
+            (1, NO_PAGE),
+            (1, NO_FILE),
+        ],
+        last: &[
+            (1, HELLO_7),
+            (1, NO_PAGE),
+            (1, GONE),
+            (1, FILE),
+            (1, NO_PAGE),
+            (1, LIST),
+            (1, HELLO_7),
+        ],
+        text: "list f2 a,b,c\n",
+    },
+    Row {
+        rounds: 9,
+        replies: &[
+            (1, HELLO_6),
+            (1, NO_PAGE),
+            (1, FILE_1),
+            (1, NO_PAGE),
+            (1, NO_FILE),
+        ],
+        last: &[],
+        text: "Unsettled",
+    },
+    Row {
+        rounds: 8,
+        replies: &[
+            (1, HELLO_6),
+            (1, NO_PAGE),
+            (1, FILE_1),
+            (1, NO_PAGE),
+            (1, NO_FILE),
+        ],
+        last: &[
+            (1, HELLO_7),
+            (1, NO_PAGE),
+            (1, GONE),
+            (1, NO_PAGE),
+            (1, HELLO_7),
+        ],
+        text: "",
+    },
+    // Two tries that end otherwise: the list of the second file is refused, and the epoch moves.
+    Row {
+        rounds: 1,
+        replies: &[
+            (1, HELLO_6),
+            (1, NO_PAGE),
+            (1, FILE_1),
+            (1, FILE),
+            (1, NO_PAGE),
+            (1, LIST),
+            (1, NO_FILE),
+            (1, HELLO_6),
+            (2, NO_PAGE),
+            (1, HELLO_7),
+        ],
+        last: &[
+            (1, HELLO_7),
+            (1, NO_PAGE),
+            (1, FILE_1),
+            (1, GONE),
+            (1, NO_PAGE),
+            (1, LIST),
+            (1, HELLO_7),
+        ],
+        text: "list f1 a,b,c\n",
+    },
+    // An answer to another request, and a refusal that a list can't have.
+    Row {
+        rounds: 1,
+        replies: &[(1, HELLO_6), (1, NO_PAGE), (1, FILE_1), (1, NO_PAGE)],
+        last: &[(1, HELLO_6)],
+        text: "BadReply { at: 0 }",
+    },
+    Row {
+        rounds: 1,
+        replies: &[(1, HELLO_6), (1, NO_PAGE), (1, FILE_1), (1, NO_PAGE)],
+        last: &[(1, NO_USER)],
+        text: "BadReply { at: 1 }",
+    },
+];
+
+/// How a question for the files ends.
+pub fn file_rows() -> &'static [Row] {
+    &FILE_ROWS
 }
