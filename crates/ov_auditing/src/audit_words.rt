@@ -34,7 +34,7 @@ fn some_names(alloc: Global, list: &str) -> Result<Option<Names>, Memory>
 }
 
 // The audit of the users of this list.
-fn asked(alloc: Global, list: &str, server: bool) -> Result<Option<Asked>, Memory>
+fn asked_of(alloc: Global, list: &str, server: bool) -> Result<Option<Asked>, Memory>
     ensures found { IfOk result (λ found. IfSome found (λ asked.
         IsListOfSome list.now asked.names × (asked.server ≡ server))) }
     ensures none { IfOk result (λ found. IfNone found
@@ -57,7 +57,7 @@ fn asked_by(alloc: Global, audit: &str, list: &str, server: bool) -> Result<Opti
     if audit != "audit" {
         return Ok(None);
     }
-    asked(alloc, list, server)
+    asked_of(alloc, list, server)
 }
 
 // The audit that the server helps in, where the last word is `server`.

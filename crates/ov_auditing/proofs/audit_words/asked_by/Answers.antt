@@ -11,8 +11,8 @@ returns-clause-found c =
     let same : bytes_eq c.args.audit.now (codes "audit") ≡ true =
     true_of_not _ (sym c.ne.ensures ∙ c.if-ne.false) in
     let first = (bytes_eq-Decides c.args.audit.now (codes "audit")).0 same in
-    found_by c.asked.result _ _ (λ asked is. (first, is.0, is.1)) c.asked.ensures.found
+    found_by c.asked_of.result _ _ (λ asked is. (first, is.0, is.1)) c.asked_of.ensures.found
 
 pub returns-clause-none : goal.returns-clause-none
 returns-clause-none c =
-    none_by c.asked.result _ _ (λ none names first. none names) c.asked.ensures.none
+    none_by c.asked_of.result _ _ (λ none names first. none names) c.asked_of.ensures.none
