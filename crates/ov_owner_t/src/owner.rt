@@ -244,8 +244,8 @@ fn removed(alloc: Global, told: &[u8]) -> Result<Result<u32, OwnerFault>, Fail> 
 }
 
 /// Whether the reply was no answer to the request.
-fn is_bad_reply(result: Result<u32, OwnerFault>) -> bool {
-    match result {
+fn is_bad_reply(answer: Result<u32, OwnerFault>) -> bool {
+    match answer {
         Err(OwnerFault::BadReply { .. }) => true,
         _ => false,
     }
