@@ -96,17 +96,17 @@ module _ (master : List ℕ) (g : SealedHistory) (b : Brief) (c next : Catalogue
       (with_sealed g u, followed_next master g u c next seen followed is_u made_u later sees)
 
 -- why an update that was read isn't looked at
-pub fault_made : {T : Type 0} (reads : Option Image) (master : List ℕ) (old : Catalogue)
+pub fault_made : (T : Type 0) (reads : Option Image) (master : List ℕ) (old : Catalogue)
     (b : SpelledBrief) (new : Catalogue) (fault : BeginFault)
     → ((IsTaken old (numbered_brief (file_names_shown old) b) → ⊥) → TellsNothing reads)
     → MakesUpdate {T = T} master old b new (Err fault) → IsFaultOfStore reads fault
-fault_made reads master old b new DiskFailed untaken made = tt
-fault_made reads master old b new NotAStore untaken made = made
-fault_made reads master old b new (Damaged area place) untaken made = (made.0, untaken made.1)
-fault_made reads master old b new (BaseDiffers stored given) untaken made = made
-fault_made reads master old b new (SurfaceDiffers stored given) untaken made = made
-fault_made reads master old b new (ModeDiffers stored given) untaken made = made
-fault_made reads master old b new Memory untaken made = tt
+fault_made T reads master old b new DiskFailed untaken made = tt
+fault_made T reads master old b new NotAStore untaken made = made
+fault_made T reads master old b new (Damaged area place) untaken made = (made.0, untaken made.1)
+fault_made T reads master old b new (BaseDiffers stored given) untaken made = made
+fault_made T reads master old b new (SurfaceDiffers stored given) untaken made = made
+fault_made T reads master old b new (ModeDiffers stored given) untaken made = made
+fault_made T reads master old b new Memory untaken made = tt
 
 -- ---- an open store
 
