@@ -115,7 +115,7 @@ pub stays_read : {D : Type 0} (tells : DiskTells D) (s t : Opened D) (before fai
     → t ≡ record s { disk = t.disk } → IsUntouched tells s.disk t.disk
     → ((g : SealedHistory) → Serves tells g s → Serves tells g t)
     → IsCallOf tells s t before → (failed → before) → StaysAsItWas tells s t failed
-stays_read tells s t before failed kept untouched served call so = record {
+stays_read tells s t _ _ kept untouched served call so = record {
   kept = kept;
   untouched = untouched;
   served = served;
@@ -126,7 +126,7 @@ stays_read tells s t before failed kept untouched served call so = record {
 pub stays_then : {D : Type 0} (tells : DiskTells D) (old mid new : Opened D) (before failed : Type 0)
     → StaysAsItWas tells old mid before → StaysAsItWas tells mid new failed
     → StaysAsItWas tells old new failed
-stays_then {D} tells old mid new before failed one two = record {
+stays_then {D} tells old mid new _ _ one two = record {
   kept = two.kept ∙ ap {A = Opened D} (λ s. record s { disk = new.disk }) one.kept;
   untouched = looks_then tells old.disk mid.disk new.disk one.untouched two.untouched;
   served = λ g serves. two.served g (one.served g serves);
