@@ -14,7 +14,7 @@ use Rattle.ov_history.specs.Sealed.{SealedHistory}
 use Rattle.ov_images.specs.Images.{Keeps, keys_of}
 use Rattle.ov_machine.specs.Machine.{AreMasters}
 use Rattle.ov_script.specs.WrittenLists.{IsList}
-use Rattle.ov_script.proofs.ListTexts.{list_once}
+use Rattle.ov_auditing.proofs.ListTexts.{list_once}
 use Rattle.ov_auditing.specs.AuditWords.{IsAudit, IsListOfSome, server_words}
 use Rattle.ov_auditing.specs.Promises.{ForEachKept, TellsOf}
 use Rattle.ov_auditing.specs.declared.audit_words.Asked.{Asked}
