@@ -1,13 +1,15 @@
 -- A text is one list of names.
-use Rattle.std.proofs.Common.{◌≡◌, ◌≢◌, ℕ, true, false, List, [], ◌∷◌, ◌++◌, ◌&&◌, length, refl}
-use Rattle.std.proofs.Common.{sym, ◌∙◌, ap, subst, append-nil}
+use Rattle.std.proofs.Common.{◌≡◌, ◌≢◌, ℕ, true, false, List, [], ◌∷◌, ◌++◌, ◌&&◌, ◌==◌, length, refl}
+use Rattle.std.proofs.Common.{sym, ◌∙◌, ap, arith, subst, append-nil}
 use Rattle.std.specs.Prelude.{codes, nat_lt}
 use Rattle.std.specs.List.{list_all}
 use Rattle.std.proofs.lemmas.Bool.{and_parts}
+use Rattle.std.proofs.lemmas.Bool.Decides.{nat_tests}
 use Rattle.ov_base.specs.Names.{is_letter_or_digit, is_name_byte, IsName}
 use Rattle.ov_script.specs.LineFeeds.{Lacks}
 use Rattle.ov_script.specs.WrittenLists.{AreNames, IsList, list_text, with_commas, without_repeats}
 use Rattle.ov_script.proofs.ByteTexts.{lacks_not, split_once}
+use Rattle.ov_auditing.specs.AuditWords.{IsListOfSome}
 
 -- ---- names have no comma
 
@@ -75,3 +77,19 @@ pub list_once : (text : List ℕ) (names others : List (List ℕ)) → IsList te
     → IsList text others → names ≡ others
 list_once text names others (xs, p, e, is) (ys, q, f, js) =
     is ∙ ap without_repeats (said_once xs ys p q (sym e ∙ f)) ∙ sym js
+
+-- ---- a list with one name at least
+
+pub is_list : (text : List ℕ) (names : List (List ℕ)) → IsListOfSome text names
+    → IsList text names
+is_list text [] some = absurd some
+is_list text (name ∷ names) some = some
+
+-- the text of a list without names is none of a list that has one
+pub none_in_empty : (text : List ℕ) (found : List (List ℕ)) → IsList text found
+    → (length found == 0) ≡ true → (names : List (List ℕ)) → IsListOfSome text names → ⊥
+none_in_empty text [] is empty [] some = some
+none_in_empty text [] is empty (name ∷ names) some =
+    let same : [] ≡ name ∷ names = list_once text [] (name ∷ names) is some in
+    absurd (cc same)
+none_in_empty text (first ∷ found) is empty names some = absurd (grind (arith, nat_tests, empty))
