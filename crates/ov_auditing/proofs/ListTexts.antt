@@ -1,6 +1,6 @@
 -- A text is one list of names.
-use Rattle.std.proofs.Common.{◌≡◌, ◌≢◌, ℕ, true, false, List, [], ◌∷◌, ◌++◌, ◌&&◌, ◌==◌, length, refl}
-use Rattle.std.proofs.Common.{sym, ◌∙◌, ap, arith, subst, append-nil}
+use Rattle.std.proofs.Common.{◌≡◌, ◌≢◌, ℕ, true, false, List, [], ◌∷◌, ◌++◌, ◌&&◌, ◌==◌}
+use Rattle.std.proofs.Common.{length, refl, sym, ◌∙◌, ap, arith, subst, append-nil}
 use Rattle.std.specs.Prelude.{codes, nat_lt}
 use Rattle.std.specs.List.{list_all}
 use Rattle.std.proofs.lemmas.Bool.{and_parts}
