@@ -1,4 +1,4 @@
-use Rattle.std.proofs.Common.{◌≡◌, arith, inl, inr, refl, rules, subst}
+use Rattle.std.proofs.Common.{◌≡◌, ◌∙◌, ℕ, List, ap, arith, inl, inr, refl, subst}
 use Rattle.ov_history.specs.Catalogue.{Catalogue}
 use Rattle.ov_machine.specs.Machine.{plain_masters}
 use Rattle.ov_answering.proofs.Statuses.{ends_or_so, not_code_or, script_seven, script_six}
@@ -10,16 +10,23 @@ use Rattle.ov_auditing.proofs.auditing.audit_store.Goals as goal
 
 pub print_found-requires-clause-named : goal.print_found-requires-clause-named
 print_found-requires-clause-named g c =
-    subst (λ (x : Catalogue). AreUsersOf x.users c.args.asked.now.names c.in-Some.users)
-    (search rules) c.in-Some.ensures.found
+    let names : List (List ℕ) = c.args.asked.now.names in
+    subst (λ (x : Catalogue). AreUsersOf x.users names c.in-Some.users) c.state.ensures
+    (subst
+    (λ (these : List (List ℕ)). AreUsersOf c.state.result.now.catalogue.users these
+    c.in-Some.users)
+    c.as_slice.ensures.names c.in-Some.ensures.found)
 
 pub returns-in-None-clause-tells : goal.returns-in-None-clause-tells
 returns-in-None-clause-tells g c = λ h serves i read.
+    let names : List (List ℕ) = c.args.asked.now.names in
     missing_tells c.args.asked.now (plain_masters c.args.masters.now) h _ _ c.put_no_user.result _
     (λ six. inl (c.put_no_user.ensures.put.write six)) g.D.Disk.tells c.args.store.now
-    c.requires serves c.epoch.result (search rules)
-    (subst (λ (x : Catalogue). IsMissing x.users c.args.asked.now.names) (search rules)
-    c.in-None.ensures.none)
+    c.requires serves c.epoch-epoch.result
+    (c.epoch-epoch.ensures ∙ ap (λ (x : Catalogue). x.epoch) c.state-in-None.ensures)
+    (subst (λ (x : Catalogue). IsMissing x.users names) c.state.ensures
+    (subst (λ (these : List (List ℕ)). IsMissing c.state.result.now.catalogue.users these)
+    c.as_slice.ensures.names c.in-None.ensures.none))
     c.put_no_user.ensures.ends
 
 pub returns-in-None-clause-opened : goal.returns-in-None-clause-opened

@@ -1,5 +1,6 @@
 use Rattle.std.proofs.Common.{◌≡◌, ◌∙◌, Err, ap, inl, inr, refl, rules, sym, arith}
 use Rattle.ov_base.specs.declared.key.Key.{Key}
+use Rattle.ov_history.specs.Catalogue.{Catalogue}
 use Rattle.ov_images.specs.Images.{Keys}
 use Rattle.ov_machine.specs.Machine.{plain_masters}
 use Rattle.ov_answering.proofs.Beginning.{disk_said}
@@ -23,7 +24,8 @@ pub returns-in-Ok-clause-tells : goal.returns-in-Ok-clause-tells
 returns-in-Ok-clause-tells g c = λ h serves i read.
     found_tells c.args.asked.now (plain_masters c.args.masters.now) h _ _ c.put_findings.result _
     (λ six. inl (c.put_findings.ensures.put.write six)) g.D.Disk.tells c.args.store.now
-    c.requires.keys serves c.epoch.result (search rules) i read c.args.users c.in-Ok.findings
+    c.requires.keys serves c.epoch-epoch.result
+    (c.epoch-epoch.ensures ∙ ap (λ (x : Catalogue). x.epoch) c.state.ensures) i read c.args.users c.in-Ok.findings
     c.requires.named c.in-Ok.ensures.found c.put_findings.ensures.ends
 
 pub returns-in-Err-clause-tells : goal.returns-in-Err-clause-tells
