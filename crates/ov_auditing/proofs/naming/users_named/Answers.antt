@@ -20,7 +20,7 @@ loop-name-preserved c =
     ∙ ap (λ (x : List ℕ). take i names ++ x ∷ []) (sym c.name-item.is) in
     subst (λ (these : List (List ℕ)). AreUsersOf users these c.with-users.result) (sym more)
     (subst (λ set. AreUsersOf users (take i names ++ name ∷ []) set) (sym c.with-users.ensures)
-    (one_more_named users (take i names) name c.loop-name.users c.in_ok-user.field-0
+    (one_more_named users (take i names) name c.loop-name.users c.in_ok-user.user
     c.in_ok-user.ensures.0 c.in_ok-user.ensures.1 c.loop-name.invariant))
 
 pub returns-clause-found : goal.returns-clause-found
