@@ -1,5 +1,5 @@
 -- Before the first update is looked at.
-use Rattle.std.proofs.Common.{◌≡◌, ◌-◌, ◌∙◌, ℕ, [], ap, arith, length, refl, subst}
+use Rattle.std.proofs.Common.{◌≡◌, ◌-◌, ◌∙◌, ℕ, List, [], ap, arith, length, refl, subst}
 use Rattle.ov_audit.specs.Seen.{Seen}
 use Rattle.ov_base.specs.declared.mode.Mode.{Mode}
 use Rattle.ov_disk.proofs.Runs.{untouched}

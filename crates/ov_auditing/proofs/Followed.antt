@@ -2,7 +2,8 @@
 use Rattle.std.proofs.Common.{◌≡◌, ◌+◌, ℕ, Bool, List, [], ◌∷◌, ◌++◌, length, refl, sym, ◌∙◌, ap, subst, arith}
 use Rattle.std.proofs.Common.{length-append}
 use Rattle.ov_audit.specs.Seen.{IsNext, Seen, SeesNext}
-use Rattle.ov_exposure.specs.Auditing.{AreMembers, AreNext, Finding, HasSeen, Note, findings_from}
+use Rattle.ov_exposure.specs.Auditing.{AreMembers, AreNext, Finding, HasSeen, MayFollow, Note}
+use Rattle.ov_exposure.specs.Auditing.{findings_from}
 use Rattle.ov_exposure.specs.Exposure.{AreUsers, CanRead, known_at}
 use Rattle.ov_exposure.proofs.Finding.{findings_are_in_order, findings_are_those}
 use Rattle.ov_exposure.proofs.FirstMoments.{exposed_is_readable}
@@ -64,7 +65,7 @@ module _ (master : List ℕ) (g : SealedHistory) (u : SealedUpdate) (c next : Ca
           more,
           length-append (outer_of g).updates (v ∷ []),
         ),
-        subst (λ (d : Catalogue). _) (sym stands_then.1)
+        subst (λ (d : Catalogue). MayFollow seen.notes d) (sym stands_then.1)
             (next_may_follow master g u users seen.notes stands_then.0
             (followed.seen_all users are)),
       )

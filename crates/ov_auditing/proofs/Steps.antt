@@ -1,9 +1,10 @@
 -- One update of a store, as its record spells it, is followed.
 use Rattle.std.proofs.Common.{◌≡◌, ◌+◌, ◌≤◌, ◌∙◌, ℕ, List, [], ◌∷◌, ◌++◌, ap, append_assoc, arith}
 use Rattle.std.proofs.Common.{length, subst, sym, take}
-use Rattle.std.specs.Prelude.{None, Ok, Some}
+use Rattle.std.specs.Prelude.{Err, None, Ok, Option, Some}
 use Rattle.std.proofs.lemmas.List.{take_all}
 use Rattle.ov_audit.specs.Seen.{IsNext, Seen, SeesNext}
+use Rattle.ov_disk.specs.Disk.{Image}
 use Rattle.ov_disk.specs.Moments.{IsUntouched}
 use Rattle.ov_disk.specs.Tells.{DiskTells}
 use Rattle.ov_disk.proofs.Runs.{looks_then}
@@ -26,8 +27,12 @@ use Rattle.ov_store.specs.Briefs.{IsUpdateAt, ReadsUpdate}
 use Rattle.ov_store.specs.Opened.{Opened, Serves}
 use Rattle.ov_store.specs.Updating.{IsCallOf}
 use Rattle.ov_store.specs.Owners.{with_first}
+use Rattle.ov_store.specs.declared.fault.BeginFault.{BeginFault}
+use Rattle.ov_store.specs.declared.fault.BeginFault.TheVariants.{Disk as DiskFailed, NotAStore}
+use Rattle.ov_store.specs.declared.fault.BeginFault.TheVariants.{Damaged, BaseDiffers}
+use Rattle.ov_store.specs.declared.fault.BeginFault.TheVariants.{SurfaceDiffers, ModeDiffers, Memory}
 use Rattle.ov_auditing.specs.Following.{FollowsEach, FollowsFirst, FollowsNext, FollowsOne}
-use Rattle.ov_auditing.specs.Following.{HasFollowed, StaysAsItWas}
+use Rattle.ov_auditing.specs.Following.{HasFollowed, IsFaultOfStore, MakesUpdate, StaysAsItWas}
 use Rattle.ov_auditing.proofs.Followed.{followed_next, may_look}
 use Rattle.ov_auditing.proofs.Texts.{some_update}
 
@@ -90,6 +95,19 @@ module _ (master : List ℕ) (g : SealedHistory) (b : Brief) (c next : Catalogue
   some_followed later sees =
       (with_sealed g u, followed_next master g u c next seen followed is_u made_u later sees)
 
+-- why an update that was read isn't looked at
+pub fault_made : {T : Type 0} (reads : Option Image) (master : List ℕ) (old : Catalogue)
+    (b : SpelledBrief) (new : Catalogue) (fault : BeginFault)
+    → ((IsTaken old (numbered_brief (file_names_shown old) b) → ⊥) → TellsNothing reads)
+    → MakesUpdate {T = T} master old b new (Err fault) → IsFaultOfStore reads fault
+fault_made reads master old b new DiskFailed untaken made = tt
+fault_made reads master old b new NotAStore untaken made = made
+fault_made reads master old b new (Damaged area place) untaken made = (made.0, untaken made.1)
+fault_made reads master old b new (BaseDiffers stored given) untaken made = made
+fault_made reads master old b new (SurfaceDiffers stored given) untaken made = made
+fault_made reads master old b new (ModeDiffers stored given) untaken made = made
+fault_made reads master old b new Memory untaken made = tt
+
 -- ---- an open store
 
 -- a read leaves the store as it was
@@ -108,8 +126,8 @@ stays_read tells s t before failed kept untouched served call so = record {
 pub stays_then : {D : Type 0} (tells : DiskTells D) (old mid new : Opened D) (before failed : Type 0)
     → StaysAsItWas tells old mid before → StaysAsItWas tells mid new failed
     → StaysAsItWas tells old new failed
-stays_then tells old mid new before failed one two = record {
-  kept = two.kept ∙ ap (λ s. record s { disk = new.disk }) one.kept;
+stays_then {D} tells old mid new before failed one two = record {
+  kept = two.kept ∙ ap {A = Opened D} (λ s. record s { disk = new.disk }) one.kept;
   untouched = looks_then tells old.disk mid.disk new.disk one.untouched two.untouched;
   served = λ g serves. two.served g (one.served g serves);
   call = (

@@ -1,13 +1,13 @@
-use Rattle.std.proofs.Common.{rules, ◌≡◌, ◌∙◌, ◌-◌, Err, List, Option, ap, arith, subst, sym}
+use Rattle.std.proofs.Common.{rules, ◌≡◌, ◌∙◌, ◌-◌, Bool, Err, List, Option, ap, arith, subst, sym}
 use Rattle.std.proofs.lemmas.Result.{err_from_is_err_and}
 use Rattle.ov_disk.specs.Disk.{Image}
 use Rattle.std.proofs.lemmas.List.{take_all}
-use Rattle.ov_exposure.specs.Auditing.{AreMembers, Finding}
+use Rattle.ov_exposure.specs.Auditing.{AreMembers, Finding, findings_from}
 use Rattle.ov_history.specs.Sent.{SealedUpdate}
 use Rattle.ov_store.specs.Owners.{with_first}
 use Rattle.ov_auditing.specs.Exposed.{AreFindings}
 use Rattle.ov_store.specs.declared.fault.BeginFault.{BeginFault}
-use Rattle.ov_store.specs.declared.fault.BeginFault.TheVariants.{Disk as DiskFailed}
+use Rattle.ov_store.specs.declared.fault.BeginFault.TheVariants.{Disk as DiskFailed, Memory as NoMemory}
 use Rattle.ov_auditing.specs.Following.{HasFollowed, IsFaultOfStore}
 use Rattle.ov_auditing.proofs.Beginnings.{begins_any, begins_each, begins_still}
 use Rattle.ov_auditing.proofs.Endings.{stays_for}
@@ -69,11 +69,16 @@ returns-clause-found g c h serves i read users are there =
     c.updates.state.catalogue c.updates.audit)
     (take_all c.updates.i h.updates
     (omega (arith, c.updates-updates.ensures.count h serves i read))) followed in
+    let found : AreFindings c.updates.audit.server c.args.store.now.keys.surface h users
+    (findings_from c.updates.audit.server 0 c.updates.audit.notes) =
+    findings_are c.updates.audit.server c.args.store.now.keys.surface h c.updates.state.catalogue
+    c.updates.audit users whole
+    (subst (λ set. AreMembers users set) (sym c.updates.invariant.users) are) there in
     subst (λ (findings : List Finding). AreFindings c.args.server c.args.store.now.keys.surface h
     users findings) (sym c.in_ok-findings.ensures)
-    (findings_are c.args.server c.args.store.now.keys.surface h c.updates.state.catalogue
-    c.updates.audit users whole
-    (subst (λ set. AreMembers users set) (sym c.updates.invariant.users) are) there)
+    (subst (λ (helped : Bool). AreFindings helped c.args.store.now.keys.surface h users
+    (findings_from c.updates.audit.server 0 c.updates.audit.notes)) c.updates.invariant.server
+    found)
 
 -- ---- what the store is like then
 
@@ -101,3 +106,22 @@ returns-in_err-look_at_next-clause-fault g c =
     IsFaultOfStore (g.D.Disk.tells.reads c.args.store.now.disk) fault) (sym p.2)
     (subst (λ (reads : Option Image). IsFaultOfStore reads c.in_err-look_at_next.field-0.0)
     c.updates.invariant.stays.untouched.reads_same c.in_err-look_at_next.ensures.fault))
+
+-- ---- memory is refused for the findings
+
+pub returns-in_err-findings-clause-fault : goal.returns-in_err-findings-clause-fault
+returns-in_err-findings-clause-fault g c =
+    let p = err_from_is_err_and c.from_residual-in_err-findings.result
+    c.from_residual-in_err-findings.ensures.1 in
+    let memory : p.0 ≡ NoMemory = p.2 in
+    rw p.1 (subst (λ (fault : BeginFault).
+    IsFaultOfStore (g.D.Disk.tells.reads c.args.store.now.disk) fault) (sym memory) tt)
+
+pub returns-in_err-findings-clause-stays : goal.returns-in_err-findings-clause-stays
+returns-in_err-findings-clause-stays g c =
+    let p = err_from_is_err_and c.from_residual-in_err-findings.result
+    c.from_residual-in_err-findings.ensures.1 in
+    let memory : p.0 ≡ NoMemory = p.2 in
+    stays_for g.D.Disk.tells c.args.store.now c.updates.store _ _
+    (λ is. let failed : p.0 ≡ DiskFailed = cc (p.1, is) in absurd (cc (memory, failed)))
+    c.updates.invariant.stays

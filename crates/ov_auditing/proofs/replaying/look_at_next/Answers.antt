@@ -3,11 +3,12 @@ use Rattle.std.proofs.lemmas.Result.{err_from_is_err_and}
 use Rattle.ov_history.specs.Briefs.{Brief, numbered_brief}
 use Rattle.ov_history.specs.Catalogue.{file_names_shown}
 use Rattle.ov_record.specs.Briefs.{plain_brief}
+use Rattle.ov_store.specs.declared.fault.BeginFault.{BeginFault}
 use Rattle.ov_store.specs.declared.fault.BeginFault.TheVariants.{Disk as DiskFailed}
-use Rattle.ov_auditing.specs.Following.{MakesUpdate}
+use Rattle.ov_auditing.specs.Following.{IsFaultOfStore, MakesUpdate}
 use Rattle.ov_auditing.proofs.Endings.{stays_for}
 use Rattle.ov_auditing.proofs.Steps.{may_look_at, next_followed, none_followed, some_followed}
-use Rattle.ov_auditing.proofs.Steps.{told_taken}
+use Rattle.ov_auditing.proofs.Steps.{fault_made, told_taken}
 use Rattle.ov_auditing.proofs.replaying.look_at_next.Goals as goal
 
 -- the state after the update is the next that the audit looks at
@@ -16,7 +17,7 @@ see-requires g c =
     let master = c.args.surface.now.bytes in
     let s = c.args.state.now.catalogue in
     let b : Brief = numbered_brief (file_names_shown s) (plain_brief c.in-Some.update) in
-    let made = c.in_ok-make.ensures in
+    let made = c.in_ok-make-in-Some.ensures in
     may_look_at master c.requires.any.0 b s c.make.new.state.catalogue c.args.audit.now
     c.requires.any.1 made.0 made.1 c.requires.members.0 c.requires.members.1
 
@@ -25,32 +26,40 @@ returns-in_ok-see-in-Some-clause-any g c =
     let master = c.args.surface.now.bytes in
     let s = c.args.state.now.catalogue in
     let b : Brief = numbered_brief (file_names_shown s) (plain_brief c.in-Some.update) in
-    let made = c.in_ok-make.ensures in
+    let made = c.in_ok-make-in-Some.ensures in
     some_followed master c.requires.any.0 b s c.make.new.state.catalogue c.args.audit.now
-    c.requires.any.1 made.0 made.1 c.see.new.self c.in_ok-see.ensures.seen
+    c.requires.any.1 made.0 made.1 c.see.new.self c.in_ok-see-in-Some.ensures.seen
 
 pub returns-in_ok-see-in-Some-clause-followed : goal.returns-in_ok-see-in-Some-clause-followed
 returns-in_ok-see-in-Some-clause-followed g c =
     let s = c.args.state.now.catalogue in
+    let reads = rw c.in-Some.is at c.in_ok-update.ensures.update in
     next_followed g.D.Disk.tells c.args.store.now c.args.i s c.args.audit.now c.in-Some.update
-    c.in_ok-read_update.ensures.update c.make.new.state.catalogue c.see.new.self
+    reads c.make.new.state.catalogue c.see.new.self
     (subst (λ master. MakesUpdate master s (plain_brief c.in-Some.update)
     c.make.new.state.catalogue c.make.result) c.requires.master c.make.ensures).1
-    c.in_ok-see.ensures.seen
+    c.in_ok-see-in-Some.ensures.seen
 
 pub returns-in-None-clause-followed : goal.returns-in-None-clause-followed
 returns-in-None-clause-followed g c =
+    let reads = rw c.in-None.is at c.in_ok-update.ensures.update in
     none_followed g.D.Disk.tells c.args.store.now c.args.i c.args.state.now.catalogue
-    c.args.audit.now c.in_ok-read_update.ensures.update
+    c.args.audit.now reads
 
 -- an update that isn't taken is none of a disk that tells its bytes
 pub returns-in_err-make-in-Some-clause-fault : goal.returns-in_err-make-in-Some-clause-fault
-returns-in_err-make-in-Some-clause-fault g c = (
-  c.in_err-make.ensures.0,
-  told_taken g.D.Disk.tells c.args.store.now c.args.i c.args.state.now.catalogue
-      c.args.audit.now c.in-Some.update c.in_ok-read_update.ensures.update c.requires.followed
-      c.in_err-make.ensures.1,
-)
+returns-in_err-make-in-Some-clause-fault g c =
+    let p = err_from_is_err_and c.from_residual-in_err-make-in-Some.result
+    c.from_residual-in_err-make-in-Some.ensures.1 in
+    let reads = g.D.Disk.tells.reads c.args.store.now.disk in
+    let found = rw c.in-Some.is at c.in_ok-update.ensures.update in
+    rw p.1 (subst (λ (fault : BeginFault). IsFaultOfStore reads fault) (sym p.2)
+    (fault_made reads c.args.surface.now.bytes c.args.state.now.catalogue
+    (plain_brief c.in-Some.update) c.make.new.state.catalogue c.in_err-make-in-Some.field-0.0
+    (λ untaken.
+    told_taken g.D.Disk.tells c.args.store.now c.args.i c.args.state.now.catalogue
+    c.args.audit.now c.in-Some.update found c.requires.followed untaken)
+    c.in_err-make-in-Some.ensures))
 
 -- ---- what the store is like then
 
@@ -64,10 +73,10 @@ returns-in-None-clause-stays g c =
     stays_for g.D.Disk.tells c.args.store.now c.read_update.new.store _ _ (λ is. absurd (cc is))
     c.read_update.ensures.stays
 
-pub returns-in_err-read_update-clause-stays : goal.returns-in_err-read_update-clause-stays
-returns-in_err-read_update-clause-stays g c =
+pub returns-in_err-update-clause-stays : goal.returns-in_err-update-clause-stays
+returns-in_err-update-clause-stays g c =
     let p = err_from_is_err_and c.from_residual.result c.from_residual.ensures.1 in
     stays_for g.D.Disk.tells c.args.store.now c.read_update.new.store _ _
     (λ is. let failed : p.0 ≡ DiskFailed = cc (p.1, is) in
-    c.in_err-read_update.was ∙ ap Err (sym p.2 ∙ failed))
+    c.in_err-update.was ∙ ap Err (sym p.2 ∙ failed))
     c.read_update.ensures.stays
