@@ -14,14 +14,10 @@ use Rattle.ov_history.specs.Sealed.{SealedHistory}
 use Rattle.ov_images.specs.Images.{Keeps, keys_of}
 use Rattle.ov_machine.specs.Machine.{AreMasters}
 use Rattle.ov_script.specs.WrittenLists.{IsList}
-use Rattle.ov_script.proofs.ListTexts.{list_once}
-use Rattle.ov_auditing.specs.AuditWords.{IsAudit, IsListOfSome, server_words}
+use Rattle.ov_auditing.proofs.ListTexts.{is_list, list_once}
+use Rattle.ov_auditing.specs.AuditWords.{IsAudit, server_words}
 use Rattle.ov_auditing.specs.Promises.{ForEachKept, TellsOf}
 use Rattle.ov_auditing.specs.declared.audit_words.Asked.{Asked}
-
-is_list : (text : List ℕ) (names : List (List ℕ)) → IsListOfSome text names → IsList text names
-is_list text [] some = absurd some
-is_list text (name ∷ names) some = some
 
 server_once : (one other : Bool) → server_words one ≡ server_words other → one ≡ other
 server_once true true same = refl

@@ -7,5 +7,6 @@ pub mod OpenStores
 pub mod Beginnings
 pub mod Refusals
 pub mod Endings
+mod ListTexts
 pub mod Asking
 pub mod WordTexts

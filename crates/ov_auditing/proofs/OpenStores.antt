@@ -7,6 +7,7 @@ use Rattle.ov_disk.specs.Disk.{Image, Told}
 use Rattle.ov_disk.specs.Tells.{DiskTells}
 use Rattle.ov_history.specs.Masters.{Masters}
 use Rattle.ov_history.specs.Sealed.{SealedHistory}
+use Rattle.ov_history.specs.Texts.{BriefHistory}
 use Rattle.ov_images.specs.Images.{IsImageOf, Keeps, Keys, keys_of}
 use Rattle.ov_images.proofs.Keeping.{keeps_once}
 use Rattle.ov_journal.specs.Standing.{IsUnborn}
@@ -16,7 +17,8 @@ use Rattle.ov_auditing.specs.Promises.{IsOpenOf}
 -- an image keeps histories of one mode
 pub mode_kept : (k : Keys) (g h : SealedHistory) (i : Image) → Keeps k g i → Keeps k h i
     → g.mode ≡ h.mode
-mode_kept k g h i one other = ap (λ (x : SealedHistory). x.mode) (keeps_once k g h i one other)
+mode_kept k g h i one other =
+    ap (λ (b : BriefHistory). b.mode) (keeps_once k g h i one other).0
 
 -- an image on which a store was begun keeps the history for which it stands
 pub kept_born : (k : Keys) (g : SealedHistory) (i : Image) → (IsUnborn i.book → ⊥) → IsImageOf k g i

@@ -70,8 +70,8 @@ open_refused k ks i fault same values why =
 
 another_mode : (stored given : Mode)
     → (ModeDiffers stored given ≡ DiskFailed) ⊎ (ModeDiffers stored given ≡ NoMemory) → ⊥
-another_mode stored given (inl no) = absurd (cc no)
-another_mode stored given (inr no) = absurd (cc no)
+another_mode stored given (inl same) = absurd (cc same)
+another_mode stored given (inr same) = absurd (cc same)
 
 -- what is said of an image in the mode of the store that was opened on it is so in any
 module _ (k : Masters) (i : Image) (born : IsUnborn i.book → ⊥) (mode : Mode)
