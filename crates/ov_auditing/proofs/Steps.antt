@@ -96,17 +96,17 @@ module _ (master : List ℕ) (g : SealedHistory) (b : Brief) (c next : Catalogue
       (with_sealed g u, followed_next master g u c next seen followed is_u made_u later sees)
 
 -- why an update that was read isn't looked at
-pub fault_made : {T : Type 0} (reads : Option Image) (master : List ℕ) (old : Catalogue)
+pub fault_made : (T : Type 0) (reads : Option Image) (master : List ℕ) (old : Catalogue)
     (b : SpelledBrief) (new : Catalogue) (fault : BeginFault)
     → ((IsTaken old (numbered_brief (file_names_shown old) b) → ⊥) → TellsNothing reads)
     → MakesUpdate {T = T} master old b new (Err fault) → IsFaultOfStore reads fault
-fault_made reads master old b new DiskFailed untaken made = tt
-fault_made reads master old b new NotAStore untaken made = made
-fault_made reads master old b new (Damaged area place) untaken made = (made.0, untaken made.1)
-fault_made reads master old b new (BaseDiffers stored given) untaken made = made
-fault_made reads master old b new (SurfaceDiffers stored given) untaken made = made
-fault_made reads master old b new (ModeDiffers stored given) untaken made = made
-fault_made reads master old b new Memory untaken made = tt
+fault_made T reads master old b new DiskFailed untaken made = tt
+fault_made T reads master old b new NotAStore untaken made = made
+fault_made T reads master old b new (Damaged area place) untaken made = (made.0, untaken made.1)
+fault_made T reads master old b new (BaseDiffers stored given) untaken made = made
+fault_made T reads master old b new (SurfaceDiffers stored given) untaken made = made
+fault_made T reads master old b new (ModeDiffers stored given) untaken made = made
+fault_made T reads master old b new Memory untaken made = tt
 
 -- ---- an open store
 
@@ -115,7 +115,7 @@ pub stays_read : {D : Type 0} (tells : DiskTells D) (s t : Opened D) (before fai
     → t ≡ record s { disk = t.disk } → IsUntouched tells s.disk t.disk
     → ((g : SealedHistory) → Serves tells g s → Serves tells g t)
     → IsCallOf tells s t before → (failed → before) → StaysAsItWas tells s t failed
-stays_read tells s t before failed kept untouched served call so = record {
+stays_read tells s t _ _ kept untouched served call so = record {
   kept = kept;
   untouched = untouched;
   served = served;
@@ -126,7 +126,7 @@ stays_read tells s t before failed kept untouched served call so = record {
 pub stays_then : {D : Type 0} (tells : DiskTells D) (old mid new : Opened D) (before failed : Type 0)
     → StaysAsItWas tells old mid before → StaysAsItWas tells mid new failed
     → StaysAsItWas tells old new failed
-stays_then {D} tells old mid new before failed one two = record {
+stays_then {D} tells old mid new _ _ one two = record {
   kept = two.kept ∙ ap {A = Opened D} (λ s. record s { disk = new.disk }) one.kept;
   untouched = looks_then tells old.disk mid.disk new.disk one.untouched two.untouched;
   served = λ g serves. two.served g (one.served g serves);

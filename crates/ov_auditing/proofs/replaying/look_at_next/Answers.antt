@@ -1,11 +1,12 @@
-use Rattle.std.proofs.Common.{◌≡◌, ◌∙◌, Err, ap, subst, sym}
+use Rattle.std.proofs.Common.{◌≡◌, ◌∙◌, ℕ, Err, List, ap, subst, sym}
+use Rattle.std.specs.Prelude.{⊤}
 use Rattle.std.proofs.lemmas.Result.{err_from_is_err_and}
 use Rattle.ov_history.specs.Briefs.{Brief, numbered_brief}
-use Rattle.ov_history.specs.Catalogue.{file_names_shown}
+use Rattle.ov_history.specs.Catalogue.{catalogue_after, file_names_shown}
 use Rattle.ov_record.specs.Briefs.{plain_brief}
 use Rattle.ov_store.specs.declared.fault.BeginFault.{BeginFault}
 use Rattle.ov_store.specs.declared.fault.BeginFault.TheVariants.{Disk as DiskFailed}
-use Rattle.ov_auditing.specs.Following.{IsFaultOfStore, MakesUpdate}
+use Rattle.ov_auditing.specs.Following.{IsFaultOfStore}
 use Rattle.ov_auditing.proofs.Endings.{stays_for}
 use Rattle.ov_auditing.proofs.Steps.{may_look_at, next_followed, none_followed, some_followed}
 use Rattle.ov_auditing.proofs.Steps.{fault_made, told_taken}
@@ -36,8 +37,9 @@ returns-in_ok-see-in-Some-clause-followed g c =
     let reads = rw c.in-Some.is at c.in_ok-update.ensures.update in
     next_followed g.D.Disk.tells c.args.store.now c.args.i s c.args.audit.now c.in-Some.update
     reads c.make.new.state.catalogue c.see.new.self
-    (subst (λ master. MakesUpdate master s (plain_brief c.in-Some.update)
-    c.make.new.state.catalogue c.make.result) c.requires.master c.make.ensures).1
+    (subst (λ (master : List ℕ). c.make.new.state.catalogue
+    ≡ catalogue_after master s (numbered_brief (file_names_shown s) (plain_brief c.in-Some.update)))
+    c.requires.master c.in_ok-make-in-Some.ensures.1)
     c.in_ok-see-in-Some.ensures.seen
 
 pub returns-in-None-clause-followed : goal.returns-in-None-clause-followed
@@ -54,7 +56,7 @@ returns-in_err-make-in-Some-clause-fault g c =
     let reads = g.D.Disk.tells.reads c.args.store.now.disk in
     let found = rw c.in-Some.is at c.in_ok-update.ensures.update in
     rw p.1 (subst (λ (fault : BeginFault). IsFaultOfStore reads fault) (sym p.2)
-    (fault_made reads c.args.surface.now.bytes c.args.state.now.catalogue
+    (fault_made ⊤ reads c.args.surface.now.bytes c.args.state.now.catalogue
     (plain_brief c.in-Some.update) c.make.new.state.catalogue c.in_err-make-in-Some.field-0.0
     (λ untaken.
     told_taken g.D.Disk.tells c.args.store.now c.args.i c.args.state.now.catalogue
