@@ -18,8 +18,7 @@ use Rattle.ov_auditing.proofs.auditing.audit.Goals as goal
 
 pub returns-in-Ok-Some-clause-tells : goal.returns-in-Ok-Some-clause-tells
 returns-in-Ok-Some-clause-tells g c =
-    lent_tells g.D.Disk.tells
-    (record { ref_ptr = c.args.disk.ref_ptr; ghost_name = _; now = c.args.disk.now })
+    lent_tells g.D.Disk.tells c.args.disk
     c.audit_with_keys.result.1 _ (search rules) (g.D.Disk.tells.reads c.args.disk.now)
     c.args.words.now (g.K.Source.tells.left c.args.keys.now) c.in-Ok-Some.asked
     (rw c.in-Ok-Some.field-0-is at c.in-Ok-Some.ensures.found) c.audit_with_keys.result.0
