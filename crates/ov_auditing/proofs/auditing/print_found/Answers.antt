@@ -1,4 +1,4 @@
-use Rattle.std.proofs.Common.{◌≡◌, ◌∙◌, Err, ap, inl, inr, refl, rules, sym, arith}
+use Rattle.std.proofs.Common.{◌≡◌, ◌∙◌, Err, ap, inl, inr, refl, sym, arith}
 use Rattle.ov_base.specs.declared.key.Key.{Key}
 use Rattle.ov_history.specs.Catalogue.{Catalogue}
 use Rattle.ov_images.specs.Images.{Keys}
