@@ -32,18 +32,18 @@ one_past ws fit i place low some =
     let column : user % 64 ≡ j = omega arith in
     (user, omega arith, bit-Has _ user (bit_of_word ws fit user ∙ rw (row, column) one))
   where
-  in_word : (j : ℕ) → bit_at (get_or ws i 0) j ≡ 1 → j < 64
-  in_word j one = elim (cases_lt j 64) [
-    | inl below ↦ below
-    | inr above ↦ absurd (omega (arith, one, bit_at_above (get_or ws i 0) 64 j (fit i) above))
-  ]
+    in_word : (j : ℕ) → bit_at (get_or ws i 0) j ≡ 1 → j < 64
+    in_word j one = elim (cases_lt j 64) [
+      | inl below ↦ below
+      | inr above ↦ absurd (omega (arith, one, bit_at_above (get_or ws i 0) 64 j (fit i) above))
+    ]
 
 -- a user of a word that is 0 from some place on is in front of that place
 pub none_past : (ws : List ℕ) → AllFit ws → (i place : ℕ) → get_or ws i 0 / 2 ^ place ≡ 0
     → (user : ℕ) → user / 64 ≡ i → Has (set_of_words ws) user → user < 64 * i + place
 none_past ws fit i place none user row one =
     let bit : bit_at (get_or ws i 0) (user % 64) ≡ 1 =
-        sym (ap (λ k. bit_at (get_or ws k 0) (user % 64)) row) ∙ sym (bit_of_word ws fit user) ∙ Has-bit _ user one in
+    sym (ap (λ k. bit_at (get_or ws k 0) (user % 64)) row) ∙ sym (bit_of_word ws fit user) ∙ Has-bit _ user one in
     elim (cases_lt (user % 64) place) [
       | inl below ↦ omega arith
       | inr above ↦

@@ -4,4 +4,4 @@ use Rattle.ov_transcript_t.proofs.rows.the_frames_of_a_replacement_are_short.Goa
 
 pub returns : goal.returns
 unfolding bytes_of
-returns c = record { asks = refl; told = refl; sends = refl; made = refl; }
+returns c = record { asks = refl; told = refl; sends = refl; made = refl }
