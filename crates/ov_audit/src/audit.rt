@@ -1,5 +1,5 @@
 //! An audit.
-ghost use Rattle.std.specs.Prelude.{◌≡◌, ◌+◌, ◌<◌, ◌≤◌, [], IfOk, OnErr, OnOk, true};
+ghost use Rattle.std.specs.Prelude.{◌≡◌, ◌↔◌, ◌+◌, ◌<◌, ◌≤◌, [], IfOk, OnErr, OnOk, true};
 ghost use Rattle.ov_exposure.specs.Auditing.{findings_from};
 ghost use Rattle.ov_audit.specs.Seen.{IsNext, SeesNext};
 
@@ -40,15 +40,15 @@ impl Model for Audit {
 
 // Whether an epoch is the next one.
 fn is_one_more(last: u32, epoch: u32) -> bool
-    ensures { result ≡ true → epoch ≡ last + 1 }
+    ensures { (result ≡ true) ↔ (epoch ≡ last + 1) }
 {
     last < epoch && epoch - last == 1
 }
 
 // Whether there are as many files as were noted, or one more, which is there.
 fn may_follow(count: u32, files: u32, there: bool) -> bool
-    ensures { result ≡ true → (count ≤ files) × (files ≤ count + 1)
-        × (count < files → there ≡ true) }
+    ensures { (result ≡ true) ↔ ((count ≤ files) × (files ≤ count + 1)
+        × (count < files → there ≡ true)) }
 {
     if files == count {
         return true;
@@ -76,7 +76,7 @@ impl Audit {
     /// Whether this state may be the next that is looked at: it has the next epoch, each file that was
     /// noted, and at most one more, which is there.
     pub fn is_next(&self, state: &Catalogue) -> bool
-        ensures { result ≡ true → IsNext self.now state.now.catalogue }
+        ensures { (result ≡ true) ↔ IsNext self.now state.now.catalogue }
     {
         state.known();
         if !is_one_more(self.epoch, state.epoch()) {

@@ -3,7 +3,8 @@ use Rattle.std.proofs.Common.{◌≡◌, ◌⊎◌, ◌++◌, ℕ, List, Option,
 use Rattle.std.specs.Io.KnownBytes.{Appends}
 use Rattle.std.specs.Prelude.{IfSome}
 use Rattle.ov_answering.specs.Ending.{EndsFor, JudgesKeys}
-use Rattle.ov_answering.specs.Printing.{IsRefused, keys_line, read_line, usage_line}
+use Rattle.ov_answering.specs.Printing.{IsFault, IsKeysStatus, IsRefused, IsStoreStatus}
+use Rattle.ov_answering.specs.Printing.{keys_line, read_line, usage_line}
 use Rattle.ov_answering.proofs.Beginning.{disk_said}
 use Rattle.ov_answering.proofs.Judging.{call_so}
 use Rattle.ov_answering.proofs.Statuses.{ends_or_so, ends_so, fault_no_read, fault_no_tag, not_code}
@@ -22,7 +23,7 @@ use Rattle.ov_images.specs.Images.{Keeps, Keys, keys_of}
 use Rattle.ov_images.proofs.Keeping.{is_born}
 use Rattle.ov_keyfile.specs.KeyFile.{HasMasters}
 use Rattle.ov_report.specs.Ends.{EndsIn, EndsOr}
-use Rattle.ov_report.specs.Faults.{fault_line, fault_status, memory_line}
+use Rattle.ov_report.specs.Faults.{disk_line, fault_line, fault_status, memory_line}
 use Rattle.ov_script.specs.Lines.{reply_line}
 use Rattle.ov_script.specs.declared.reply.Reply.TheVariants.{End, Refused}
 use Rattle.ov_store.specs.Opened.{Opened, Serves}
@@ -35,7 +36,8 @@ use Rattle.ov_store.specs.declared.fault.BeginFault.TheVariants.{SurfaceDiffers}
 use Rattle.ov_auditing.specs.Exposed.{AreFindings, AreUsersOf, IsMissing, IsPrinted}
 use Rattle.ov_auditing.specs.Following.{FindsAll, IsFaultOfStore, StaysAsItWas}
 use Rattle.ov_auditing.specs.Lines.{finding_lines}
-use Rattle.ov_auditing.specs.Promises.{IsAuditRefusal, JudgesKeyFile, JudgesStore, OpensBorn}
+use Rattle.ov_auditing.specs.Promises.{EndsTold, IsAskedStatus, IsAuditRefusal, IsAuditStatus}
+use Rattle.ov_auditing.specs.Promises.{IsFoundStatus, JudgesKeyFile, JudgesStore, OpensBorn}
 use Rattle.ov_auditing.specs.Promises.{RefusesOther, RefusesStore, TellsOf}
 use Rattle.ov_auditing.specs.declared.audit_words.Asked.{Asked}
 use Rattle.ov_auditing.proofs.Printed.{found_printed, none_printed}
@@ -64,20 +66,50 @@ fault_low fault old new status is ends =
     ends_or_so (λ s. IsRefused s → ⊥) (fault_line fault) (fault_status fault) old new status
     (no_refusal fault is) (not_refused 6 script_six) (not_refused 7 script_seven) ends
 
-fault_not_zero : (fault : BeginFault) → fault_status fault ≡ 0 → ⊥
-fault_not_zero DiskFailed e = omega arith
-fault_not_zero NoMemory e = omega arith
-fault_not_zero NotAStore e = omega arith
-fault_not_zero (Damaged area place) e = omega arith
-fault_not_zero (BaseDiffers stored given) e = omega arith
-fault_not_zero (SurfaceDiffers stored given) e = omega arith
-fault_not_zero (ModeDiffers stored given) e = omega arith
+pub fault_six : IsFault 6
+fault_six = inr (inl refl)
 
-fault_no_zero : (fault : BeginFault) (old new : Option (List ℕ)) (status : ℕ)
-    → EndsOr (fault_line fault) (fault_status fault) old new status → status ≡ 0 → ⊥
-fault_no_zero fault old new status ends zero =
-    not_code_or (fault_line fault) (fault_status fault) 0 old new status ends
-    (fault_not_zero fault) (λ z. omega arith) (λ z. omega arith) zero
+fault_seven : IsFault 7
+fault_seven = inr (inr (inl refl))
+
+fault_found : (fault : BeginFault) → IsFoundStatus (fault_status fault)
+fault_found DiskFailed = inr (inr (inr (inr (inr refl))))
+fault_found NoMemory = inr (inr fault_seven)
+fault_found NotAStore = inr (inl (inl refl))
+fault_found (Damaged area place) = inr (inl (inl refl))
+fault_found (BaseDiffers stored given) = inr (inl (inr refl))
+fault_found (SurfaceDiffers stored given) = inr (inl (inr refl))
+fault_found (ModeDiffers stored given) = inr (inl (inr refl))
+
+-- findings were put, or that a user isn't there
+pub line_found : (line : List ℕ) (old new : Option (List ℕ)) (status : ℕ)
+    → EndsOr line 0 old new status → IsFoundStatus status
+line_found line old new status ends =
+    ends_or_so IsFoundStatus line 0 old new status (inl refl) (inr (inr fault_six))
+    (inr (inr fault_seven)) ends
+
+-- a line on a fault was
+pub fault_line_found : (fault : BeginFault) (old new : Option (List ℕ)) (status : ℕ)
+    → EndsOr (fault_line fault) (fault_status fault) old new status → IsFoundStatus status
+fault_line_found fault old new status ends =
+    ends_or_so IsFoundStatus (fault_line fault) (fault_status fault) old new status
+    (fault_found fault) (inr (inr fault_six)) (inr (inr fault_seven)) ends
+
+pub audit_six : IsAuditStatus 6
+audit_six = inr (inr (inr (inr fault_six)))
+
+pub audit_seven : IsAuditStatus 7
+audit_seven = inr (inr (inr (inr fault_seven)))
+
+-- a run has such a status too
+pub found_so : (status : ℕ) → IsFoundStatus status → IsStoreStatus status
+found_so status (inl zero) = inr (inl (inl zero))
+found_so status (inr (inl refused)) = inl refused
+found_so status (inr (inr fault)) = inr (inr (inl fault))
+
+pub asked_so : (status : ℕ) → IsAskedStatus status → IsKeysStatus status
+asked_so status (inl keys) = inl keys
+asked_so status (inr found) = inr (found_so status found)
 
 -- the fault of an open store whose disk tells its bytes
 pub told_fault : (reads : Option Image) (i : Image) → reads ≡ Some i → (fault : BeginFault)
@@ -95,11 +127,28 @@ told_fault reads i read (ModeDiffers stored given) why = absurd why
 module _ (asked : Asked) (k : Masters) (g : SealedHistory) (old new : Option (List ℕ)) (status : ℕ)
   where
     module _ (faults : Type 0) (write : status ≡ 6 → faults) where
-      put : (line : List ℕ) → EndsOr line 0 old new status → status ≡ 0 → Appends old new line
-      put line (inl (inl q)) zero = q.1
-      put line (inl (inr q)) zero = let six : status ≡ 6 = q.0 in absurd (omega arith)
-      put line (inr (inl q)) zero = let seven : status ≡ 7 = q.0 in absurd (omega arith)
-      put line (inr (inr q)) zero = let six : status ≡ 6 = q.0 in absurd (omega arith)
+      put : (line : List ℕ) → IsPrinted asked.names asked.server k.surface g line
+          → EndsOr line 0 old new status → EndsTold asked k g old new status
+      put line is (inl e) = inl (line, is, e)
+      put line is (inr e) = inr (inl e)
+
+      failed : EndsOr disk_line 4 old new status → EndsTold asked k g old new status
+      failed (inl e) = inr (inr (inl e))
+      failed (inr e) = inr (inl e)
+
+      no_memory : EndsOr memory_line 7 old new status → EndsTold asked k g old new status
+      no_memory (inl e) = inr (inl e)
+      no_memory (inr e) = inr (inl e)
+
+      fault_put : (fault : BeginFault) → (fault ≡ DiskFailed) ⊎ (fault ≡ NoMemory)
+          → EndsOr (fault_line fault) (fault_status fault) old new status
+          → EndsTold asked k g old new status
+      fault_put fault (inl is) ends =
+          failed
+          (subst (λ (f : BeginFault). EndsOr (fault_line f) (fault_status f) old new status) is ends)
+      fault_put fault (inr is) ends =
+          no_memory
+          (subst (λ (f : BeginFault). EndsOr (fault_line f) (fault_status f) old new status) is ends)
 
       whole : (line : List ℕ) → EndsOr line 0 old new status → (faults → ⊥)
           → (status ≡ 0) ⊎ (status ≡ 7)
@@ -111,7 +160,7 @@ module _ (asked : Asked) (k : Masters) (g : SealedHistory) (old new : Option (Li
       printed_so : (line : List ℕ) → IsPrinted asked.names asked.server k.surface g line
           → EndsOr line 0 old new status → TellsOf asked k g status old new faults
       printed_so line is ends = record {
-        done = λ zero. (line, is, put line ends zero);
+        ends = put line is ends;
         complete = whole line ends;
       }
 
@@ -136,7 +185,7 @@ module _ (asked : Asked) (k : Masters) (g : SealedHistory) (old new : Option (Li
           → EndsOr (fault_line fault) (fault_status fault) old new status
           → (fault ≡ DiskFailed → faults) → TellsOf asked k g status old new faults
       fault_tells fault is ends call = record {
-        done = λ zero. absurd (fault_no_zero fault old new status ends zero);
+        ends = fault_put fault is ends;
         complete = fault_only fault is ends call;
       }
 
@@ -144,9 +193,7 @@ module _ (asked : Asked) (k : Masters) (g : SealedHistory) (old new : Option (Li
       pub unread_tells : EndsIn read_line 5 old new status → faults
           → TellsOf asked k g status old new faults
       unread_tells ends fault = record {
-        done = λ zero.
-            absurd (not_code read_line 5 0 old new status ends (λ z. omega arith) (λ z. omega arith)
-            zero);
+        ends = inr (inr (inr ends));
         complete = λ none. absurd (none fault);
       }
 
@@ -154,9 +201,7 @@ module _ (asked : Asked) (k : Masters) (g : SealedHistory) (old new : Option (Li
       pub memory_tells : EndsIn memory_line 7 old new status
           → TellsOf asked k g status old new faults
       memory_tells ends = record {
-        done = λ zero.
-            absurd (not_code memory_line 7 0 old new status ends (λ z. omega arith)
-            (λ z. omega arith) zero);
+        ends = inr (inl ends);
         complete = memory_only (inl ends);
       }
 
@@ -194,7 +239,7 @@ module _ (asked : Asked) (k : Masters) (g : SealedHistory) (old new : Option (Li
     pub more_faults : (faults more : Type 0) → (faults → more)
         → TellsOf asked k g status old new faults → TellsOf asked k g status old new more
     more_faults faults more so t = record {
-      done = t.done;
+      ends = t.ends;
       complete = λ none. t.complete (λ fault. none (so fault));
     }
 
@@ -212,7 +257,7 @@ module _ (k : Masters) (i : Image) (old new : Option (List ℕ)) (status : ℕ) 
   judged_open opens low = record {
     refused = λ is. absurd (low is);
     opened = λ _. low;
-    closed = λ none. absurd (none opens);
+    ends = λ none. absurd (none opens);
   }
 
   said : (fault : BeginFault) → IsAuditRefusal k i fault
@@ -233,29 +278,31 @@ module _ (k : Masters) (i : Image) (old new : Option (List ℕ)) (status : ℕ) 
   judged_refused fault refuses ends = record {
     refused = said fault refuses.why ends;
     opened = λ opens. fault_low fault old new status (refuses.opens opens) ends;
-    closed = λ none zero. fault_no_zero fault old new status ends zero;
+    ends = λ none. inl (fault, refuses.why, ends);
   }
 
   -- the disk wasn't looked at
-  pub judged_before : (line : List ℕ) (code : ℕ) → EndsIn line code old new status
-      → (IsRefused code → ⊥) → (code ≡ 0 → ⊥) → JudgesStore k i status old new
-  judged_before line code ends low other =
+  judged_before : (line : List ℕ) (code : ℕ) → EndsIn line code old new status
+      → (IsRefused code → ⊥)
+      → ((fault : BeginFault) × IsAuditRefusal k i fault
+      × EndsOr (fault_line fault) (fault_status fault) old new status)
+      ⊎ EndsIn read_line 5 old new status → JudgesStore k i status old new
+  judged_before line code ends low so =
       let low_then : IsRefused status → ⊥ =
       ends_so (λ s. IsRefused s → ⊥) line code old new status low (not_refused 6 script_six)
       ends in record {
         refused = λ is. absurd (low_then is);
         opened = λ _. low_then;
-        closed = λ none zero.
-            not_code line code 0 old new status ends other (λ z. omega arith) zero;
+        ends = λ none. so;
       }
 
   pub judged_unread : EndsIn read_line 5 old new status → JudgesStore k i status old new
-  judged_unread ends =
-      judged_before read_line 5 ends (not_refused 5 script_five) (λ z. omega arith)
+  judged_unread ends = judged_before read_line 5 ends (not_refused 5 script_five) (inr ends)
 
   pub judged_memory : EndsIn memory_line 7 old new status → JudgesStore k i status old new
   judged_memory ends =
-      judged_before memory_line 7 ends (not_refused 7 script_seven) (λ z. omega arith)
+      judged_before memory_line 7 ends (not_refused 7 script_seven)
+      (inl (NoMemory, inl tt, inr ends))
 
 -- ---- the key file and the words
 

@@ -3,7 +3,7 @@ use Rattle.std.specs.Prelude.{◌≡◌, ◌⊎◌, ℕ, false, List, Option, So
 use Rattle.std.specs.Io.KnownBytes.{Appends}
 use Rattle.std.specs.declared.alloc.Global.{Global}
 use Rattle.ov_answering.specs.Judging.{HasFalseRecord}
-use Rattle.ov_answering.specs.Printing.{IsRefused, keys_line, read_line, usage_line}
+use Rattle.ov_answering.specs.Printing.{IsFault, IsRefused, keys_line, read_line, usage_line}
 use Rattle.ov_base.specs.declared.mode.Mode.{Mode}
 use Rattle.ov_disk.specs.Disk.{Image, Told}
 use Rattle.ov_disk.specs.Tells.{DiskTells}
@@ -17,7 +17,7 @@ use Rattle.ov_journal.specs.Standing.{IsUnborn}
 use Rattle.ov_keyfile.specs.KeyFile.{HasMasters}
 use Rattle.ov_machine.specs.Machine.{AreMasters}
 use Rattle.ov_report.specs.Ends.{EndsIn, EndsOr}
-use Rattle.ov_report.specs.Faults.{fault_line, fault_status}
+use Rattle.ov_report.specs.Faults.{disk_line, fault_line, fault_status, memory_line}
 use Rattle.ov_store.specs.Opened.{Opened, Serves}
 use Rattle.ov_store.specs.Opening.{IsOpenFault}
 use Rattle.ov_store.specs.declared.fault.BeginFault.{BeginFault}
@@ -29,14 +29,21 @@ use Rattle.ov_auditing.specs.declared.audit_words.Asked.{Asked}
 
 -- ---- what is printed
 
--- What an audit of these users prints of a history. With 0 that is exactly what the history says
--- of them. Unless some count of faults rose it ends with 0 or, where memory
--- was refused, with 7.
+-- An audit of these users ends in exactly what the history says of them, or in the line on refused
+-- memory, on a call of the disk that failed, or on a failed read.
+abbrev pub EndsTold : Asked → Masters → SealedHistory → Option (List ℕ) → Option (List ℕ) → ℕ
+    → Type 0
+EndsTold asked k g old new status =
+    ((printed : List ℕ) × IsPrinted asked.names asked.server k.surface g printed
+    × EndsIn printed 0 old new status)
+    ⊎ (EndsIn memory_line 7 old new status
+    ⊎ (EndsIn disk_line 4 old new status ⊎ EndsIn read_line 5 old new status))
+
+-- What an audit of these users prints of a history. Unless some count of faults rose it ends with 0
+-- or, where memory was refused, with 7.
 pub record TellsOf (asked : Asked) (k : Masters) (g : SealedHistory) (status : ℕ)
     (old new : Option (List ℕ)) (faults : Type 0) : Type 0 where
-  pub done : status ≡ 0
-      → (printed : List ℕ) × IsPrinted asked.names asked.server k.surface g printed
-      × Appends old new printed
+  pub ends : EndsTold asked k g old new status
   pub complete : (faults → ⊥) → (status ≡ 0) ⊎ (status ≡ 7)
 
 -- ---- why an image is refused
@@ -54,13 +61,17 @@ OpensBorn k i = (IsUnborn i.book → ⊥) × ((mode : Mode) × Opens k mode i)
 
 -- What an audit under these masters makes of the image that its disk reads. With 8 and 9 it says why
 -- the image is refused, and it never ends with them on an image that opens. Where the image doesn't
--- open, it ends in such a line, or for a fault of the disk, the key file or memory.
+-- open, it ends in the line that says why, or that a call of the disk failed or memory was refused,
+-- or in that on a failed read of the key file.
 pub record JudgesStore (k : Masters) (i : Image) (status : ℕ) (old new : Option (List ℕ))
     : Type 0 where
   pub refused : IsRefused status → (fault : BeginFault) × IsAuditRefusal k i fault
       × (status ≡ fault_status fault) × Appends old new (fault_line fault)
   pub opened : OpensBorn k i → IsRefused status → ⊥
-  pub closed : (OpensBorn k i → ⊥) → status ≡ 0 → ⊥
+  pub ends : (OpensBorn k i → ⊥)
+      → ((fault : BeginFault) × IsAuditRefusal k i fault
+      × EndsOr (fault_line fault) (fault_status fault) old new status)
+      ⊎ EndsIn read_line 5 old new status
 
 -- A store that was opened on this image, all of whose updates are its owner's: it stands for each
 -- history that is right for the masters and that the image keeps.
@@ -99,6 +110,29 @@ pub record RefusesOther (other : Type 0) (status : ℕ) (old new : Option (List 
   pub usage : status ≡ 2 → other × Appends old new usage_line
   pub ends : other → EndsOr usage_line 2 old new status
   pub unread : other → untouched
+
+-- ---- its status
+
+-- an audit that read its key file has one of these statuses
+abbrev pub IsFoundStatus : ℕ → Type 0
+IsFoundStatus status = (status ≡ 0) ⊎ (IsRefused status ⊎ IsFault status)
+
+-- an audit that looked at its key file has one of these statuses
+abbrev pub IsAskedStatus : ℕ → Type 0
+IsAskedStatus status = (status ≡ 10) ⊎ IsFoundStatus status
+
+-- an audit has one of these statuses
+abbrev pub IsAuditStatus : ℕ → Type 0
+IsAuditStatus status = (status ≡ 2) ⊎ IsAskedStatus status
+
+-- The status is one of those that an audit has. A call of the disk is said to have failed only where
+-- its count of faults rose, a read only where that of the key file did, and a write only where that
+-- of the sink did.
+pub record AuditFails (status : ℕ) (disks reads writes : Type 0) : Type 0 where
+  pub some : IsAuditStatus status
+  pub disk : status ≡ 4 → disks
+  pub read : status ≡ 5 → reads
+  pub write : status ≡ 6 → writes
 
 -- ---- from where
 

@@ -1,11 +1,12 @@
 //! The top call of an audit.
 ghost use Rattle.std.specs.Prelude.{◌≡◌, ◌⊎◌, IfErr, IfOk, IfSome};
-ghost use Rattle.ov_answering.specs.Ending.{EndsFor, FailsForFaults, LeavesAsAtStart};
-ghost use Rattle.ov_answering.specs.Printing.{IsKeysStatus, IsRefused, IsStoreStatus};
+ghost use Rattle.ov_answering.specs.Ending.{EndsFor, LeavesAsAtStart};
+ghost use Rattle.ov_answering.specs.Printing.{IsRefused};
 ghost use Rattle.ov_auditing.specs.AuditWords.{AreNoAudit, IsAudit};
 ghost use Rattle.ov_auditing.specs.Exposed.{AreUsersOf};
 ghost use Rattle.ov_auditing.specs.Following.{StaysAsItWas};
-ghost use Rattle.ov_auditing.specs.Promises.{ForAuditImage, ForEachKept, IsOpenOf, JudgesKeyFile};
+ghost use Rattle.ov_auditing.specs.Promises.{AuditFails, ForAuditImage, ForEachKept};
+ghost use Rattle.ov_auditing.specs.Promises.{IsAskedStatus, IsFoundStatus, IsOpenOf, JudgesKeyFile};
 ghost use Rattle.ov_auditing.specs.Promises.{JudgesStore, RefusesOther, RefusesStore, TellsOf};
 ghost use Rattle.ov_auditing.specs.declared.audit_words.Asked.{Asked as AskedFor};
 ghost use Rattle.ov_base.specs.Causes.{Rose};
@@ -75,7 +76,7 @@ fn print_found<O: Sink, D: Disk>(
     ensures stays { StaysAsItWas D.tells store.old store.new (result ≡ 4) }
     ensures causes { EndsFor D.tells store.old.disk store.new.disk result ⊥
         (Rose (O.tells.faults out.old) (O.tells.faults out.new)) ⊥ }
-    ensures status { IsStoreStatus result }
+    ensures status { IsFoundStatus result }
 {
     let epoch = store.state().epoch();
     let surface = Master::new(&masters.surface);
@@ -103,7 +104,7 @@ fn audit_store<O: Sink, D: Disk>(
     ensures stays { StaysAsItWas D.tells store.old store.new (result ≡ 4) }
     ensures causes { EndsFor D.tells store.old.disk store.new.disk result ⊥
         (Rose (O.tells.faults out.old) (O.tells.faults out.new)) ⊥ }
-    ensures status { IsStoreStatus result }
+    ensures status { IsFoundStatus result }
 {
     match users_named(store.state(), asked.names.as_slice()) {
         Some(users) => print_found(alloc, asked, users, masters, store, out),
@@ -132,7 +133,7 @@ fn audit_over<O: Sink, D: Disk + Drop>(
     ensures quiet { LeavesAsAtStart D.tells disk result.1 }
     ensures causes { EndsFor D.tells disk result.1 result.0 ⊥
         (Rose (O.tells.faults out.old) (O.tells.faults out.new)) ⊥ }
-    ensures status { IsStoreStatus result.0 }
+    ensures status { IsFoundStatus result.0 }
 {
     match open(alloc, disk, &masters) {
         Ok(store) => {
@@ -168,7 +169,7 @@ fn audit_with_keys<K: Source, O: Sink, D: Disk + Drop>(
     ensures causes { EndsFor D.tells disk result.1 result.0
         (Rose (K.tells.faults keys.old) (K.tells.faults keys.new))
         (Rose (O.tells.faults out.old) (O.tells.faults out.new)) ⊥ }
-    ensures status { IsKeysStatus result.0 }
+    ensures status { IsAskedStatus result.0 }
 {
     match read_masters(keys) {
         Ok(Some(masters)) => audit_over(alloc, asked, masters, disk, out),
@@ -179,22 +180,25 @@ fn audit_with_keys<K: Source, O: Sink, D: Disk + Drop>(
 
 /// Prints which files the users of these words could ever have read, had they kept everything, by
 /// the updates of the store on `disk`, under the masters of the key file; and gives the exit status.
-/// It begins no store and changes no byte of the disk.
+/// It begins no store, and calls nothing that writes to the disk.
 ///
 /// * `tells`: over a disk that tells its bytes and opens for these masters, what is printed are
 ///   exactly the files that these users can read, and the server with them where the words say so,
 ///   each by its cause and since its epoch, in the order of their numbers; or that one of the users
 ///   isn't there; and then the end line. The status is 0 unless a fault came or memory was refused.
-/// * `image`: a disk that doesn't open for these masters is refused, and so is one on which no store
-///   was begun.
+///   Else nothing but the line on refused memory, or on a call or a read that failed, is put.
+/// * `image`: a disk that doesn't open for these masters is refused with the line that says why, and
+///   so is one on which no store was begun.
 /// * `keys`: without a key file the disk is left as it is.
 /// * `words`: other words are refused, and all files are left as they are.
 /// * `quiet`: a crash at any moment leaves what it might have left at the start.
-/// * `causes`: a fault is answered only where its count of faults rose.
+/// * `causes`: the status is one of an audit's, and a fault is answered only where its count of faults
+///   rose.
 ///
 /// The clauses on what is printed, on the key file and the disk hold where the source, the sink and
 /// the disk tell their bytes; `quiet` and `causes` hold always. Over a disk that tells nothing a
-/// record that reads otherwise by now is refused as damaged, at the place of its gate.
+/// record that reads by now as no update, or as one that isn't taken, is refused as damaged, at the
+/// place of its gate: no clause says so.
 pub fn audit<K: Source, O: Sink, D: Disk>(
     alloc: Global,
     words: &[String],
@@ -217,10 +221,10 @@ pub fn audit<K: Source, O: Sink, D: Disk>(
         (O.tells.written out.old) (O.tells.written out.new)
         ((keys.new ≡ keys.old) × (disk.new ≡ disk.old)) }
     ensures quiet { LeavesAsAtStart D.tells disk.old disk.new }
-    ensures causes { FailsForFaults result
+    ensures causes { AuditFails result
         (Rose (D.tells.faults disk.old) (D.tells.faults disk.new))
         (Rose (K.tells.faults keys.old) (K.tells.faults keys.new))
-        (Rose (O.tells.faults out.old) (O.tells.faults out.new)) ⊥ }
+        (Rose (O.tells.faults out.old) (O.tells.faults out.new)) }
 {
     match audit_of(alloc, words) {
         Ok(Some(asked)) => audit_with_keys(alloc, &asked, keys, disk, out).0,

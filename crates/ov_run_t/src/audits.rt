@@ -91,7 +91,7 @@ const OTHER_WORDS: &[Case<'static>] = &[
     (&["audits", "c"], 2, b"error usage\n"),
 ];
 
-// Asserts how an audit over this disk ends, and that its Book is as it was.
+// Asserts how an audit over this disk ends, and that both areas are as they were.
 fn assert_case(
     rt: &impl Abort,
     alloc: Global,
@@ -100,12 +100,13 @@ fn assert_case(
     disk: &mut MemDisk,
 ) -> Result<(), Fail> {
     let words = words(alloc, case.0)?;
-    let before = disk.book().to_vec(alloc)?;
+    let (book, blobs) = (disk.book().to_vec(alloc)?, disk.blobs().to_vec(alloc)?);
     let mut out = Wants::of(case.2);
     let mut keys = Pieces::of(keys, 50);
     let code = audit(alloc, &words, &mut keys, &mut out, disk);
     assert_ended(rt, code, &out, case.1);
-    assert_eq!(rt; disk.book(), before.as_slice());
+    assert_eq!(rt; disk.book(), book.as_slice());
+    assert_eq!(rt; disk.blobs(), blobs.as_slice());
     Ok(())
 }
 

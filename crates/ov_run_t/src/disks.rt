@@ -358,9 +358,9 @@ fn assert_other_key(rt: &impl Abort, alloc: Global, place: usize, line: &[u8]) -
     Ok(())
 }
 
-// The check values of both masters, and of those that begin with the byte 0x70, from Python's
-// `hmac`.
-const OTHER_BASE: &[u8] =
+/// The check values of both masters, and of those that begin with the byte 0x70, from Python's
+/// `hmac`.
+pub const OTHER_BASE: &[u8] =
     b"error key base 2a4f6d54a45f46e7a818a4f59451e9fbb0959add6660c90fc1b8bf8d4b73c745 a6babc60c7a72e8c1a4229517d3db7262af01f4c2b21d574f4ef01f8a3a18ebe\n";
 
 const OTHER_SURFACE: &[u8] =

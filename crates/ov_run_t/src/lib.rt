@@ -1,5 +1,6 @@
 //! Tests of `ov_run` and `ov_auditing`: scripts, words and key files of all kinds, disks that others
-//! left, audits of them, and faults at each call. There is nothing here but tests: the contracts of what they call are proved there.
+//! left, audits of them, and faults at each call. There is nothing here but tests: the contracts of
+//! what they call are proved there.
 #![tactic(auto)]
 
 #[cfg(test)]
@@ -13,9 +14,13 @@ mod extents;
 #[cfg(test)]
 mod faults;
 #[cfg(test)]
+mod flips;
+#[cfg(test)]
 mod frames;
 #[cfg(test)]
 mod full;
+#[cfg(test)]
+mod refused_audits;
 #[cfg(test)]
 mod removed;
 #[cfg(test)]

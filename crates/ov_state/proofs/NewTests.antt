@@ -39,7 +39,7 @@ has_place name (first ∷ names) =
 is_within : (set users : ℕ) → IsBelow users set → within set (everyone users) ≡ true
 is_within set users below = Within-within set (everyone users) (λ user one. everyone-Has users user (below user one))
 
-not_within : (set users : ℕ) → (IsBelow users set → ⊥) → within set (everyone users) ≡ false
+pub not_within : (set users : ℕ) → (IsBelow users set → ⊥) → within set (everyone users) ≡ false
 not_within set users past = by_cases (within set (everyone users)) refl where
   by_cases : (b : Bool) → within set (everyone users) ≡ b → within set (everyone users) ≡ false
   by_cases false is = is

@@ -1,8 +1,6 @@
 use Rattle.std.proofs.Common.{arith, inl, inr, refl, rules, ℕ}
 use Rattle.ov_answering.proofs.KeyFiles.{image_all}
-use Rattle.ov_answering.proofs.Statuses.{ends_so, judged_unasked, keys_six, not_code, not_usage}
-use Rattle.ov_answering.proofs.Statuses.{script_seven}
-use Rattle.ov_answering.specs.Printing.{IsStatus}
+use Rattle.ov_answering.proofs.Statuses.{ends_so, judged_unasked, not_code, not_usage}
 use Rattle.ov_disk.specs.Disk.{Told}
 use Rattle.ov_disk.proofs.Runs.{started}
 use Rattle.ov_history.specs.FadingLaws.{IsRight}
@@ -10,8 +8,9 @@ use Rattle.ov_history.specs.Masters.{Masters}
 use Rattle.ov_history.specs.Plain.{PlainHistory}
 use Rattle.ov_history.specs.Sealed.{SealedHistory}
 use Rattle.ov_images.specs.Images.{Keeps, keys_of}
-use Rattle.ov_auditing.specs.Promises.{JudgesStore, TellsOf}
+use Rattle.ov_auditing.specs.Promises.{IsAuditStatus, JudgesStore, TellsOf}
 use Rattle.ov_auditing.proofs.Asking.{lent_quiet, lent_tells}
+use Rattle.ov_auditing.proofs.Endings.{asked_so, audit_seven, audit_six}
 use Rattle.ov_auditing.proofs.Endings.{file_asked, file_judged, file_unknown, judged_memory}
 use Rattle.ov_auditing.proofs.Endings.{known_words, memory_tells, other_words, unknown_words}
 use Rattle.ov_auditing.proofs.auditing.audit.Goals as goal
@@ -37,7 +36,7 @@ pub returns-in-Ok-Some-clause-words : goal.returns-in-Ok-Some-clause-words
 returns-in-Ok-Some-clause-words g c =
     known_words _ _ _ _ _
     (λ none. none c.in-Ok-Some.asked (rw c.in-Ok-Some.field-0-is at c.in-Ok-Some.ensures.found))
-    (not_usage _ c.audit_with_keys.ensures.status)
+    (not_usage _ (asked_so _ c.audit_with_keys.ensures.status))
 
 pub returns-in-Ok-Some-clause-quiet : goal.returns-in-Ok-Some-clause-quiet
 returns-in-Ok-Some-clause-quiet g c =
@@ -50,7 +49,6 @@ returns-in-Ok-Some-clause-causes g c =
     let causes = c.audit_with_keys.ensures.causes in
     record {
       some = inr c.audit_with_keys.ensures.status;
-      tag = causes.tag;
       disk = search rules;
       read = causes.read;
       write = causes.write;
@@ -87,8 +85,7 @@ pub returns-in-Ok-None-clause-causes : goal.returns-in-Ok-None-clause-causes
 returns-in-Ok-None-clause-causes g c =
     let never = λ (n : ℕ). not_code _ 2 n _ _ _ c.put_last.ensures.ends in
     record {
-      some = ends_so IsStatus _ 2 _ _ _ (inl refl) (inr keys_six) c.put_last.ensures.ends;
-      tag = λ e. never 12 (λ z. omega arith) (λ z. omega arith) e;
+      some = ends_so IsAuditStatus _ 2 _ _ _ (inl refl) audit_six c.put_last.ensures.ends;
       disk = λ e. absurd (never 4 (λ z. omega arith) (λ z. omega arith) e);
       read = λ e. absurd (never 5 (λ z. omega arith) (λ z. omega arith) e);
       write = c.put_last.ensures.put.write;
@@ -130,9 +127,7 @@ pub returns-in-Err-clause-causes : goal.returns-in-Err-clause-causes
 returns-in-Err-clause-causes g c =
     let never = λ (n : ℕ). not_code _ 7 n _ _ _ c.put_memory.ensures.ends in
     record {
-      some = ends_so IsStatus _ 7 _ _ _ (inr (inr (inr script_seven))) (inr keys_six)
-          c.put_memory.ensures.ends;
-      tag = λ e. never 12 (λ z. omega arith) (λ z. omega arith) e;
+      some = ends_so IsAuditStatus _ 7 _ _ _ audit_seven audit_six c.put_memory.ensures.ends;
       disk = λ e. absurd (never 4 (λ z. omega arith) (λ z. omega arith) e);
       read = λ e. absurd (never 5 (λ z. omega arith) (λ z. omega arith) e);
       write = c.put_memory.ensures.put.write;

@@ -1,13 +1,11 @@
 use Rattle.std.proofs.Common.{◌⊎◌, arith, inl, inr, subst, sym, ⊎_elim}
 use Rattle.ov_base.specs.Causes.{Rose}
-use Rattle.ov_answering.proofs.Statuses.{ends_or_so, fault_so, script_seven, script_six}
 use Rattle.ov_answering.specs.Ending.{EndsFor, LeavesAsAtStart}
-use Rattle.ov_answering.specs.Printing.{IsStoreStatus}
 use Rattle.ov_images.specs.Images.{keys_of}
 use Rattle.ov_machine.specs.Machine.{plain_masters}
 use Rattle.ov_store.proofs.Opening.{both_quiet}
-use Rattle.ov_auditing.proofs.Endings.{ends_then, fault_ends, fault_tells, judged_open, judged_refused}
-use Rattle.ov_auditing.proofs.Endings.{more_faults, opens_kept}
+use Rattle.ov_auditing.proofs.Endings.{ends_then, fault_ends, fault_line_found, fault_tells, judged_open}
+use Rattle.ov_auditing.proofs.Endings.{judged_refused, more_faults, opens_kept}
 use Rattle.ov_auditing.proofs.auditing.audit_over.Goals as goal
 
 pub audit_store-code-requires : goal.audit_store-code-requires
@@ -73,5 +71,4 @@ returns-in-Err-clause-causes g c =
 
 pub returns-in-Err-clause-status : goal.returns-in-Err-clause-status
 returns-in-Err-clause-status g c =
-    ends_or_so IsStoreStatus _ _ _ _ _ (fault_so c.in-Err.refused.fault) (inr script_six)
-    (inr script_seven) c.put_fault.ensures.ends
+    fault_line_found c.in-Err.refused.fault _ _ _ c.put_fault.ensures.ends

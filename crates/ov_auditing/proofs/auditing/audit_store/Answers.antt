@@ -1,11 +1,11 @@
 use Rattle.std.proofs.Common.{◌≡◌, ◌∙◌, ℕ, List, ap, arith, inl, inr, refl, subst}
 use Rattle.ov_history.specs.Catalogue.{Catalogue}
 use Rattle.ov_machine.specs.Machine.{plain_masters}
-use Rattle.ov_answering.proofs.Statuses.{ends_or_so, not_code_or, script_seven, script_six}
-use Rattle.ov_answering.specs.Printing.{IsStoreStatus}
+use Rattle.ov_answering.proofs.Statuses.{not_code_or}
 use Rattle.ov_auditing.specs.Exposed.{AreUsersOf, IsMissing}
 use Rattle.ov_auditing.proofs.Beginnings.{begins_still}
-use Rattle.ov_auditing.proofs.Endings.{disk_call, line_ends, line_low, missing_tells, stays_for}
+use Rattle.ov_auditing.proofs.Endings.{disk_call, line_ends, line_found, line_low, missing_tells}
+use Rattle.ov_auditing.proofs.Endings.{stays_for}
 use Rattle.ov_auditing.proofs.auditing.audit_store.Goals as goal
 
 pub print_found-requires-clause-named : goal.print_found-requires-clause-named
@@ -50,5 +50,4 @@ returns-in-None-clause-causes g c =
 
 pub returns-in-None-clause-status : goal.returns-in-None-clause-status
 returns-in-None-clause-status g c =
-    ends_or_so IsStoreStatus _ 0 _ _ _ (inr (inl (inl refl))) (inr script_six)
-    (inr script_seven) c.put_no_user.ensures.ends
+    line_found _ _ _ _ c.put_no_user.ensures.ends

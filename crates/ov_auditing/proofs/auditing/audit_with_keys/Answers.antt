@@ -1,8 +1,7 @@
 use Rattle.std.proofs.Common.{arith, inl, inr, refl, rules, ℕ}
 use Rattle.ov_answering.proofs.KeyFiles.{image_all, image_none, image_read}
-use Rattle.ov_answering.proofs.Statuses.{ends_so, judged_failed, judged_none, judged_with, keys_five}
-use Rattle.ov_answering.proofs.Statuses.{keys_six, not_code, not_keys}
-use Rattle.ov_answering.specs.Printing.{IsKeysStatus}
+use Rattle.ov_answering.proofs.Statuses.{ends_so, judged_failed, judged_none, judged_with, not_code}
+use Rattle.ov_answering.proofs.Statuses.{not_keys}
 use Rattle.ov_base.specs.Causes.{Rose}
 use Rattle.ov_disk.specs.Disk.{Told}
 use Rattle.ov_disk.proofs.Runs.{started}
@@ -12,8 +11,9 @@ use Rattle.ov_history.specs.Plain.{PlainHistory}
 use Rattle.ov_history.specs.Sealed.{SealedHistory}
 use Rattle.ov_images.specs.Images.{Keeps, keys_of}
 use Rattle.ov_machine.specs.Machine.{plain_masters}
-use Rattle.ov_auditing.specs.Promises.{JudgesStore, TellsOf}
-use Rattle.ov_auditing.proofs.Endings.{file_judged, judged_unread, more_faults, unread_tells}
+use Rattle.ov_auditing.specs.Promises.{IsAskedStatus, JudgesStore, TellsOf}
+use Rattle.ov_auditing.proofs.Endings.{fault_six, file_judged, found_so, judged_unread, more_faults}
+use Rattle.ov_auditing.proofs.Endings.{unread_tells}
 use Rattle.ov_auditing.proofs.auditing.audit_with_keys.Goals as goal
 
 pub returns-in-Ok-Some-clause-tells : goal.returns-in-Ok-Some-clause-tells
@@ -73,7 +73,7 @@ returns-in-Ok-Some-clause-keys g c =
     file_judged (g.K.Source.tells.left c.args.keys.now) _ _ _ _ (Unit {0})
     (judged_with (Unit {0}) (g.K.Source.tells.left c.args.keys.now) _ _ _ _ _ _
     (rw c.in-Ok-Some.field-0-is at c.in-Ok-Some.ensures.read)
-    (not_keys _ c.audit_over.ensures.status))
+    (not_keys _ (found_so _ c.audit_over.ensures.status)))
 
 pub returns-in-Ok-None-clause-keys : goal.returns-in-Ok-None-clause-keys
 returns-in-Ok-None-clause-keys g c =
@@ -130,11 +130,13 @@ returns-in-Ok-Some-clause-status g c = inr c.audit_over.ensures.status
 
 pub returns-in-Ok-None-clause-status : goal.returns-in-Ok-None-clause-status
 returns-in-Ok-None-clause-status g c =
-    ends_so IsKeysStatus _ 10 _ _ _ (inl refl) keys_six c.put_last.ensures.ends
+    ends_so IsAskedStatus _ 10 _ _ _ (inl refl) (inr (inr (inr fault_six)))
+    c.put_last.ensures.ends
 
 pub returns-in-Err-clause-status : goal.returns-in-Err-clause-status
 returns-in-Err-clause-status g c =
-    ends_so IsKeysStatus _ 5 _ _ _ keys_five keys_six c.put_last-in-Err.ensures.ends
+    ends_so IsAskedStatus _ 5 _ _ _ (inr (inr (inr (inl refl)))) (inr (inr (inr fault_six)))
+    c.put_last-in-Err.ensures.ends
 
 pub returns-in-Ok-None-clause-quiet : goal.returns-in-Ok-None-clause-quiet
 returns-in-Ok-None-clause-quiet g c =

@@ -4,11 +4,11 @@ use Rattle.ov_history.specs.Catalogue.{Catalogue}
 use Rattle.ov_images.specs.Images.{Keys}
 use Rattle.ov_machine.specs.Machine.{plain_masters}
 use Rattle.ov_answering.proofs.Beginning.{disk_said}
-use Rattle.ov_answering.proofs.Statuses.{ends_or_so, fault_so, not_code_or, script_seven, script_six}
-use Rattle.ov_answering.specs.Printing.{IsStoreStatus}
+use Rattle.ov_answering.proofs.Statuses.{not_code_or}
 use Rattle.ov_auditing.specs.Exposed.{numbers_in}
 use Rattle.ov_auditing.proofs.Endings.{disk_call, fault_call, fault_ends, fault_low, fault_tells, found_tells}
-use Rattle.ov_auditing.proofs.Endings.{line_ends, line_low, stays_for, told_fault}
+use Rattle.ov_auditing.proofs.Endings.{fault_line_found, line_ends, line_found, line_low, stays_for}
+use Rattle.ov_auditing.proofs.Endings.{told_fault}
 use Rattle.ov_auditing.proofs.auditing.print_found.Goals as goal
 
 pub findings_of-requires-clause-master : goal.findings_of-requires-clause-master
@@ -79,10 +79,8 @@ returns-in-Err-clause-causes g c =
 
 pub returns-in-Ok-clause-status : goal.returns-in-Ok-clause-status
 returns-in-Ok-clause-status g c =
-    ends_or_so IsStoreStatus _ 0 _ _ _ (inr (inl (inl refl))) (inr script_six)
-    (inr script_seven) c.put_findings.ensures.ends
+    line_found _ _ _ _ c.put_findings.ensures.ends
 
 pub returns-in-Err-clause-status : goal.returns-in-Err-clause-status
 returns-in-Err-clause-status g c =
-    ends_or_so IsStoreStatus _ _ _ _ _ (fault_so c.in-Err.fault) (inr script_six)
-    (inr script_seven) c.put_fault.ensures.ends
+    fault_line_found c.in-Err.fault _ _ _ c.put_fault.ensures.ends
