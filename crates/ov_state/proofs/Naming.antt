@@ -23,7 +23,9 @@ pub not_all_users : (users names : List (List ℕ)) (set n : ℕ) (name : List �
 not_all_users users names set n name so_far at_n low missing =
     let met : set_with users (with set (place_of name users)) (drop (suc n) names) ≡ set_named users names =
     ap (set_with users set) (sym (drop_item names n name at_n low)) ∙ so_far in
-    not_within (set_named users names) (length users) (place_of name users)
-    (subst (λ s. Has s (place_of name users)) met
-    (set_with-keeps users (with set (place_of name users)) (place_of name users) (drop (suc n) names) (with-Has set (place_of name users))))
-    (omega arith)
+    let there : Has (set_named users names) (place_of name users) =
+    subst (λ s. Has s (place_of name users)) met
+    (set_with-keeps users (with set (place_of name users)) (place_of name users) (drop (suc n) names)
+    (with-Has set (place_of name users))) in
+    not_within (set_named users names) (length users)
+    (λ below. let low : place_of name users < length users = below (place_of name users) there in omega arith)
