@@ -122,7 +122,7 @@ fn each_call_of_the_disk_fails(rt: HostRuntime) -> Result<(), Fail> {
     let mut comes = 0u32;
     for call in 0..64u64 {
         if fails_at(&rt, rt.alloc(), call)? {
-            comes += 1;
+            comes = comes.saturating_add(1);
         }
     }
     assert!(rt; 3 < comes && comes < 64);
