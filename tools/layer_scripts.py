@@ -1,6 +1,7 @@
 """Scripts by which the speed of the layers and of a store is measured (docs/PERFORMANCE.md).
 
     python3 tools/layer_scripts.py sets|reads|revoke|grant|wide|updates|large|many|many_reads|longest > SCRIPT
+    python3 tools/layer_scripts.py history UPDATES FILES > SCRIPT
 
 sets    twelve users, and a file of no bytes for each of the 4,084 other sets of them
 reads   one user, 1,000 files of 4,096 bytes, and a read of each
@@ -12,6 +13,8 @@ large   one user, and 63 files of 1,048,576 bytes
 many    1,024 users, and 100 files of 4,096 bytes, each for all of them but one
 many_reads  those of `many`, and a read of each of its files
 longest two users, a file of 16,777,216 bytes for both, a read of it, and a revocation of one of them
+history three users, so many files of no bytes for two of them, and grants and revocations of one file after
+        the other for the third, up to so many updates in all
 """
 import sys
 
@@ -98,5 +101,15 @@ def longest():
     put(b"read b f\nrevoke b f\n")
 
 
-scripts = [sets, reads, revoke, grant, wide, updates, large, many, many_reads, longest]
+def history():
+    updates, files = int(sys.argv[2]), int(sys.argv[3])
+    put(b"enrol a\nenrol b\nenrol c\n")
+    for file in range(files):
+        create(b"f%d" % file, b"a,b", 0)
+    for turn in range(updates - files - 3):
+        word = b"revoke" if turn // files % 2 else b"grant"
+        put(b"%s c f%d\n" % (word, turn % files))
+
+
+scripts = [sets, reads, revoke, grant, wide, updates, large, many, many_reads, longest, history]
 {script.__name__: script for script in scripts}[sys.argv[1]]()
