@@ -52,7 +52,7 @@ def with_reference(parser, **more):
         help="has the package `oracle`, the independent reference",
         **more,
     )
-    parser.add_argument("--stage", type=int, default=16, help="which of its stages the program is at (16)")
+    parser.add_argument("--stage", type=int, default=18, help="which of its stages the program is at (18)")
 
 
 def with_jobs(parser):
