@@ -8,7 +8,7 @@ Run, after `rt run` has built the programs, at the top of the repository:
     python3 tools/session_times.py crates/overstored/out/overstored [--seconds 1] [--sessions 1,4,16,64]
         [--before PROGRAM] [--disk FOLDER]
 
-It takes three minutes and more. `--before` names a server of one session at a time, for what a turn costs, and
+It takes four minutes and more. `--before` names a server of one session at a time, for what a turn costs, and
 `--disk` a folder on a disk whose syncs are timed. Other stores are in `/dev/shm`, where a sync costs nothing, if
 it is there.
 """
@@ -53,10 +53,30 @@ def arguments():
 
 
 @contextlib.contextmanager
-def running(place, words):
-    """A server of its own folder: its process and its address. The words are made in that folder."""
+def on(processors):
+    """What is started here runs on these processors alone."""
+    all_of_them = os.sched_getaffinity(0)
+    os.sched_setaffinity(0, processors)
+    try:
+        yield
+    finally:
+        os.sched_setaffinity(0, all_of_them)
+
+
+def halves():
+    """Processors for the client and others for the server, as many for each."""
+    processors = sorted(os.sched_getaffinity(0))
+    half = len(processors) // 2
+    return set(processors[:half]), set(processors[half:])
+
+
+@contextlib.contextmanager
+def running(place, words, apart=False):
+    """A server of its own folder: its process and its address. The words are made in that folder. Apart from its
+    client it runs on half of the processors."""
     folder = new_folder(place, PREFIX)
-    process, address = started(folder, *words(folder))
+    with on(halves()[1]) if apart else contextlib.nullcontext():
+        process, address = started(folder, *words(folder))
     try:
         yield process, address
     finally:
@@ -118,14 +138,15 @@ def middle(rows):
     return [statistics.median(column) for column in zip(*rows)]
 
 
-def medians(place, servers, *words):
+def medians(place, servers, *words, apart=False):
     """The medians of `many` for each of these servers, which run in turns."""
     figures = [[] for _ in servers]
     for _ in range(RUNS):
         for server, taken in zip(servers, figures):
-            with running(place, server) as (process, address):
+            with running(place, server, apart) as (process, address):
                 one(address, OUT / "begin")
-                taken.append(many(process, address, *words))
+                with on(halves()[0]) if apart else contextlib.nullcontext():
+                    taken.append(many(process, address, *words))
     return [middle(taken) for taken in figures]
 
 
@@ -161,14 +182,15 @@ def table(*heads):
     print("|%s" % ("---|" * len(heads)))
 
 
-def questions():
-    """How many a second in all sessions, and processor time of the server's side for each."""
-    table("", "sessions", "`overstored`", "", "plain threads", "")
+def questions(apart=False):
+    """How many a second in all sessions, and processor time of the server's side for each. Apart, the client and the
+    server have half of the processors each, and don't take them from one another."""
+    table("apart" if apart else "", "sessions", "`overstored`", "", "plain threads", "")
     for title, frames in ("Hello", "hello"), ("Ask", "ask"):
         for sessions in SESSIONS:
             cells = []
             words = sessions, ARGUMENTS.seconds, OUT / frames
-            for first, others, used, _ in medians(FREE, BOTH, *words):
+            for first, others, used, _ in medians(FREE, BOTH, *words, apart=apart):
                 cells += [many_a_second(first + others), "%.1f µs" % (used * 1e6)]
             row(title, sessions, *cells)
 
@@ -209,9 +231,8 @@ def turn():
     servers = [SERVER] + [real(ARGUMENTS.before)] * bool(ARGUMENTS.before)
     all_of_them = os.sched_getaffinity(0)
     for title, processors in ("all processors", all_of_them), ("one processor", {max(all_of_them)}):
-        os.sched_setaffinity(0, processors)
-        figures = hellos(servers)
-        os.sched_setaffinity(0, all_of_them)
+        with on(processors):
+            figures = hellos(servers)
         for name, taken in zip(("with turns, %d workers" % WORKERS, "before"), figures):
             passed, used = middle(taken)
             row(name, title, many_a_second(1e6 / passed), "%.2f µs" % passed, "%.2f µs" % used)
@@ -278,6 +299,7 @@ if __name__ == "__main__":
             compiled(program, OUT)
         make_frames()
         questions()
+        questions(apart=True)
         updates()
         turn()
         waiting()
