@@ -1,6 +1,7 @@
 -- The readers of briefs and of stored records read exactly their spellings.
 use Rattle.std.proofs.Common.{◌≡◌, ◌∙◌, ap, length-append, ℕ, zero, suc, ◌-◌, ◌+◌, ◌*◌, ◌^◌, ◌≤◌, List, [], ◌∷◌, ◌++◌, length, take, Ok, Err, refl, sym, append_assoc, arith}
 use Rattle.std.proofs.lemmas.List.{append-nil, take_at}
+use Rattle.std.specs.Prelude.{◌<◌, true}
 use Rattle.std.specs.List.{AllByRecursion, flat_map}
 use Rattle.ov_base.specs.declared.limits.TheConstants.{MAX_FILES, MAX_RECORD_BYTES}
 use Rattle.ov_base.specs.Names.{IsName}
@@ -15,14 +16,14 @@ use Rattle.ov_fields.proofs.NameLaws.{longest_name, name_reads, token_reads}
 use Rattle.ov_fields.proofs.SetFields.{set_reads}
 use Rattle.ov_fields.proofs.TestLaws.{IsCount, count_is, is_count}
 use Rattle.ov_fields.proofs.KindLaws.{IsKind, kind_takes, kind_again, kind_near, kind_none}
-use Rattle.ov_record.specs.Briefs.{Brief, BriefEnrol, BriefCreate, BriefGrant, BriefRevoke, brief}
+use Rattle.ov_record.specs.Briefs.{Brief, BriefEnrol, BriefCreate, BriefGrant, BriefRevoke, BriefRemove, brief}
 use Rattle.ov_record.specs.Forms.{Form, HasRoom, set_bytes}
 use Rattle.ov_record.specs.Laws.{WiderFormsHaveAll}
-use Rattle.ov_record.specs.Updates.{SealedUpdate, SealedEnrol, SealedCreate, SealedGrant, SealedRevoke}
+use Rattle.ov_record.specs.Updates.{SealedUpdate, SealedEnrol, SealedCreate, SealedGrant, SealedRevoke, SealedRemove}
 use Rattle.ov_record.specs.Spelling.{spelling, body_of}
 use Rattle.ov_record.specs.Stored.{Stored, brief_spelling, longest_brief, longest_stored, stored_spelling, HasBriefForm, HasStoredForm, IsBriefWithinLimits}
 use Rattle.ov_record.specs.Reading.{brief_at, brief_of, front_of, creation_brief, creation_brief_at, grant_brief, revocation_brief, stored, stored_at}
-use Rattle.ov_record.proofs.UpdateLaws.{grant_fields, grant_reads, GrantFits, revocation_fields, revocation_reads, RevocationFits}
+use Rattle.ov_record.proofs.UpdateLaws.{grant_fields, grant_reads, GrantFits, removal_again, removal_near, removal_takes, revocation_fields, revocation_reads, RevocationFits}
 
 -- ---- briefs
 
@@ -49,6 +50,9 @@ grant_kind form = record { form = λ f fits. (fits.0.0, fits.0.1, fits.1); spell
 pub revocation_kind : (form : Form) → IsKind revocation_fields RevocationFits (brief_spelling form) (HasBriefForm form) 4 revocation_brief
 revocation_kind form = record { form = λ f fits. fits; spelled = λ f. refl }
 
+pub removal_kind : (form : Form) → form.removes ≡ true → IsKind u32 (λ n. n < 2 ^ 32) (brief_spelling form) (HasBriefForm form) 6 BriefRemove
+removal_kind form on = record { form = λ f fits. (on, fits); spelled = λ f. refl }
+
 pub enrolment_kind : (form : Form) → IsKind name_field IsName (brief_spelling form) (HasBriefForm form) 1 BriefEnrol
 enrolment_kind form = record { form = λ name is. is; spelled = λ name. refl }
 
@@ -60,7 +64,9 @@ brief_takes form (suc zero ∷ bytes) x fits e = kind_takes 1 BriefEnrol name_re
 brief_takes form (suc (suc zero) ∷ bytes) x fits e = kind_takes 2 creation_brief (creation_reads form) (creation_kind form) bytes x fits e
 brief_takes form (suc (suc (suc zero)) ∷ bytes) x fits e = kind_takes 3 grant_brief grant_reads (grant_kind form) bytes x fits e
 brief_takes form (suc (suc (suc (suc zero))) ∷ bytes) x fits e = kind_takes 4 revocation_brief revocation_reads (revocation_kind form) bytes x fits e
-brief_takes form (suc (suc (suc (suc (suc kind)))) ∷ bytes) x fits e = absurd cc
+brief_takes form (suc (suc (suc (suc (suc zero)))) ∷ bytes) x fits e = absurd cc
+brief_takes form (suc (suc (suc (suc (suc (suc zero))))) ∷ bytes) x fits e = removal_takes form.removes BriefRemove (removal_kind form) bytes x fits e
+brief_takes form (suc (suc (suc (suc (suc (suc (suc kind)))))) ∷ bytes) x fits e = absurd cc
 
 brief_again : (form : Form) → HasRoom form → (b : Brief) (rest : List ℕ) → HasBriefForm form b → brief_at form (brief_spelling form b ++ rest) ≡ Ok (b, rest)
 unfolding brief_at
@@ -70,6 +76,7 @@ brief_again form room (BriefCreate name list tokens tag size) rest fits =
     ((((fits.0, fits.1), (is_count (2 ^ 16) form.most_tokens (length tokens) (omega arith) fits.2, fits.3)), fits.4), is_count (2 ^ 32) form.longest size (omega arith) fits.5)
 brief_again form room (BriefGrant user file token) rest fits = kind_again grant_brief grant_reads ((user, file), token) rest ((fits.0, fits.1), fits.2)
 brief_again form room (BriefRevoke user file) rest fits = kind_again revocation_brief revocation_reads (user, file) rest fits
+brief_again form room (BriefRemove file) rest fits = removal_again form.removes BriefRemove file rest (length (6 ∷ u32 file ++ rest)) fits.0 fits.1
 
 brief_near : (form : Form) (bytes : List ℕ) (left : ℕ) → AreBytes bytes → brief_at form bytes ≡ Err left → (left ≤ length bytes) × (length bytes ≤ left + longest_brief form)
 unfolding brief_at
@@ -79,7 +86,9 @@ brief_near form (suc zero ∷ bytes) left fits e = kind_near 1 BriefEnrol (longe
 brief_near form (suc (suc zero) ∷ bytes) left fits e = kind_near 2 creation_brief (longest_brief form) (creation_reads form) (omega arith) bytes left fits e
 brief_near form (suc (suc (suc zero)) ∷ bytes) left fits e = kind_near 3 grant_brief (longest_brief form) grant_reads (omega arith) bytes left fits e
 brief_near form (suc (suc (suc (suc zero))) ∷ bytes) left fits e = kind_near 4 revocation_brief (longest_brief form) revocation_reads (omega arith) bytes left fits e
-brief_near form (suc (suc (suc (suc (suc kind)))) ∷ bytes) left fits e = kind_none (suc (suc (suc (suc (suc kind))))) bytes left (longest_brief form) (omega arith) cc
+brief_near form (suc (suc (suc (suc (suc zero)))) ∷ bytes) left fits e = kind_none 5 bytes left (longest_brief form) (omega arith) cc
+brief_near form (suc (suc (suc (suc (suc (suc zero))))) ∷ bytes) left fits e = removal_near form.removes BriefRemove (longest_brief form) (omega arith) bytes left fits e
+brief_near form (suc (suc (suc (suc (suc (suc (suc kind)))))) ∷ bytes) left fits e = kind_none (suc (suc (suc (suc (suc (suc (suc kind))))))) bytes left (longest_brief form) (omega arith) cc
 
 brief_short : (form : Form) → HasRoom form → (b : Brief) → HasBriefForm form b → length (brief_spelling form b) ≤ longest_brief form
 brief_short form room (BriefEnrol name) fits = omega (arith, name_reads.short name fits)
@@ -90,6 +99,7 @@ brief_short form room (BriefCreate name list tokens tag size) fits =
 brief_short form room (BriefGrant user file token) fits =
     let k = grant_reads.short ((user, file), token) ((fits.0, fits.1), fits.2) in omega (arith, k)
 brief_short form room (BriefRevoke user file) fits = omega arith
+brief_short form room (BriefRemove file) fits = omega arith
 
 pub brief_reads : (form : Form) → HasRoom form → Reads (brief_at form) (brief_spelling form) (HasBriefForm form) (longest_brief form)
 brief_reads form room = record {
@@ -153,6 +163,7 @@ brief_within_limits form (BriefEnrol name) fits = tt
 brief_within_limits form (BriefCreate name list tokens tag size) fits = (fits.2, fits.5)
 brief_within_limits form (BriefGrant user file token) fits = tt
 brief_within_limits form (BriefRevoke user file) fits = tt
+brief_within_limits form (BriefRemove file) fits = fits.0
 
 -- ---- a brief and the bytes of its file
 
@@ -161,6 +172,7 @@ brief_and_body form (SealedEnrol name) = sym (append-nil (1 ∷ name_field name)
 brief_and_body form (SealedCreate name list tokens tag bytes) = simp append_assoc
 brief_and_body form (SealedGrant user file token) = sym (append-nil (brief_spelling form (BriefGrant user file token)))
 brief_and_body form (SealedRevoke user file) = sym (append-nil (brief_spelling form (BriefRevoke user file)))
+brief_and_body form (SealedRemove file) = sym (append-nil (brief_spelling form (BriefRemove file)))
 
 -- ---- stored records
 
@@ -176,6 +188,7 @@ brief_has_bytes form (BriefEnrol name) rest = omega arith
 brief_has_bytes form (BriefCreate name list tokens tag size) rest = omega arith
 brief_has_bytes form (BriefGrant user file token) rest = omega arith
 brief_has_bytes form (BriefRevoke user file) rest = omega arith
+brief_has_bytes form (BriefRemove file) rest = omega arith
 
 pub some_bytes : (form : Form) (s : Stored) → 1 ≤ length (stored_spelling form s)
 some_bytes form s = brief_has_bytes form s.update (flat_map u32 s.places)
@@ -192,3 +205,4 @@ wider_has_all wide form (BriefCreate name list tokens tag size) wider fits =
     (fits.0, (λ user has. omega (arith, fits.1 user has, wider.0)), omega (arith, fits.2, wider.1), fits.3, fits.4, omega (arith, fits.5, wider.2))
 wider_has_all wide form (BriefGrant user file token) wider fits = fits
 wider_has_all wide form (BriefRevoke user file) wider fits = fits
+wider_has_all wide form (BriefRemove file) wider fits = (wider.3 fits.0, fits.1)

@@ -15,13 +15,13 @@ use Rattle.ov_fields.proofs.FieldPlaces.{bytes_places, number_places, set_places
 use Rattle.ov_fields.proofs.LimitPlaces.{at_most_limits, u32_places}
 use Rattle.ov_fields.proofs.ListPlaces.{name_places, token_places, counted_places, many_places}
 use Rattle.ov_fields.proofs.RowPlaces.{kind_fault, no_kind_fault, whole_fault, wrong_place, IsWhole}
-use Rattle.ov_record.specs.Briefs.{BriefEnrol}
+use Rattle.ov_record.specs.Briefs.{BriefEnrol, BriefRemove}
 use Rattle.ov_record.specs.Forms.{Form, HasRoom, set_bytes}
 use Rattle.ov_record.specs.Stored.{brief_spelling, stored_spelling, HasBriefForm, HasStoredForm}
 use Rattle.ov_record.specs.Reading.{brief_at, front_of, creation_brief, creation_brief_at, grant_brief, revocation_brief, stored, stored_at}
 use Rattle.ov_record.specs.Laws.{BadFrontsArePlaced, BadRecordsArePlaced}
-use Rattle.ov_record.proofs.BriefLaws.{brief_reads, creation_fields, creation_kind, enrolment_kind, grant_kind, revocation_kind, stored_reads, CreationFits}
-use Rattle.ov_record.proofs.UpdatePlaces.{grant_places, placed_err, revocation_places, Limits}
+use Rattle.ov_record.proofs.BriefLaws.{brief_reads, creation_fields, creation_kind, enrolment_kind, grant_kind, removal_kind, revocation_kind, stored_reads, CreationFits}
+use Rattle.ov_record.proofs.UpdatePlaces.{grant_places, placed_err, removal_fault, revocation_places, Limits}
 
 creation_places : {Once : Type 0} (form : Form) → HasRoom form → HasPlaces Once Limits (creation_brief_at form) (creation_fields form) (CreationFits form)
 creation_places form room =
@@ -44,8 +44,11 @@ brief_fault form room (suc zero ∷ bytes) left fits e = kind_fault 1 BriefEnrol
 brief_fault form room (suc (suc zero) ∷ bytes) left fits e = kind_fault 2 creation_brief (creation_places form room) (creation_kind form) (λ t. refl) bytes left fits e
 brief_fault form room (suc (suc (suc zero)) ∷ bytes) left fits e = kind_fault 3 grant_brief grant_places (grant_kind form) (λ t. refl) bytes left fits e
 brief_fault form room (suc (suc (suc (suc zero))) ∷ bytes) left fits e = kind_fault 4 revocation_brief revocation_places (revocation_kind form) (λ t. refl) bytes left fits e
-brief_fault form room (suc (suc (suc (suc (suc kind)))) ∷ bytes) left fits e =
-    no_kind_fault (suc (suc (suc (suc (suc kind))))) (no_brief form) (λ t x bad. absurd cc) bytes left cc
+brief_fault form room (suc (suc (suc (suc (suc zero)))) ∷ bytes) left fits e = no_kind_fault 5 (no_brief form) (λ t x bad. absurd cc) bytes left cc
+brief_fault form room (suc (suc (suc (suc (suc (suc zero))))) ∷ bytes) left fits e =
+    removal_fault {read = brief_at form} form.removes BriefRemove (no_brief form) (removal_kind form) (λ t. refl) bytes left fits e
+brief_fault form room (suc (suc (suc (suc (suc (suc (suc kind)))))) ∷ bytes) left fits e =
+    no_kind_fault (suc (suc (suc (suc (suc (suc (suc kind))))))) (no_brief form) (λ t x bad. absurd cc) bytes left cc
 
 brief_places : {Once : Type 0} (form : Form) → HasRoom form → HasPlaces Once Limits (brief_at form) (brief_spelling form) (HasBriefForm form)
 brief_places form room =

@@ -2,23 +2,23 @@
 use Rattle.std.proofs.Common.{◌≡◌, ◌∙◌, ap, sym, subst, refl, ℕ, zero, suc, ◌-◌, ◌+◌, ◌≤◌, List, [], ◌∷◌, ◌++◌, length, length-append, drop, cond, Bool, Result, Ok, Err, arith}
 use Rattle.std.proofs.lemmas.List.{append-nil, drop_at, nil_from_length}
 use Rattle.std.proofs.Math.Dec.{eqb-suc-zero}
-use Rattle.std.specs.Prelude.{IfSome}
+use Rattle.std.specs.Prelude.{true, false, IfSome}
 use Rattle.std.specs.Int.{w32}
 use Rattle.ov_tokens.specs.declared.token.Token.{Token}
 use Rattle.ov_fields.specs.Answers.{left_of}
-use Rattle.ov_fields.specs.Reading.{Read, ◌>>=◌, made, all_of, at_most, bytes_at, name_at, number_that, placed, sized_at}
+use Rattle.ov_fields.specs.Reading.{Read, ◌>>=◌, made, all_of, at_most, bytes_at, name_at, number_at, number_that, placed, sized_at}
 use Rattle.ov_fields.specs.declared.fault.FieldFault.{FieldFault}
 use Rattle.ov_fields.specs.declared.fault.FieldFault.TheVariants.{Bad, Memory}
 use Rattle.ov_fields.proofs.ReadingLaws.{AreBytes, AreBytes-back}
 use Rattle.ov_fields.proofs.FieldLaws.{bytes_reads}
 use Rattle.ov_fields.proofs.WholeLaws.{all_again, all_takes}
-use Rattle.ov_record.specs.Briefs.{Brief, BriefEnrol, text_size, with_text}
+use Rattle.ov_record.specs.Briefs.{Brief, BriefEnrol, BriefRemove, text_size, with_text}
 use Rattle.ov_record.specs.Forms.{Form, HasRoom}
 use Rattle.ov_record.specs.Places.{place_of}
 use Rattle.ov_record.specs.Reading.{brief_at, creation, creation_brief, grant, grant_at, grant_brief, revocation, revocation_at, revocation_brief, update_at, update_of}
 use Rattle.ov_record.specs.Spelling.{spelling, HasForm}
 use Rattle.ov_record.specs.Stored.{brief_spelling}
-use Rattle.ov_record.specs.Updates.{SealedUpdate, SealedEnrol}
+use Rattle.ov_record.specs.Updates.{SealedUpdate, SealedEnrol, SealedRemove}
 use Rattle.ov_record.specs.declared.fault.RecordFault.{RecordFault}
 use Rattle.ov_record.specs.declared.fault.RecordFault.TheVariants as record_faults
 use Rattle.ov_record.proofs.BriefLaws.{brief_reads}
@@ -60,6 +60,11 @@ unfolding sized_at
 creation_by_brief form (Err left) = refl
 creation_by_brief form (Ok a) = sized_by_brief a (number_that w32 (at_most form.longest) a.1)
 
+removal_by_brief : (t : Bool) (bytes : List ℕ) (left : ℕ)
+    → cond t (made SealedRemove (number_at w32 bytes)) (Err left) ≡ (cond t (made BriefRemove (number_at w32 bytes)) (Err left) >>= text_at)
+removal_by_brief true bytes left = without_text SealedRemove BriefRemove (number_at w32 bytes) (λ a. refl) (λ a text. refl)
+removal_by_brief false bytes left = refl
+
 pub by_brief : (form : Form) (bytes : List ℕ) → update_at form bytes ≡ (brief_at form bytes >>= text_at)
 unfolding update_at brief_at
 by_brief form [] = refl
@@ -68,7 +73,9 @@ by_brief form (suc zero ∷ bytes) = without_text SealedEnrol BriefEnrol (name_a
 by_brief form (suc (suc zero) ∷ bytes) = creation_by_brief form _
 by_brief form (suc (suc (suc zero)) ∷ bytes) = without_text grant grant_brief (grant_at bytes) (λ a. refl) (λ a text. refl)
 by_brief form (suc (suc (suc (suc zero))) ∷ bytes) = without_text revocation revocation_brief (revocation_at bytes) (λ a. refl) (λ a text. refl)
-by_brief form (suc (suc (suc (suc (suc kind)))) ∷ bytes) = refl
+by_brief form (suc (suc (suc (suc (suc zero)))) ∷ bytes) = refl
+by_brief form (suc (suc (suc (suc (suc (suc zero))))) ∷ bytes) = removal_by_brief form.removes bytes (length (6 ∷ bytes))
+by_brief form (suc (suc (suc (suc (suc (suc (suc kind)))))) ∷ bytes) = refl
 
 -- ---- all of the bytes
 

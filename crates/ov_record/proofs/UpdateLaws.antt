@@ -1,6 +1,6 @@
 -- The reader of updates reads exactly their spellings.
 use Rattle.std.proofs.Common.{◌≡◌, ℕ, zero, suc, ◌+◌, ◌*◌, ◌^◌, ◌<◌, ◌≤◌, List, [], ◌∷◌, ◌++◌, length, Option, Ok, Err, refl, arith}
-use Rattle.std.specs.Prelude.{IfSome}
+use Rattle.std.specs.Prelude.{cond, Bool, true, false, IfSome}
 use Rattle.std.specs.List.{AllByRecursion}
 use Rattle.ov_base.specs.declared.limits.TheConstants.{MAX_RECORD_BYTES}
 use Rattle.ov_base.specs.Names.{IsName}
@@ -16,7 +16,10 @@ use Rattle.ov_fields.proofs.TestLaws.{IsCount, count_is, is_count}
 use Rattle.ov_fields.proofs.KindLaws.{IsKind, kind_takes, kind_again, kind_near, kind_none}
 use Rattle.ov_record.specs.Forms.{Form, HasRoom, first_form, second_form, set_bytes}
 use Rattle.ov_record.specs.Forms.{longest_spelling}
-use Rattle.ov_record.specs.Updates.{SealedUpdate, SealedEnrol, SealedCreate, SealedGrant, SealedRevoke}
+use Rattle.ov_fields.specs.Reading.{Read, made, number_at}
+use Rattle.std.specs.Int.{w32}
+use Rattle.std.proofs.Common.{ap, ◌∙◌}
+use Rattle.ov_record.specs.Updates.{SealedUpdate, SealedEnrol, SealedCreate, SealedGrant, SealedRevoke, SealedRemove}
 use Rattle.ov_record.specs.Spelling.{spelling, HasForm, IsWithinLimits}
 use Rattle.ov_record.specs.Reading.{creation, creation_at, grant, grant_at, revocation, revocation_at, update_at}
 
@@ -61,6 +64,31 @@ revocation_reads = then_reads (number_reads wide32) (number_reads wide32)
 pub revocation_kind : (form : Form) → IsKind revocation_fields RevocationFits (spelling form) (HasForm form) 4 revocation
 revocation_kind form = record { form = λ f fits. fits; spelled = λ f. refl }
 
+pub removal_kind : (form : Form) → form.removes ≡ true → IsKind u32 (λ n. n < 2 ^ 32) (spelling form) (HasForm form) 6 SealedRemove
+removal_kind form on = record { form = λ f fits. (on, fits); spelled = λ f. refl }
+
+-- what is read behind the kind byte of a removal, in a form that has removals
+pub removal_made : {U : Type 0} (t : Bool) (r : Read U) (left : ℕ) (x : U × List ℕ) → cond t r (Err left) ≡ Ok x → (t ≡ true) × (r ≡ Ok x)
+removal_made true r left x e = (refl, e)
+removal_made false r left x e = absurd cc
+
+pub removal_takes : {U : Type 0} {spell : U → List ℕ} {Fits : U → Type 0} (t : Bool) (make : ℕ → U) → (t ≡ true → IsKind u32 (λ n. n < 2 ^ 32) spell Fits 6 make)
+    → (bytes : List ℕ) (x : U × List ℕ) → AreBytes (6 ∷ bytes) → cond t (made make (number_at w32 bytes)) (Err (length (6 ∷ bytes))) ≡ Ok x
+    → Fits x.0 × (6 ∷ bytes ≡ spell x.0 ++ x.1)
+removal_takes t make K bytes x fits e =
+    let r = removal_made t (made make (number_at w32 bytes)) (length (6 ∷ bytes)) x e in
+    kind_takes 6 make (number_reads wide32) (K r.0) bytes x fits r.1
+
+pub removal_again : {U : Type 0} (t : Bool) (make : ℕ → U) (file : ℕ) (rest : List ℕ) (left : ℕ) → t ≡ true → file < 2 ^ 32
+    → cond t (made make (number_at w32 (u32 file ++ rest))) (Err left) ≡ Ok (make file, rest)
+removal_again true make file rest left on fits = kind_again make (number_reads wide32) file rest fits
+removal_again false make file rest left on fits = absurd cc
+
+pub removal_near : {U : Type 0} (t : Bool) (make : ℕ → U) (most : ℕ) → 5 ≤ most → (bytes : List ℕ) (left : ℕ) → AreBytes (6 ∷ bytes)
+    → cond t (made make (number_at w32 bytes)) (Err (length (6 ∷ bytes))) ≡ Err left → (left ≤ length (6 ∷ bytes)) × (length (6 ∷ bytes) ≤ left + most)
+removal_near true make most le bytes left fits e = kind_near 6 make most (number_reads wide32) (omega (arith, le)) bytes left fits e
+removal_near false make most le bytes left fits e = kind_none 6 bytes left most (omega (arith, le)) cc
+
 pub enrolment_kind : (form : Form) → IsKind name_field IsName (spelling form) (HasForm form) 1 SealedEnrol
 enrolment_kind form = record { form = λ name is. is; spelled = λ name. refl }
 
@@ -72,7 +100,9 @@ update_takes form (suc zero ∷ bytes) x fits e = kind_takes 1 SealedEnrol name_
 update_takes form (suc (suc zero) ∷ bytes) x fits e = kind_takes 2 creation (creation_reads form) (creation_kind form) bytes x fits e
 update_takes form (suc (suc (suc zero)) ∷ bytes) x fits e = kind_takes 3 grant grant_reads (grant_kind form) bytes x fits e
 update_takes form (suc (suc (suc (suc zero))) ∷ bytes) x fits e = kind_takes 4 revocation revocation_reads (revocation_kind form) bytes x fits e
-update_takes form (suc (suc (suc (suc (suc kind)))) ∷ bytes) x fits e = absurd cc
+update_takes form (suc (suc (suc (suc (suc zero)))) ∷ bytes) x fits e = absurd cc
+update_takes form (suc (suc (suc (suc (suc (suc zero))))) ∷ bytes) x fits e = removal_takes form.removes SealedRemove (removal_kind form) bytes x fits e
+update_takes form (suc (suc (suc (suc (suc (suc (suc kind)))))) ∷ bytes) x fits e = absurd cc
 
 update_again : (form : Form) → HasRoom form → (u : SealedUpdate) (rest : List ℕ) → HasForm form u → update_at form (spelling form u ++ rest) ≡ Ok (u, rest)
 unfolding update_at
@@ -82,6 +112,7 @@ update_again form room (SealedCreate name list tokens tag bytes) rest fits =
     ((((fits.0, fits.1), (is_count (2 ^ 16) form.most_tokens (length tokens) (omega arith) fits.2, fits.3)), fits.4), (is_count (2 ^ 32) form.longest (length bytes) (omega arith) fits.5, tt))
 update_again form room (SealedGrant user file token) rest fits = kind_again grant grant_reads ((user, file), token) rest ((fits.0, fits.1), fits.2)
 update_again form room (SealedRevoke user file) rest fits = kind_again revocation revocation_reads (user, file) rest fits
+update_again form room (SealedRemove file) rest fits = removal_again form.removes SealedRemove file rest (length (6 ∷ u32 file ++ rest)) fits.0 fits.1
 
 update_near : (form : Form) (bytes : List ℕ) (left : ℕ) → AreBytes bytes → update_at form bytes ≡ Err left → (left ≤ length bytes) × (length bytes ≤ left + longest_spelling form)
 unfolding update_at
@@ -91,7 +122,9 @@ update_near form (suc zero ∷ bytes) left fits e = kind_near 1 SealedEnrol (lon
 update_near form (suc (suc zero) ∷ bytes) left fits e = kind_near 2 creation (longest_spelling form) (creation_reads form) (omega arith) bytes left fits e
 update_near form (suc (suc (suc zero)) ∷ bytes) left fits e = kind_near 3 grant (longest_spelling form) grant_reads (omega arith) bytes left fits e
 update_near form (suc (suc (suc (suc zero))) ∷ bytes) left fits e = kind_near 4 revocation (longest_spelling form) revocation_reads (omega arith) bytes left fits e
-update_near form (suc (suc (suc (suc (suc kind)))) ∷ bytes) left fits e = kind_none (suc (suc (suc (suc (suc kind))))) bytes left (longest_spelling form) (omega arith) cc
+update_near form (suc (suc (suc (suc (suc zero)))) ∷ bytes) left fits e = kind_none 5 bytes left (longest_spelling form) (omega arith) cc
+update_near form (suc (suc (suc (suc (suc (suc zero))))) ∷ bytes) left fits e = removal_near form.removes SealedRemove (longest_spelling form) (omega arith) bytes left fits e
+update_near form (suc (suc (suc (suc (suc (suc (suc kind)))))) ∷ bytes) left fits e = kind_none (suc (suc (suc (suc (suc (suc (suc kind))))))) bytes left (longest_spelling form) (omega arith) cc
 
 update_short : (form : Form) → HasRoom form → (u : SealedUpdate) → HasForm form u → length (spelling form u) ≤ longest_spelling form
 update_short form room (SealedEnrol name) fits = omega (arith, name_reads.short name fits)
@@ -102,6 +135,7 @@ update_short form room (SealedCreate name list tokens tag bytes) fits =
 update_short form room (SealedGrant user file token) fits =
     let k = grant_reads.short ((user, file), token) ((fits.0, fits.1), fits.2) in omega (arith, k)
 update_short form room (SealedRevoke user file) fits = omega arith
+update_short form room (SealedRemove file) fits = omega arith
 
 pub update_reads : (form : Form) → HasRoom form → Reads (update_at form) (spelling form) (HasForm form) (longest_spelling form)
 update_reads form room = record {
@@ -123,6 +157,7 @@ within_limits form (SealedEnrol name) fits = tt
 within_limits form (SealedCreate name list tokens tag bytes) fits = (fits.2, fits.5)
 within_limits form (SealedGrant user file token) fits = tt
 within_limits form (SealedRevoke user file) fits = tt
+within_limits form (SealedRemove file) fits = fits.0
 
 -- ---- how many bytes a spelling has
 
@@ -131,6 +166,7 @@ some_bytes form (SealedEnrol name) = omega arith
 some_bytes form (SealedCreate name list tokens tag bytes) = omega arith
 some_bytes form (SealedGrant user file token) = omega arith
 some_bytes form (SealedRevoke user file) = omega arith
+some_bytes form (SealedRemove file) = omega arith
 
 pub few_bytes : (form : Form) (u : SealedUpdate) → HasRoom form → longest_spelling form ≤ MAX_RECORD_BYTES → HasForm form u → length (spelling form u) ≤ MAX_RECORD_BYTES
 few_bytes form u room few fits = omega (arith, update_short form room u fits)

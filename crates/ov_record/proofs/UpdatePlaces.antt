@@ -1,8 +1,12 @@
 -- Wrong places of updates.
 use Rattle.std.proofs.Common.{◌≡◌, ℕ, zero, suc, ◌-◌, List, [], ◌∷◌, length, Result, Ok, Err, refl, subst, arith}
-use Rattle.ov_fields.specs.Spelling.{name_field}
+use Rattle.std.specs.Prelude.{cond, Bool, true, false, ◌<◌, ◌^◌}
+use Rattle.std.specs.Int.{w32}
+use Rattle.std.proofs.Common.{ap, ◌∙◌, sym}
+use Rattle.ov_fields.specs.Spelling.{name_field, u32}
 use Rattle.ov_fields.specs.Fronts.{IsFront, IsWrongPlace}
-use Rattle.ov_fields.specs.Reading.{all_of, placed}
+use Rattle.ov_fields.specs.Reading.{Read, all_of, made, number_at, placed}
+use Rattle.ov_fields.proofs.KindLaws.{IsKind}
 use Rattle.ov_fields.proofs.ReadingLaws.{AreBytes, then_reads}
 use Rattle.ov_fields.proofs.FieldLaws.{bytes_reads, number_reads, wide32}
 use Rattle.ov_fields.proofs.ListLaws.{counted_reads}
@@ -15,11 +19,11 @@ use Rattle.ov_fields.proofs.FieldPlaces.{bytes_places, number_places, set_places
 use Rattle.ov_fields.proofs.ListPlaces.{name_places, token_places, counted_places, optional_places, sized_places}
 use Rattle.ov_fields.proofs.RowPlaces.{kind_fault, no_kind_fault, whole_fault, wrong_place}
 use Rattle.ov_record.specs.Forms.{Form, HasRoom, set_bytes}
-use Rattle.ov_record.specs.Updates.{SealedEnrol}
+use Rattle.ov_record.specs.Updates.{SealedEnrol, SealedRemove}
 use Rattle.ov_record.specs.Spelling.{spelling, HasForm}
 use Rattle.ov_record.specs.Reading.{creation, creation_at, grant, grant_at, revocation, revocation_at, update_at}
 use Rattle.ov_record.specs.Laws.{BadUpdatesArePlaced}
-use Rattle.ov_record.proofs.UpdateLaws.{creation_fields, creation_kind, enrolment_kind, grant_fields, grant_kind, revocation_fields, revocation_kind, update_reads, CreationFits, GrantFits, RevocationFits}
+use Rattle.ov_record.proofs.UpdateLaws.{creation_fields, creation_kind, enrolment_kind, grant_fields, grant_kind, removal_kind, revocation_fields, revocation_kind, update_reads, CreationFits, GrantFits, RevocationFits}
 
 -- numbers have limits
 abbrev pub Limits : Type 0
@@ -39,6 +43,15 @@ grant_places = then_places (then_reads (number_reads wide32) (number_reads wide3
 pub revocation_places : {Once : Type 0} → HasPlaces Once Limits revocation_at revocation_fields RevocationFits
 revocation_places = then_places (number_reads wide32) (number_places wide32) (number_places wide32)
 
+-- the wrong place of a removal, in a form that has removals and in one that hasn't
+pub removal_fault : {U Once : Type 0} {read : List ℕ → Read U} {spell : U → List ℕ} {Fits : U → Type 0} (t : Bool) (make : ℕ → U) → IsFront spell Fits []
+    → (t ≡ true → IsKind u32 (λ n. n < 2 ^ 32) spell Fits 6 make)
+    → ((bytes : List ℕ) → read (6 ∷ bytes) ≡ cond t (made make (number_at w32 bytes)) (Err (length (6 ∷ bytes))))
+    → (bytes : List ℕ) (left : ℕ) → AreBytes (6 ∷ bytes) → cond t (made make (number_at w32 bytes)) (Err (length (6 ∷ bytes))) ≡ Err left
+    → Fault Once Limits (Takes read) spell Fits (6 ∷ bytes) left
+removal_fault true make none K same bytes left fits e = kind_fault 6 make (number_places wide32) (K refl) same bytes left fits e
+removal_fault false make none K same bytes left fits e = no_kind_fault 6 none (λ t x bad. let no = sym (same t) ∙ bad in absurd cc) bytes left cc
+
 no_update : (form : Form) → IsFront (spelling form) (HasForm form) []
 no_update form = let P = name_places {Once = ⊥} {Limited = ⊥} in none_before (SealedEnrol P.value) P.form (AreBytes-cons 1 (name_field P.value) (omega arith) P.bytes)
 
@@ -52,8 +65,11 @@ update_fault form room (suc zero ∷ bytes) left fits e = kind_fault 1 SealedEnr
 update_fault form room (suc (suc zero) ∷ bytes) left fits e = kind_fault 2 creation (creation_places form room) (creation_kind form) (λ t. refl) bytes left fits e
 update_fault form room (suc (suc (suc zero)) ∷ bytes) left fits e = kind_fault 3 grant grant_places (grant_kind form) (λ t. refl) bytes left fits e
 update_fault form room (suc (suc (suc (suc zero))) ∷ bytes) left fits e = kind_fault 4 revocation revocation_places (revocation_kind form) (λ t. refl) bytes left fits e
-update_fault form room (suc (suc (suc (suc (suc kind)))) ∷ bytes) left fits e =
-    no_kind_fault (suc (suc (suc (suc (suc kind))))) (no_update form) (λ t x bad. absurd cc) bytes left cc
+update_fault form room (suc (suc (suc (suc (suc zero)))) ∷ bytes) left fits e = no_kind_fault 5 (no_update form) (λ t x bad. absurd cc) bytes left cc
+update_fault form room (suc (suc (suc (suc (suc (suc zero))))) ∷ bytes) left fits e =
+    removal_fault {read = update_at form} form.removes SealedRemove (no_update form) (removal_kind form) (λ t. refl) bytes left fits e
+update_fault form room (suc (suc (suc (suc (suc (suc (suc kind)))))) ∷ bytes) left fits e =
+    no_kind_fault (suc (suc (suc (suc (suc (suc (suc kind))))))) (no_update form) (λ t x bad. absurd cc) bytes left cc
 
 update_places : {Once : Type 0} (form : Form) → HasRoom form → HasPlaces Once Limits (update_at form) (spelling form) (HasForm form)
 update_places form room =

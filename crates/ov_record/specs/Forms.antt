@@ -1,24 +1,26 @@
--- How updates are spelled: the words of a set, and the limits of a creation.
-use Rattle.std.specs.Prelude.{ℕ, ◌<◌, ◌≤◌, ◌+◌, ◌*◌, ◌^◌}
+-- How updates are spelled: the words of a set, the limits of a creation, and whether there are
+-- removals.
+use Rattle.std.specs.Prelude.{Bool, true, false, ◌≡◌, ℕ, ◌<◌, ◌≤◌, ◌+◌, ◌*◌, ◌^◌}
 use Rattle.ov_base.specs.declared.limits.TheConstants.{MAX_NAME_BYTES}
 use Rattle.ov_record.specs.declared.formats.Format.{Format}
 use Rattle.ov_record.specs.declared.formats.Format.TheVariants.{First, Second}
 use Rattle.ov_record.specs.declared.forms.Form.{Form as FormOf}
 
 -- A form of spellings: how many words a set has, how many tokens a creation has at most, and how
--- many bytes the file that it creates.
+-- many bytes the file that it creates; and whether files are removed in it.
 pub record Form : Type 0 where
   pub words : ℕ
   pub most_tokens : ℕ
   pub longest : ℕ
+  pub removes : Bool
 
 -- the form of the first format, in which the records of older stores are
 abbrev pub first_form : Form
-first_form = record { words = 4; most_tokens = 256; longest = 1048576 }
+first_form = record { words = 4; most_tokens = 256; longest = 1048576; removes = false }
 
 -- the form of the second format, in which frames and new records are
 abbrev pub second_form : Form
-second_form = record { words = 16; most_tokens = 1024; longest = 16777216 }
+second_form = record { words = 16; most_tokens = 1024; longest = 16777216; removes = true }
 
 -- the form of this format
 abbrev pub form_in : Format → Form
@@ -29,11 +31,16 @@ form_in Second = second_form
 abbrev pub IsWider : Form → Form → Type 0
 IsWider wide form =
     (form.words ≤ wide.words) × (form.most_tokens ≤ wide.most_tokens)
-    × (form.longest ≤ wide.longest)
+    × (form.longest ≤ wide.longest) × (form.removes ≡ true → wide.removes ≡ true)
 
 -- the form for sets of W words with these limits
 abbrev pub form_of : {W : ℕ} → FormOf W → Form
-form_of {W} form = record { words = W; most_tokens = form.most_tokens; longest = form.longest }
+form_of {W} form = record {
+  words = W;
+  most_tokens = form.most_tokens;
+  longest = form.longest;
+  removes = form.removes;
+}
 
 -- the bytes of a set
 abbrev pub set_bytes : Form → ℕ

@@ -1,12 +1,12 @@
 -- Reading updates from left to right, in a given form.
-use Rattle.std.specs.Prelude.{ℕ, zero, suc, ◌-◌, List, [], ◌∷◌, length, Option, Result, Ok, Err}
+use Rattle.std.specs.Prelude.{cond, ℕ, zero, suc, ◌-◌, List, [], ◌∷◌, length, Option, Result, Ok, Err}
 use Rattle.std.specs.Int.{w32}
 use Rattle.ov_tokens.specs.declared.token.Token.{Token}
 use Rattle.ov_fields.specs.Reading.{Read, ◌>>=◌, ◌>>◌, made, all_of, placed, at_most, bytes_at, number_at, number_that, set_at, many_at, counted_at, sized_at, optional_at, name_at, token_at}
-use Rattle.ov_record.specs.Briefs.{Brief, BriefEnrol, BriefCreate, BriefGrant, BriefRevoke}
+use Rattle.ov_record.specs.Briefs.{Brief, BriefEnrol, BriefCreate, BriefGrant, BriefRevoke, BriefRemove}
 use Rattle.ov_record.specs.Forms.{Form, set_bytes}
 use Rattle.ov_record.specs.Stored.{Stored}
-use Rattle.ov_record.specs.Updates.{SealedUpdate, SealedEnrol, SealedCreate, SealedGrant, SealedRevoke}
+use Rattle.ov_record.specs.Updates.{SealedUpdate, SealedEnrol, SealedCreate, SealedGrant, SealedRevoke, SealedRemove}
 
 -- name, list, tokens, tag and bytes of a creation
 abbrev pub creation_at : Form → List ℕ → Read ((((List ℕ × ℕ) × List Token) × List ℕ) × List ℕ)
@@ -34,13 +34,20 @@ revocation_at = number_at w32 >> number_at w32
 abbrev pub revocation : ℕ × ℕ → SealedUpdate
 revocation (user, file) = SealedRevoke user file
 
--- the kind byte, from 1 to 4, and what stands for an update of this kind
+-- the file of a removal, behind its kind byte, which is wrong where the form has no removals
+abbrev pub removal_at : {A : Type 0} → Form → (ℕ → A) → List ℕ → Read A
+removal_at form removal bytes =
+    cond form.removes (made removal (number_at w32 bytes)) (Err (length (6 ∷ bytes)))
+
+-- the kind byte, from 1 to 4 or 6, and what stands for an update of this kind
 unfoldable pub update_at : Form → List ℕ → Read SealedUpdate
 update_at form [] = Err 0
 update_at form (suc zero ∷ bytes) = made SealedEnrol (name_at bytes)
 update_at form (suc (suc zero) ∷ bytes) = made creation (creation_at form bytes)
 update_at form (suc (suc (suc zero)) ∷ bytes) = made grant (grant_at bytes)
 update_at form (suc (suc (suc (suc zero))) ∷ bytes) = made revocation (revocation_at bytes)
+update_at form (suc (suc (suc (suc (suc (suc zero))))) ∷ bytes) =
+    removal_at form SealedRemove bytes
 update_at form (kind ∷ bytes) = Err (length (kind ∷ bytes))
 
 -- the update that all of the bytes spell, or the place of the first wrong byte
@@ -67,14 +74,16 @@ grant_brief ((user, file), token) = BriefGrant user file token
 abbrev pub revocation_brief : ℕ × ℕ → Brief
 revocation_brief (user, file) = BriefRevoke user file
 
--- the kind byte, from 1 to 4, and what stands for an update of this kind before the bytes of its
--- file
+-- the kind byte, from 1 to 4 or 6, and what stands for an update of this kind before the bytes of
+-- its file
 unfoldable pub brief_at : Form → List ℕ → Read Brief
 brief_at form [] = Err 0
 brief_at form (suc zero ∷ bytes) = made BriefEnrol (name_at bytes)
 brief_at form (suc (suc zero) ∷ bytes) = made creation_brief (creation_brief_at form bytes)
 brief_at form (suc (suc (suc zero)) ∷ bytes) = made grant_brief (grant_at bytes)
 brief_at form (suc (suc (suc (suc zero))) ∷ bytes) = made revocation_brief (revocation_at bytes)
+brief_at form (suc (suc (suc (suc (suc (suc zero))))) ∷ bytes) =
+    removal_at form BriefRemove bytes
 brief_at form (kind ∷ bytes) = Err (length (kind ∷ bytes))
 
 -- the value at the front of this many bytes, and how many of them spell it

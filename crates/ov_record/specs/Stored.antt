@@ -1,12 +1,12 @@
 -- The one spelling of a record that has an update without the bytes of its file: they lie
 -- elsewhere, and the record names the first block of each file whose stored bytes are new.
-use Rattle.std.specs.Prelude.{ℕ, ◌≡◌, ◌≤◌, ◌<◌, ◌+◌, ◌*◌, ◌^◌, List, ◌∷◌, ◌++◌, length, IfSome}
+use Rattle.std.specs.Prelude.{true, ℕ, ◌≡◌, ◌≤◌, ◌<◌, ◌+◌, ◌*◌, ◌^◌, List, ◌∷◌, ◌++◌, length, IfSome}
 use Rattle.std.specs.List.{AllByRecursion, flat_map}
 use Rattle.ov_base.specs.declared.limits.TheConstants.{MAX_FILES, MAX_NAME_BYTES}
 use Rattle.ov_base.specs.Names.{IsName}
 use Rattle.ov_base.specs.Sets.{IsBelow, bytes_of}
 use Rattle.ov_fields.specs.Spelling.{u32, name_field, token_field, optional, counted, IsToken}
-use Rattle.ov_record.specs.Briefs.{Brief, BriefEnrol, BriefCreate, BriefGrant, BriefRevoke, plain_brief}
+use Rattle.ov_record.specs.Briefs.{Brief, BriefEnrol, BriefCreate, BriefGrant, BriefRevoke, BriefRemove, plain_brief}
 use Rattle.ov_record.specs.Forms.{Form, set_bytes}
 use Rattle.ov_record.specs.declared.stored.Stored.{Stored as StoredOf}
 
@@ -21,6 +21,7 @@ brief_spelling form (BriefCreate name list tokens tag size) =
 brief_spelling form (BriefGrant user file token) =
     3 ∷ u32 user ++ u32 file ++ optional token_field token
 brief_spelling form (BriefRevoke user file) = 4 ∷ u32 user ++ u32 file
+brief_spelling form (BriefRemove file) = 6 ∷ u32 file
 
 -- which briefs have a spelling
 abbrev pub HasBriefForm : Form → Brief → Type 0
@@ -31,14 +32,17 @@ HasBriefForm form (BriefCreate name list tokens tag size) =
 HasBriefForm form (BriefGrant user file token) =
     (user < 2 ^ 32) × (file < 2 ^ 32) × IfSome token IsToken
 HasBriefForm form (BriefRevoke user file) = (user < 2 ^ 32) × (file < 2 ^ 32)
+HasBriefForm form (BriefRemove file) = (form.removes ≡ true) × (file < 2 ^ 32)
 
--- what a caller sees to before it writes a brief: the limits of a creation
+-- what a caller sees to before it writes a brief: the limits of a creation, and that the form has
+-- removals
 abbrev pub IsBriefWithinLimits : Form → Brief → Type 0
 IsBriefWithinLimits form (BriefEnrol name) = Unit {0}
 IsBriefWithinLimits form (BriefCreate name list tokens tag size) =
     (length tokens ≤ form.most_tokens) × (size ≤ form.longest)
 IsBriefWithinLimits form (BriefGrant user file token) = Unit {0}
 IsBriefWithinLimits form (BriefRevoke user file) = Unit {0}
+IsBriefWithinLimits form (BriefRemove file) = form.removes ≡ true
 
 -- how many bytes the longest spelling of a brief has
 abbrev pub longest_brief : Form → ℕ

@@ -2,7 +2,7 @@
 use Rattle.std.specs.Prelude.{ℕ, List, Option}
 use Rattle.ov_tokens.specs.declared.token.Token.{Token}
 use Rattle.ov_record.specs.declared.update.Update.{Update}
-use Rattle.ov_record.specs.declared.update.Update.TheVariants.{Enrol, Create, Grant, Revoke}
+use Rattle.ov_record.specs.declared.update.Update.TheVariants.{Enrol, Create, Grant, Revoke, Remove}
 
 -- An update as its owner sends it: names as their bytes, the list as a set of users, and with what
 -- the owner adds to it, which are the tokens, the file's tag, and its bytes in the base layer.
@@ -12,6 +12,7 @@ pub data SealedUpdate : Type 0 where
       → SealedUpdate
   SealedGrant : (user file : ℕ) → (token : Option Token) → SealedUpdate
   SealedRevoke : (user file : ℕ) → SealedUpdate
+  SealedRemove : (file : ℕ) → SealedUpdate
 
 -- the update without the width of its set
 abbrev pub sealed_update : {W : ℕ} → Update W → SealedUpdate
@@ -19,3 +20,4 @@ sealed_update (Enrol name) = SealedEnrol name
 sealed_update (Create name list tokens tag bytes) = SealedCreate name list tokens tag bytes
 sealed_update (Grant user file token) = SealedGrant user file token
 sealed_update (Revoke user file) = SealedRevoke user file
+sealed_update (Remove file) = SealedRemove file

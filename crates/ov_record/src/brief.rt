@@ -37,6 +37,10 @@ pub enum Brief<const W: usize> {
         user: u32,
         file: u32,
     },
+    /// A file is removed. Its number stays its own.
+    Remove {
+        file: u32,
+    },
 }
 
 impl<const W: usize> Brief<W> {
@@ -67,6 +71,7 @@ impl<const W: usize> Brief<W> {
             }
             Update::Grant { user, file, token } => (Brief::Grant { user, file, token }, None),
             Update::Revoke { user, file } => (Brief::Revoke { user, file }, None),
+            Update::Remove { file } => (Brief::Remove { file }, None),
         }
     }
 
@@ -101,6 +106,7 @@ impl<const W: usize> Brief<W> {
             },
             Brief::Grant { user, file, token } => Update::Grant { user, file, token },
             Brief::Revoke { user, file } => Update::Revoke { user, file },
+            Brief::Remove { file } => Update::Remove { file },
         }
     }
 
@@ -126,6 +132,7 @@ impl<const W: usize> Brief<W> {
             },
             Brief::Grant { user, file, token } => Brief::Grant { user, file, token },
             Brief::Revoke { user, file } => Brief::Revoke { user, file },
+            Brief::Remove { file } => Brief::Remove { file },
         }
     }
 }

@@ -1,12 +1,15 @@
 //! Forms of spellings.
 
-/// How updates are spelled: with sets of W words, and with these limits of a creation.
+/// How updates are spelled: with sets of W words, with these limits of a creation, and with removals
+/// or without.
 #[derive(Clone, Copy)]
 pub struct Form<const W: usize> {
     /// Most tokens of a creation.
     pub most_tokens: u16,
     /// Most bytes of the file that is created.
     pub longest: u32,
+    /// Whether files are removed in this form.
+    pub removes: bool,
 }
 
 impl Form<4> {
@@ -14,6 +17,7 @@ impl Form<4> {
     pub const FIRST: Form<4> = Form {
         most_tokens: 256,
         longest: 1_048_576,
+        removes: false,
     };
 }
 
@@ -22,5 +26,6 @@ impl Form<16> {
     pub const SECOND: Form<16> = Form {
         most_tokens: 1_024,
         longest: 16_777_216,
+        removes: true,
     };
 }

@@ -74,3 +74,11 @@ pub fn put_revocation(user: u32, file: u32, out: &mut Vec<u8>) -> Result<(), Mem
     put_u32(user, out)?;
     put_u32(file, out)
 }
+
+/// Appends the spelling of a removal.
+pub fn put_removal(file: u32, out: &mut Vec<u8>) -> Result<(), Memory>
+    ensures { OnOk result (out.new.items ≡ out.old.items ++ (6 ∷ u32 file)) }
+{
+    out.push(6)?;
+    put_u32(file, out)
+}

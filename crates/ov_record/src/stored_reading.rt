@@ -1,16 +1,16 @@
 //! Reading records of updates without the bytes of their files.
 
-ghost use Rattle.std.specs.Prelude.{◌≡◌, ◌≤◌, ◌++◌, List, ℕ, length, take, IfOk, Ok};
+ghost use Rattle.std.specs.Prelude.{◌≡◌, ◌≤◌, ◌++◌, ◌∷◌, List, ℕ, length, take, IfOk, Ok};
 ghost use Rattle.std.specs.Int.{w32};
 ghost use Rattle.ov_base.specs.declared.limits.TheConstants.{MAX_FILES, MAX_SET_WORDS};
 ghost use Rattle.ov_fields.specs.Answers.{Gives, GivesField, left_of};
 ghost use Rattle.ov_fields.specs.Reading.{all_of, made, many_at, number_at};
-ghost use Rattle.ov_record.specs.Briefs.{plain_brief, plain_front, Brief as PlainBrief};
+ghost use Rattle.ov_record.specs.Briefs.{plain_brief, plain_front, Brief as PlainBrief, BriefRemove};
 ghost use Rattle.ov_record.specs.Forms.{form_of};
 ghost use Rattle.ov_record.specs.Places.{place_of};
 ghost use Rattle.ov_record.specs.Reading.{brief_at, brief_of, creation_brief, creation_brief_at};
 ghost use Rattle.ov_record.specs.Reading.{grant_at, grant_brief, revocation_at, revocation_brief};
-ghost use Rattle.ov_record.specs.Reading.{stored_at, stored_of};
+ghost use Rattle.ov_record.specs.Reading.{removal_at, stored_at, stored_of};
 ghost use Rattle.ov_record.specs.Stored.{brief_spelling, plain_stored, stored_spelling, Stored as PlainStored};
 ghost use Rattle.ov_record.specs.Stored.{HasBriefForm, HasStoredForm, IsBriefWithinLimits};
 
@@ -63,6 +63,24 @@ fn take_revocation<const W: usize>(bytes: &[u8]) -> Result<(Brief<W>, &[u8]), Fi
     Ok((Brief::Revoke { user, file }, rest))
 }
 
+/// A removal behind its kind byte. Of a form without removals that byte is wrong; with it this many
+/// bytes are left.
+fn take_removal<const W: usize>(
+    form: Form<W>,
+    left: usize,
+    bytes: &[u8],
+) -> Result<(Brief<W>, &[u8]), FieldFault>
+    requires { left ≡ length (6 ∷ bytes.now) }
+    ensures { GivesField plain_brief result
+        (removal_at (form_of form.entry) BriefRemove bytes.now) }
+{
+    if !form.removes {
+        return Err(FieldFault::Bad { left });
+    }
+    let (file, rest) = take_u32(bytes)?;
+    Ok((Brief::Remove { file }, rest))
+}
+
 /// The update at the front of the bytes, without the bytes of its file.
 #[tactic(auto, unfolding(crate::specs::Reading::brief_at))]
 pub fn take_brief<const W: usize>(
@@ -81,6 +99,7 @@ pub fn take_brief<const W: usize>(
         [2, rest @ ..] => take_creation(alloc, form, rest),
         [3, rest @ ..] => take_grant(rest),
         [4, rest @ ..] => take_revocation(rest),
+        [6, rest @ ..] => take_removal(form, bytes.len(), rest),
         _ => Err(FieldFault::Bad { left: bytes.len() }),
     }
 }

@@ -9,7 +9,7 @@ ghost use Rattle.ov_record.specs.Forms.{form_of};
 ghost use Rattle.ov_record.specs.Stored.{brief_spelling, plain_stored, stored_spelling};
 ghost use Rattle.ov_record.specs.Stored.{HasStoredForm, IsBriefWithinLimits};
 
-use crate::pieces::{put_creation, put_grant, put_revocation};
+use crate::pieces::{put_creation, put_grant, put_removal, put_revocation};
 use crate::within::known_stored_form;
 use crate::{Brief, Form, Stored};
 use ov_base::Memory;
@@ -40,6 +40,7 @@ fn put_brief<const W: usize>(
         } => put_creation(name, list, tokens.as_slice(), tag, *length, out),
         Brief::Grant { user, file, token } => put_grant(*user, *file, token, out),
         Brief::Revoke { user, file } => put_revocation(*user, *file, out),
+        Brief::Remove { file } => put_removal(*file, out),
     }
 }
 

@@ -32,4 +32,8 @@ pub enum Update<const W: usize> {
         user: u32,
         file: u32,
     },
+    /// A file is removed. Its number stays its own.
+    Remove {
+        file: u32,
+    },
 }

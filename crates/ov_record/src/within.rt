@@ -54,6 +54,9 @@ pub fn known_form<const W: usize>(form: Form<W>, update: &Update<W>)
         Update::Revoke { user, file } => {
             let _numbers = (*user, *file);
         }
+        Update::Remove { file } => {
+            let _number = *file;
+        }
     }
 }
 
@@ -82,6 +85,9 @@ fn known_brief_form<const W: usize>(form: Form<W>, brief: &Brief<W>)
         }
         Brief::Revoke { user, file } => {
             let _numbers = (*user, *file);
+        }
+        Brief::Remove { file } => {
+            let _number = *file;
         }
     }
 }

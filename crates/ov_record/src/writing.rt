@@ -6,7 +6,7 @@ ghost use Rattle.ov_record.specs.Spelling.{spelling, body_of, HasForm, IsWithinL
 ghost use Rattle.ov_record.specs.Forms.{form_of};
 ghost use Rattle.ov_record.specs.Updates.{sealed_update};
 
-use crate::pieces::{put_creation, put_grant, put_revocation};
+use crate::pieces::{put_creation, put_grant, put_removal, put_revocation};
 use crate::within::known_form;
 use crate::{Form, Update};
 use ov_base::{Memory, Octets};
@@ -51,6 +51,7 @@ fn put_front<const W: usize>(
         }
         Update::Grant { user, file, token } => put_grant(*user, *file, token, out),
         Update::Revoke { user, file } => put_revocation(*user, *file, out),
+        Update::Remove { file } => put_removal(*file, out),
     }
 }
 
