@@ -10,6 +10,7 @@ use Rattle.std.specs.Prelude.{is_some}
 use Rattle.std.specs.Prelude.{◌++◌}
 use Rattle.std.specs.Prelude.{true}
 use Rattle.ov_history.specs.Places.{living_at}
+use Rattle.ov_history.specs.Places.{gone}
 
 pub length-change_at : {A : Type 0} (f : A → A) (place : ℕ) (xs : List A)
     → length (change_at f place xs) ≡ length xs
@@ -35,6 +36,29 @@ is_some-change f zero (Some x ∷ xs) zero = refl
 is_some-change f zero (x ∷ xs) (suc n) = refl
 is_some-change f (suc place) (x ∷ xs) zero = refl
 is_some-change f (suc place) (x ∷ xs) (suc n) = is_some-change f place xs n
+
+-- what is there after something else is gone was there before
+pub gone_other : {A : Type 0} (place : ℕ) (xs : List (Option A)) (n : ℕ)
+    → is_some (living_at (change_at gone place xs) n) ≡ true
+    → living_at (change_at gone place xs) n ≡ living_at xs n
+gone_other place [] n there = refl
+gone_other zero (x ∷ xs) zero there = absurd (cc)
+gone_other zero (x ∷ xs) (suc n) there = refl
+gone_other (suc place) (x ∷ xs) zero there = refl
+gone_other (suc place) (x ∷ xs) (suc n) there = gone_other place xs n there
+
+-- what is there after something else is gone has another number
+pub gone_not : {A : Type 0} (place : ℕ) (xs : List (Option A)) (n : ℕ)
+    → is_some (living_at (change_at gone place xs) n) ≡ true → n ≢ place
+gone_not place [] n there same = absurd (cc)
+gone_not zero (x ∷ xs) zero there same = absurd (cc)
+gone_not zero (x ∷ xs) (suc n) there same = absurd (cc)
+gone_not (suc place) (x ∷ xs) zero there same = absurd (cc)
+gone_not (suc place) (x ∷ xs) (suc n) there same = gone_not place xs n there (cc)
+
+pub some-there : {A : Type 0} (o : Option A) (x : A) → o ≡ Some x → is_some o ≡ true
+some-there None x is = absurd (cc)
+some-there (Some y) x is = refl
 
 -- there is a number for each that isn't gone
 pub below_some : {A : Type 0} (xs : List (Option A)) (n : ℕ) → is_some (living_at xs n) ≡ true

@@ -24,7 +24,10 @@ use Rattle.ov_history.proofs.Staying.{numbers_stay}
 use Rattle.ov_history.proofs.ChangeLaws.{below_some}
 use Rattle.std.specs.Prelude.{option_map}
 use Rattle.std.specs.Prelude.{Some}
-
+use Rattle.ov_history.specs.Places.{living_at}
+use Rattle.ov_history.specs.Places.{change_at}
+use Rattle.ov_history.specs.Places.{gone}
+use Rattle.ov_history.specs.History.{Removed}
 -- ---- the number of files
 
 -- an update that isn't refused leaves no more files than there may be
@@ -42,6 +45,8 @@ few_after h (Granted user file) none few =
     omega (arith, length-change_at (option_map (listed user)) file (matrix_of h).files)
 few_after h (Revoked user file) none few =
     omega (arith, length-change_at (option_map (delisted user)) file (matrix_of h).files)
+few_after h (Removed file) none few =
+    omega (arith, length-change_at gone file (matrix_of h).files)
 
 few_all : (h : History) (updates : List Update) → AllAccepted h updates
     → length (matrix_of h).files ≤ MAX_FILES

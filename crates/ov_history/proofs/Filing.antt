@@ -26,21 +26,32 @@ use Rattle.ov_history.specs.Kept.{opened, padded}
 use Rattle.ov_history.specs.Closure.{surface_label}
 use Rattle.ov_history.specs.KeptLaws.{BytesLieUnderPads, EachIsStored, FilesAreFiled}
 use Rattle.ov_history.specs.KeptLaws.{ReadersGetBytes}
+use Rattle.ov_history.specs.Catalogue.{new_file}
+use Rattle.ov_history.specs.Sealing.{sealed_tag, sealed_text}
+use Rattle.ov_history.proofs.ChangeLaws.{gone_other, length-change_at, some-there}
 use Rattle.ov_history.proofs.GoingOn.{sent-push}
 use Rattle.ov_history.proofs.Keeping.{catalogue-sealed, kept_stands_for, layers-sealed}
-use Rattle.ov_history.proofs.Outlining.{length-places}
+use Rattle.ov_history.proofs.Outlining.{length-places, lists-at}
 use Rattle.ov_history.proofs.PlainLaws.{each_plain, texts_of-push}
 use Rattle.ov_history.proofs.Sealing.{sealing_goes_on}
 use Rattle.ov_history.proofs.Storing.{IsSameFile, settled_still, with_last, length-settled_files, stored_is_coated}
 use Rattle.ov_history.specs.Places.{living_at}
+use Rattle.std.specs.Prelude.{option_map}
+use Rattle.std.specs.Prelude.{unwrap_or}
+use Rattle.ov_history.specs.Places.{change_at}
+use Rattle.ov_history.specs.Layers.{list_at}
+use Rattle.ov_history.specs.Catalogue.{place_of_file}
+use Rattle.ov_history.specs.Places.{gone}
+use Rattle.ov_history.specs.Plain.{PlainRemove}
+use Rattle.ov_base.specs.Sets.{empty as nobody}
 
 -- ---- one file
 
 -- a file came as it should: its text is its bytes in the coat of its base node, and its tag is
 -- theirs
-record IsSentAs (k : Masters) (number : ℕ) (f : Filed) (bytes text : List ℕ) : Type 0 where
-  base : text ≡ base_text (access_key k.base f.node) number bytes
-  tag : f.tag ≡ tag_of_file (access_key k.base f.node) number bytes
+pub record IsSentAs (k : Masters) (number : ℕ) (f : Filed) (bytes text : List ℕ) : Type 0 where
+  pub base : text ≡ base_text (access_key k.base f.node) number bytes
+  pub tag : f.tag ≡ tag_of_file (access_key k.base f.node) number bytes
 
 -- a new surface is no change of a file's text and tag
 still_sent : (k : Masters) (number : ℕ) (f now : Filed) (bytes text : List ℕ) → IsSameFile f now
@@ -63,28 +74,39 @@ record AllSent (k : Masters) (files : List (Option Filed)) (bytes texts : List (
   each : (n : ℕ) (f : Filed) → living_at files n ≡ Some f
       → IsSentAs k n f (slice_index_or bytes n []) (slice_index_or texts n [])
 
-module _ (k : Masters) (files : List (Option Filed)) (bytes texts : List (List ℕ)) (f : Filed)
-    (plain text : List ℕ) where
-  more_sent : AllSent k files bytes texts → IsSentAs k (length files) f plain text
-      → AllSent k (files ++ Some f ∷ []) (bytes ++ plain ∷ []) (texts ++ text ∷ [])
+gone_sent : (k : Masters) (files : List (Option Filed)) (bytes texts : List (List ℕ)) (file : ℕ)
+    → AllSent k files bytes texts → AllSent k (change_at gone file files) bytes texts
+gone_sent k files bytes texts file all =
+    let many = length-change_at gone file files in record {
+      bytes_many = all.bytes_many ∙ sym many;
+      texts_many = all.texts_many ∙ sym many;
+      each = λ n f is.
+          all.each n f
+          (sym (gone_other file files n
+          (some-there (living_at (change_at gone file files) n) f is)) ∙ is);
+    }
+
+module _ (k : Masters) (files : List (Option Filed)) (bytes texts : List (List ℕ))
+    (new : Option Filed) (plain text : List ℕ) where
+  more_sent : AllSent k files bytes texts
+      → ((f : Filed) → new ≡ Some f → IsSentAs k (length files) f plain text)
+      → AllSent k (files ++ new ∷ []) (bytes ++ plain ∷ []) (texts ++ text ∷ [])
   more_sent all one = record {
     bytes_many =
-        omega (arith, all.bytes_many, length-append bytes (plain ∷ []), length-append files (Some f ∷ []));
+        omega (arith, all.bytes_many, length-append bytes (plain ∷ []), length-append files (new ∷ []));
     texts_many =
-        omega (arith, all.texts_many, length-append texts (text ∷ []), length-append files (Some f ∷ []));
-    each = λ n g is. elim (with_last files (Some f) n g is) [
+        omega (arith, all.texts_many, length-append texts (text ∷ []), length-append files (new ∷ []));
+    each = λ n g is. elim (with_last files new n g is) [
       | inl old ↦
           sent_by n
           (sym (get_or_append_left bytes (plain ∷ []) [] n (omega (arith, all.bytes_many, old.0))))
           (sym (get_or_append_left texts (text ∷ []) [] n (omega (arith, all.texts_many, old.0))))
           (all.each n g old.1)
       | inr last ↦
-          let same : f ≡ g = cc in
           sent_by n
           (sym (last_item bytes plain n [] (last.0 ∙ sym all.bytes_many)))
           (sym (last_item texts text n [] (last.0 ∙ sym all.texts_many)))
-          (subst (λ (h : Filed). IsSentAs k n h plain text) same
-          (subst (λ m. IsSentAs k m f plain text) (sym last.0) one))
+          (subst (λ m. IsSentAs k m g plain text) (sym last.0) (one g last.1))
     ];
   } where
     sent_by : (n : ℕ) {g : Filed} {these those : List ℕ} {one other : List ℕ}
@@ -95,6 +117,20 @@ module _ (k : Masters) (files : List (Option Filed)) (bytes texts : List (List �
         subst (λ (x : List ℕ). IsSentAs k n g those x) texts
         (subst (λ (x : List ℕ). IsSentAs k n g x one) plains sent)
 
+-- a new file of this list has the coat of its base node
+new_sent : (k : Masters) (c : Catalogue) (name : List ℕ) (list size : ℕ) (plain : List ℕ) (f : Filed)
+    → Some (new_file c name list (sealed_tag k (outline c) list plain) size) ≡ Some f
+    → IsSentAs k (length c.files) f plain (sealed_text k (outline c) list plain)
+new_sent k c name list size plain f is =
+    let new : Filed = new_file c name list (sealed_tag k (outline c) list plain) size in
+    let same : new ≡ f = cc in
+    subst (λ (g : Filed). IsSentAs k (length c.files) g plain
+    (sealed_text k (outline c) list plain)) same
+    (record {
+      base = ap (λ n. base_text (access_key k.base new.node) n plain) (length-places c.files);
+      tag = ap (λ n. tag_of_file (access_key k.base new.node) n plain) (length-places c.files);
+    })
+
 -- a file that was just created has the coat of its base node
 grown_sent : (k : Masters) (c : Catalogue) (bytes texts : List (List ℕ)) (u : PlainUpdate)
     → AllSent k c.files bytes texts
@@ -103,22 +139,14 @@ grown_sent : (k : Masters) (c : Catalogue) (bytes texts : List (List ℕ)) (u : 
     (with_text texts (text_of sent))
 grown_sent k c bytes texts (PlainEnrol user) all = all
 grown_sent k c bytes texts (PlainCreate file list plain) all =
-    let access = access_key k.base (node_for c.base.sets list) in
-    let number = length (places c.files) in
-    let text : List ℕ = base_text access number plain in
-    let f : Filed = record {
-      name = file;
-      node = node_for c.base.sets list;
-      surface = None;
-      generation = c.epoch + 1;
-      tag = tag_of_file access number plain;
-      length = length text;
-    } in
-    let one : IsSentAs k number f plain text = record { base = refl; tag = refl } in
-    more_sent k c.files bytes texts f plain text all
-    (subst (λ n. IsSentAs k n f plain text) (length-places c.files) one)
+    more_sent k c.files bytes texts
+    (Some (new_file c file list (sealed_tag k (outline c) list plain)
+    (length (sealed_text k (outline c) list plain)))) plain
+    (sealed_text k (outline c) list plain) all
+    (λ f is. new_sent k c file list (length (sealed_text k (outline c) list plain)) plain f is)
 grown_sent k c bytes texts (PlainGrant user file) all = all
 grown_sent k c bytes texts (PlainRevoke user file) all = all
+grown_sent k c bytes texts (PlainRemove file) all = gone_sent k c.files bytes texts file all
 
 sent_after : (k : Masters) (c : Catalogue) (bytes texts : List (List ℕ)) (u : PlainUpdate)
     → AllSent k c.files bytes texts
@@ -191,7 +219,7 @@ pub each_is_stored : EachIsStored
 each_is_stored k p c stored kept bytes =
     (stored_is_coated k.surface c stored (sealed k p) (kept_stands_for k p c kept) bytes).each
 
-sent_as : (k : Masters) (p : PlainHistory) (file : ℕ) (f : Filed)
+pub sent_as : (k : Masters) (p : PlainHistory) (file : ℕ) (f : Filed)
     → living_at (catalogue_of k.surface (sealed k p)).files file ≡ Some f
     → IsSentAs k file f (bytes_of p file) (slice_index_or (sent_of (sealed k p)) file [])
 sent_as k p file f is = (files_kept k p).each file f is

@@ -16,14 +16,28 @@ use Rattle.ov_history.specs.Layers.{Layers, Place, grown, layers_after, layers_o
 use Rattle.ov_history.specs.Layers.{lists_of, moved, no_place, node_for, same_surface, settled_at}
 use Rattle.ov_history.specs.Layers.{surface_at, wants_of}
 use Rattle.ov_history.specs.Words.{place_in, wanted_of}
-use Rattle.ov_history.specs.WordLaws.{GenerationsBegin, GenerationsMove, GenerationsStay}
+use Rattle.ov_history.specs.WordLaws.{GenerationsBegin, GenerationsBeginAnew, GenerationsMove}
+use Rattle.ov_history.specs.WordLaws.{GenerationsStay}
+use Rattle.ov_history.proofs.SoundTests.{is_some-map}
 use Rattle.ov_history.proofs.Listing.{same_surface-is, same_surface-refl}
 use Rattle.ov_history.proofs.MatrixLaws.{epoch_of-layers_of, files_of-layers_of}
 use Rattle.ov_history.proofs.PlanLaws.{node_for-there, with_wants-keeps}
 use Rattle.ov_history.proofs.Pushing.{layers_of-push}
 use Rattle.ov_history.proofs.Wanting.{IsSettled, file_below, history-settled, length-after}
+use Rattle.ov_history.proofs.Wanting.{living_same, read_off, still_settled}
 use Rattle.ov_history.proofs.Wanting.{place_at, settled_after, wanted_in, wanted_of-is}
 use Rattle.std.specs.Prelude.{unwrap_or}
+use Rattle.std.specs.Prelude.{option_map}
+use Rattle.std.specs.Prelude.{is_some}
+use Rattle.ov_history.specs.Places.{living_at}
+use Rattle.ov_history.specs.Places.{change_at}
+use Rattle.ov_history.specs.Places.{gone}
+use Rattle.ov_history.specs.Layers.{new_place}
+use Rattle.ov_history.specs.History.{Removed}
+use Rattle.ov_history.proofs.ChangeLaws.{gone_other}
+use Rattle.ov_history.proofs.ChangeLaws.{length-change_at}
+use Rattle.ov_history.specs.Words.{HasFile}
+use Rattle.ov_history.specs.Layers.{list_at}
 
 -- ---- more sets
 
@@ -86,6 +100,7 @@ grown_surface y (Enrolled name) n below = (
 grown_surface y (Created name list size) n below = (below, refl)
 grown_surface y (Granted user file) n below = (below, refl)
 grown_surface y (Revoked user file) n below = (below, refl)
+grown_surface y (Removed file) n below = (below, refl)
 
 surface_keeps : (y : Layers) (u : Update) → KeepsNodes y.surface (layers_after y u).surface
 surface_keeps y u n below =
@@ -97,17 +112,20 @@ surface_keeps y u n below =
 
 -- the place of a file that was there is as before until the surfaces are settled
 pub grown_file : (y : Layers) (u : Update) (file : ℕ) → file < length y.files
+    → is_some (living_at (grown y u).files file) ≡ true
     → (file < length (grown y u).files) × (place_at (grown y u).files file ≡ place_at y.files file)
-grown_file y (Enrolled name) file below = (below, refl)
-grown_file y (Created name list size) file below =
-    let place : Place =
-    record { node = node_for y.base list; surface = None; generation = y.epoch + 1 } in (
-      omega (arith, length-append y.files (Some place ∷ [])),
-      ap (λ (o : Option Place). unwrap_or o no_place)
-          (get_or_append_left y.files (Some place ∷ []) None file below),
-    )
-grown_file y (Granted user other) file below = (below, refl)
-grown_file y (Revoked user other) file below = (below, refl)
+grown_file y (Enrolled name) file below still = (below, refl)
+grown_file y (Created name list size) file below still = (
+  omega (arith, length-append y.files (Some (new_place y list) ∷ [])),
+  ap (λ (o : Option Place). unwrap_or o no_place)
+      (get_or_append_left y.files (Some (new_place y list) ∷ []) None file below),
+)
+grown_file y (Granted user other) file below still = (below, refl)
+grown_file y (Revoked user other) file below still = (below, refl)
+grown_file y (Removed other) file below still = (
+  omega (arith, length-change_at gone other y.files),
+  ap (λ (o : Option Place). unwrap_or o no_place) (gone_other other y.files file still),
+)
 
 moved_stays : (b : Bool) (epoch : ℕ) (surface : Option ℕ) (p : Place)
     → same_surface p.surface surface ≡ b
@@ -125,7 +143,8 @@ moved_moves true epoch surface p is other = absurd (other (same_surface-is p.sur
 moved_moves false epoch surface p is other = refl
 
 module _ (y : Layers) (u : Update) (file : ℕ) (settled : IsSettled y)
-    (next : IsSettled (layers_after y u)) (below : file < length y.files) where
+    (next : IsSettled (layers_after y u)) (below : file < length y.files)
+    (still : is_some (living_at (grown y u).files file) ≡ true) where
   abbrev later : Layers
   later = layers_after y u
 
@@ -136,7 +155,7 @@ module _ (y : Layers) (u : Update) (file : ℕ) (settled : IsSettled y)
   place_after : place_at later.files file
       ≡ settled_at later.epoch later.surface (wanted_in later file) place
   place_after =
-      let there = grown_file y u file below in
+      let there = grown_file y u file below still in
       settled_after y u file there.0
       ∙ ap (λ (p : Place). settled_at later.epoch later.surface (wanted_in later file) p) there.1
 
@@ -158,7 +177,7 @@ module _ (y : Layers) (u : Update) (file : ℕ) (settled : IsSettled y)
       → (place_at later.files file).generation ≡ later.epoch
   generation_moves other =
       let there : file < length later.files =
-      omega (arith, length-after y u, (grown_file y u file below).0) in
+      omega (arith, length-after y u, (grown_file y u file below still).0) in
       ap (λ (p : Place). p.generation) place_after
       ∙ moved_moves (same_surface place.surface (surface_at later.surface (wanted_in later file)))
       later.epoch
@@ -175,23 +194,26 @@ moved_new : (b : Bool) (epoch : ℕ) (surface : Option ℕ) (p : Place) → p.ge
 moved_new true epoch surface p new = new
 moved_new false epoch surface p new = refl
 
+begins_at : (y : Layers) (u : Update) (new : Place) (n : ℕ) → n < length (grown y u).files
+    → place_at (grown y u).files n ≡ new → new.generation ≡ (layers_after y u).epoch
+    → (place_at (layers_after y u).files n).generation ≡ (layers_after y u).epoch
+begins_at y u new n below last fresh =
+    let later : Layers = layers_after y u in
+    let surface : Option ℕ = surface_at later.surface (wanted_in later n) in
+    ap (λ (p : Place). p.generation)
+    (settled_after y u n below
+    ∙ ap (λ (p : Place). settled_at later.epoch later.surface (wanted_in later n) p) last)
+    ∙ moved_new (same_surface new.surface surface) later.epoch surface new fresh
+
 generation_begins : (y : Layers) (name : List ℕ) (list size : ℕ)
     → let later = layers_after y (Created name list size) in
     (place_at later.files (length y.files)).generation ≡ later.epoch
 generation_begins y name list size =
-    let u : Update = Created name list size in
-    let later : Layers = layers_after y u in
-    let new : Place =
-    record { node = node_for y.base list; surface = None; generation = y.epoch + 1 } in
-    let last : place_at (y.files ++ Some new ∷ []) (length y.files) ≡ new =
-    ap (λ (o : Option Place). unwrap_or o no_place)
-    (last_item y.files (Some new) (length y.files) None refl) in
-    let surface : Option ℕ = surface_at later.surface (wanted_in later (length y.files)) in
-    ap (λ (p : Place). p.generation)
-    (settled_after y u (length y.files) (omega (arith, length-append y.files (Some new ∷ [])))
-    ∙ ap (λ (p : Place). settled_at later.epoch later.surface (wanted_in later (length y.files)) p)
-    last)
-    ∙ moved_new (same_surface None surface) later.epoch surface new refl
+    let new : Place = new_place y list in
+    begins_at y (Created name list size) new (length y.files)
+    (omega (arith, length-append y.files (Some new ∷ [])))
+    (ap (λ (o : Option Place). unwrap_or o no_place)
+    (last_item y.files (Some new) (length y.files) None refl)) refl
 
 -- ---- histories
 
@@ -215,12 +237,20 @@ module _ (h : History) (u : Update) where
       wanted_of-is (with_update h u) file
       ∙ ap (λ (y : Layers). wanted_in y file) (layers_of-push h u)
 
+-- a file that is there after an update is there before its surface is settled
+pub still_grown : (h : History) (u : Update) (file : ℕ) → HasFile (with_update h u) file
+    → is_some (living_at (grown (layers_of h) u).files file) ≡ true
+still_grown h u file still =
+    sym (still_settled (layers_of h) u file)
+    ∙ ap (λ (y : Layers). is_some (living_at y.files file)) (sym (layers_of-push h u))
+    ∙ living_same (with_update h u) file ∙ still
+
 pub generations_stay : GenerationsStay
 generations_stay h u file there still same =
     after_update h u
     (λ (y : Layers). (place_at y.files file).generation ≡ (place_in h file).generation)
     (generation_stays (layers_of h) u file (history-settled h) (next_settled h u)
-    (file_below h file there)
+    (file_below h file there) (still_grown h u file still)
     (sym (next_wanted h u file) ∙ same ∙ wanted_of-is h file))
 
 pub generations_move : GenerationsMove
@@ -228,7 +258,7 @@ generations_move h u file there still other =
     after_update h u
     (λ (y : Layers). (place_at y.files file).generation ≡ epoch_of (with_update h u))
     (generation_moves (layers_of h) u file (history-settled h) (next_settled h u)
-    (file_below h file there)
+    (file_below h file there) (still_grown h u file still)
     (λ same. other (next_wanted h u file ∙ same ∙ sym (wanted_of-is h file)))
     ∙ now h u)
 

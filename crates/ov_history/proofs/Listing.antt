@@ -20,7 +20,10 @@ use Rattle.std.specs.Prelude.{zero}
 use Rattle.ov_history.specs.Places.{change_at}
 use Rattle.ov_history.specs.Layers.{want_at}
 use Rattle.ov_history.specs.Layers.{list_at}
-
+use Rattle.ov_history.specs.Places.{living_at}
+use Rattle.ov_history.specs.Places.{gone}
+use Rattle.ov_history.specs.Layers.{new_place}
+use Rattle.ov_history.specs.History.{Removed}
 -- ---- surfaces
 
 -- two surfaces that are the same
@@ -199,6 +202,19 @@ changed_alike change zero (list ∷ lists) (p ∷ places) all =
 changed_alike change (suc file) (list ∷ lists) (p ∷ places) all =
     (all.0, changed_alike change file lists places all.1)
 
+gone_alike : (file : ℕ) (lists : List (Option ℕ)) (places : List (Option Place))
+    → AllAlike lists places → AllAlike (change_at gone file lists) (change_at gone file places)
+gone_alike file [] [] all = tt
+gone_alike file [] (p ∷ places) all = absurd all
+gone_alike file (list ∷ lists) [] all = absurd all
+gone_alike zero (list ∷ lists) (p ∷ places) all = (tt, all.1)
+gone_alike (suc file) (list ∷ lists) (p ∷ places) all =
+    (all.0, gone_alike file lists places all.1)
+
+anew_alike : (y : Layers) (list : Option ℕ) → AreAlike list (option_map (new_place y) list)
+anew_alike y None = tt
+anew_alike y (Some list) = tt
+
 length-alike : (lists : List (Option ℕ)) (places : List (Option Place)) → AllAlike lists places
     → length lists ≡ length places
 length-alike [] [] all = refl
@@ -220,12 +236,12 @@ pub lists_after-alike : (y : Layers) (u : Update)
 lists_after-alike y (Enrolled user) = shown_alike y y.files
 lists_after-alike y (Created file list size) =
     more_alike (lists_of y) y.files (Some list)
-    (Some (record { node = node_for y.base list; surface = None; generation = y.epoch + 1 })) tt
-    (shown_alike y y.files)
+    (Some (new_place y list)) tt (shown_alike y y.files)
 lists_after-alike y (Granted user file) =
     changed_alike (λ list. with list user) file (lists_of y) y.files (shown_alike y y.files)
 lists_after-alike y (Revoked user file) =
     changed_alike (λ list. without list user) file (lists_of y) y.files (shown_alike y y.files)
+lists_after-alike y (Removed file) = gone_alike file (lists_of y) y.files (shown_alike y y.files)
 
 -- there is one for each number
 pub length-lists_after : (y : Layers) (u : Update)

@@ -18,7 +18,10 @@ use Rattle.std.specs.Prelude.{None}
 use Rattle.std.specs.Prelude.{unwrap_or}
 use Rattle.ov_history.specs.Places.{living_at}
 use Rattle.ov_base.specs.Sets.{empty as nobody}
-
+use Rattle.std.specs.Prelude.{◌++◌}
+use Rattle.ov_history.specs.Places.{change_at}
+use Rattle.ov_history.specs.Places.{gone}
+use Rattle.ov_history.specs.History.{Removed}
 -- ---- lists of files
 
 -- the lists of these files
@@ -50,6 +53,12 @@ changed_list : (on_list : ℕ → ℕ) (on_file : File → File)
 changed_list on_list on_file same None = refl
 changed_list on_list on_file same (Some f) = ap Some (same f)
 
+-- of a file that is gone the list is gone too
+file_lists-gone : (file : ℕ) (files : List (Option File))
+    → file_lists (change_at gone file files) ≡ change_at gone file (file_lists files)
+file_lists-gone file files =
+    map-change_at (option_map (λ (f : File). f.list)) gone gone (λ o. refl) file files
+
 pub file_lists-changed : (m : Matrix) (u : Update)
     → file_lists (changed m u).files ≡ lists_after (file_lists m.files) u
 file_lists-changed m (Enrolled user) = refl
@@ -64,6 +73,7 @@ file_lists-changed m (Revoked user file) =
     map-change_at (option_map (λ (file : File). file.list)) (option_map (delisted user))
     (option_map (λ list. without list user))
     (changed_list (λ list. without list user) (delisted user) (λ file. refl)) file m.files
+file_lists-changed m (Removed file) = file_lists-gone file m.files
 
 -- the layers of a history have the lists of its matrix
 pub lists_of-layers_of : (h : History) → lists_of (layers_of h) ≡ file_lists (matrix_of h).files
@@ -88,6 +98,7 @@ mode_after y (Enrolled user) = refl
 mode_after y (Created file list size) = refl
 mode_after y (Granted user file) = refl
 mode_after y (Revoked user file) = refl
+mode_after y (Removed file) = refl
 
 pub mode_of-layers_of : (h : History) → (layers_of h).mode ≡ h.mode
 mode_of-layers_of = each_history (λ (h : History). (layers_of h).mode ≡ h.mode) (λ h. refl)
@@ -99,6 +110,7 @@ epoch_after y (Enrolled user) = refl
 epoch_after y (Created file list size) = refl
 epoch_after y (Granted user file) = refl
 epoch_after y (Revoked user file) = refl
+epoch_after y (Removed file) = refl
 
 pub epoch_of-layers_of : (h : History) → (layers_of h).epoch ≡ epoch_of h
 epoch_of-layers_of =
@@ -113,6 +125,7 @@ users_after y m (Enrolled user) same = omega (arith, length-append m.users (user
 users_after y m (Created file list size) same = same
 users_after y m (Granted user file) same = same
 users_after y m (Revoked user file) same = same
+users_after y m (Removed file) same = same
 
 pub users_of-layers_of : (h : History) → (layers_of h).users ≡ length (matrix_of h).users
 users_of-layers_of =

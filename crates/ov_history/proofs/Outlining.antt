@@ -31,6 +31,13 @@ use Rattle.ov_history.proofs.Pushing.{layers_of-push, with_updates, with_updates
 use Rattle.std.specs.Prelude.{option_map}
 use Rattle.std.specs.Prelude.{unwrap_or}
 use Rattle.ov_history.specs.Places.{living_at}
+use Rattle.ov_history.specs.Places.{change_at}
+use Rattle.ov_history.specs.Layers.{list_at}
+use Rattle.ov_history.specs.Places.{gone}
+use Rattle.ov_history.specs.Layers.{new_place}
+use Rattle.ov_history.specs.Catalogue.{new_file}
+use Rattle.ov_history.specs.Briefs.{BriefRemove}
+use Rattle.ov_history.specs.Layers.{lists_at}
 
 -- ---- sets of nodes
 
@@ -130,6 +137,27 @@ granted_accesses false grants user node None parts = absurd (false≢true parts)
 granted_accesses false grants user node (Some token) parts =
     map-append access_of grants (record { user = user; node = node; token = token } ∷ [])
 
+-- of a file that is gone the place is gone too
+places-gone : (file : ℕ) (files : List (Option Filed))
+    → places (change_at gone file files) ≡ change_at gone file (places files)
+places-gone file [] = refl
+places-gone zero (f ∷ files) = refl
+places-gone (suc file) (f ∷ files) =
+    ap (λ (ps : List (Option Place)). option_map place_of_file f ∷ ps) (places-gone file files)
+
+-- the list that is read off the place of a number
+pub lists-at : (c : Catalogue) (file : ℕ)
+    → living_at (lists_of (outline c)) file
+    ≡ option_map (λ f. list_at (outline c) (place_of_file f)) (living_at c.files file)
+lists-at c file = along c.files file where
+  along : (files : List (Option Filed)) (file : ℕ)
+      → living_at (lists_at (outline c) (places files)) file
+      ≡ option_map (λ f. list_at (outline c) (place_of_file f)) (living_at files file)
+  along [] file = refl
+  along (None ∷ files) zero = refl
+  along (Some f ∷ files) zero = refl
+  along (f ∷ files) (suc file) = along files file
+
 -- the layers with what an update adds, before the files are settled
 pub outline-grown : (c : Catalogue) (b : Brief) → HasParts (outline c) b
     → outline (grown_catalogue c b) ≡ grown (outline c) (outer b)
@@ -138,14 +166,7 @@ outline-grown c (BriefEnrol user) parts =
     ap (λ users. record y { users = users }) (length-append c.users (user ∷ []))
 outline-grown c (BriefCreate file list tokens tag size) parts =
     let y : Layers = grown (outline c) (Created file list size) in
-    let f : Filed = record {
-      name = file;
-      node = node_for c.base.sets list;
-      surface = None;
-      generation = c.epoch + 1;
-      tag = tag;
-      length = size;
-    } in
+    let f : Filed = new_file c file list tag size in
     ap (λ sets. record y { base = sets; files = places (c.files ++ Some f ∷ []) })
     (with_node-sets c.base list tokens)
     ∙ ap (λ (files : List (Option Place)). record y { files = files })
@@ -158,6 +179,9 @@ outline-grown c (BriefGrant user file token) parts =
     ∙ ap (λ accesses. record y { accesses = accesses })
     (granted_accesses (has (holders (outline c) node) user) c.grants user node token parts)
 outline-grown c (BriefRevoke user file) parts = refl
+outline-grown c (BriefRemove file) parts =
+    ap (λ (files : List (Option Place)). record (outline c) { epoch = c.epoch + 1; files = files })
+    (places-gone file c.files)
 
 -- ---- histories
 

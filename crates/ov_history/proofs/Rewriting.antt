@@ -167,6 +167,31 @@ module _ (master : List ℕ) where
       ∙ rest (rewritten_all master (rewrite_of number f now) stored)
       ∙ ap (λ bytes. restored master from to n bytes) (stepped-other number n f now stored other)
 
+  -- rewrites that leave the bytes of a file leave them behind the rewrite of another file too
+  leaving-step : (number : ℕ) (f now : Option Filed) (rewrites : List Rewrite)
+      (stored : List (List ℕ)) (n : ℕ) → n ≢ number
+      → ((next : List (List ℕ))
+      → at_number (rewritten_all master rewrites next) n ≡ at_number next n)
+      → at_number (rewritten_all master (rewrite_of number f now ++ rewrites) stored) n
+      ≡ at_number stored n
+  leaving-step number f now rewrites stored n other rest =
+      ap (λ (bytes : List (List ℕ)). at_number bytes n)
+      (rewritten-append (rewrite_of number f now) rewrites stored)
+      ∙ rest (rewritten_all master (rewrite_of number f now) stored)
+      ∙ stepped-other number n f now stored other
+
+  -- of a file that is gone there is no rewrite
+  gone-step : (number : ℕ) (f now : Option Filed) (rewrites : List Rewrite)
+      (stored : List (List ℕ)) (n : ℕ) → now ≡ None
+      → ((next : List (List ℕ))
+      → at_number (rewritten_all master rewrites next) n ≡ at_number next n)
+      → at_number (rewritten_all master (rewrite_of number f now ++ rewrites) stored) n
+      ≡ at_number stored n
+  gone-step number f now rewrites stored n none rest =
+      ap (λ (o : Option Filed). at_number
+      (rewritten_all master (rewrite_of number f o ++ rewrites) stored) n) none
+      ∙ rest stored
+
   -- the file of a number, where these files begin with this number
   rewritten-at : (number : ℕ) (files after : List (Option Filed)) (stored : List (List ℕ))
       (place n : ℕ) (now : Filed)
@@ -188,6 +213,34 @@ module _ (master : List ℕ) where
       (rewrites_from (number + 1) files after) stored n
       (λ same. absurd (omega arith))
       (λ next. rewritten-at (number + 1) files after next place n there (omega arith) living)
+
+  -- a file that is gone isn't rewritten, where these files begin with this number
+  gone-at : (number : ℕ) (files after : List (Option Filed)) (stored : List (List ℕ)) (place n : ℕ)
+      → n ≡ number + place → living_at after place ≡ None
+      → at_number (rewritten_all master (rewrites_from number files after) stored) n
+      ≡ at_number stored n
+  gone-at number files [] stored place n is none = refl
+  gone-at number [] (now ∷ after) stored zero n is none =
+      gone-step number None now (rewrites_from (number + 1) [] after) stored n none
+      (λ next. rewritten-before (number + 1) [] after next n (omega arith))
+  gone-at number [] (now ∷ after) stored (suc place) n is none =
+      leaving-step number None now (rewrites_from (number + 1) [] after) stored n
+      (λ same. absurd (omega arith))
+      (λ next. gone-at (number + 1) [] after next place n (omega arith) none)
+  gone-at number (f ∷ files) (now ∷ after) stored zero n is none =
+      gone-step number f now (rewrites_from (number + 1) files after) stored n none
+      (λ next. rewritten-before (number + 1) files after next n (omega arith))
+  gone-at number (f ∷ files) (now ∷ after) stored (suc place) n is none =
+      leaving-step number f now (rewrites_from (number + 1) files after) stored n
+      (λ same. absurd (omega arith))
+      (λ next. gone-at (number + 1) files after next place n (omega arith) none)
+
+  -- the stored bytes of a file that is gone are as before the rewrites from some files to others
+  pub rewritten-gone : (files after : List (Option Filed)) (stored : List (List ℕ)) (n : ℕ)
+      → living_at after n ≡ None
+      → slice_index_or (rewritten_all master (rewrites_from 0 files after) stored) n []
+      ≡ slice_index_or stored n []
+  rewritten-gone files after stored n none = gone-at 0 files after stored n n (omega arith) none
 
   -- after the rewrites from some files to others the stored bytes of each file that is there are
   -- those before, with the coat of its old surface taken off and that of its new one laid

@@ -5,7 +5,7 @@ use Rattle.ov_base.specs.declared.mode.Mode.TheVariants.{Full, Delta}
 use Rattle.ov_history.specs.History.{History, Update, Enrolled, Created, Granted, Revoked}
 use Rattle.ov_history.specs.Layers.{Layers, Place, layers_of}
 use Rattle.std.specs.Prelude.{Option}
-
+use Rattle.ov_history.specs.History.{Removed}
 -- a place without a surface, and one with
 abbrev bare : ℕ → ℕ → Option Place
 bare node generation = Some (record { node = node; surface = None; generation = generation })
@@ -97,3 +97,20 @@ nobody_in_delta : layers_of (record { mode = Delta; first = 0; updates = for_nob
   files = bare 1 2 ∷ [];
 }
 nobody_in_delta = refl
+
+-- ---- a file that is removed
+
+abbrev removal : List Update
+removal = Enrolled (97 ∷ []) ∷ Enrolled (98 ∷ []) ∷ Created (102 ∷ []) 1 2 ∷ Granted 1 0 ∷ Removed 0 ∷ []
+
+-- the name is free again once the file is removed, and the numbers go on
+removed_layers : in_delta (removal ++ Created (102 ∷ []) 2 0 ∷ []) ≡ record {
+  mode = Delta;
+  epoch = 6;
+  users = 2;
+  base = 1 ∷ 2 ∷ [];
+  surface = 1 ∷ 2 ∷ [];
+  accesses = record { user = 1; node = 0 } ∷ [];
+  files = None ∷ bare 1 6 ∷ [];
+}
+removed_layers = refl

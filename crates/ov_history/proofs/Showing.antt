@@ -25,6 +25,11 @@ use Rattle.ov_history.proofs.Pushing.{matrix_of-push, with_updates, with_updates
 use Rattle.std.specs.Prelude.{option_map}
 use Rattle.std.specs.Prelude.{Some}
 use Rattle.ov_history.specs.Catalogue.{settled_file}
+use Rattle.ov_history.specs.Places.{living_at}
+use Rattle.ov_history.specs.Places.{gone}
+use Rattle.ov_history.specs.Catalogue.{new_file}
+use Rattle.ov_history.specs.Briefs.{BriefRemove}
+use Rattle.ov_history.proofs.ChangeLaws.{length-change_at}
 
 -- ---- files with their lists
 
@@ -122,6 +127,29 @@ rows-change on_list on_file same (suc place) (f ∷ files) (list ∷ lists) =
     ap (λ (rest : List (Option File)). row f list ∷ rest)
     (rows-change on_list on_file same place files lists)
 
+-- of a file that is gone the row is gone too
+rows-gone : (place : ℕ) (files : List (Option Filed)) (lists : List (Option ℕ))
+    → rows (change_at gone place files) (change_at gone place lists)
+    ≡ change_at gone place (rows files lists)
+rows-gone place [] lists = refl
+rows-gone zero (f ∷ files) [] = refl
+rows-gone (suc place) (f ∷ files) [] = refl
+rows-gone zero (f ∷ files) (list ∷ lists) = refl
+rows-gone (suc place) (f ∷ files) (list ∷ lists) =
+    ap (λ (rest : List (Option File)). row f list ∷ rest) (rows-gone place files lists)
+
+rows-at : (files : List (Option Filed)) (lists : List (Option ℕ)) (n : ℕ)
+    → living_at (rows files lists) n ≡ row (living_at files n) (living_at lists n)
+rows-at [] lists n = refl
+rows-at (None ∷ files) [] zero = refl
+rows-at (Some f ∷ files) [] zero = refl
+rows-at (f ∷ files) [] (suc n) = no_row (living_at files n) where
+  no_row : (f : Option Filed) → None ≡ row f None
+  no_row None = refl
+  no_row (Some f) = refl
+rows-at (f ∷ files) (list ∷ lists) zero = refl
+rows-at (f ∷ files) (list ∷ lists) (suc n) = rows-at files lists n
+
 -- the matrix with these lists
 abbrev matrix_with : Catalogue → List (Option ℕ) → Matrix
 matrix_with c lists = record { users = c.users; files = rows c.files lists }
@@ -131,14 +159,7 @@ rows_grown : (c : Catalogue) (b : Brief) (lists : List (Option ℕ)) → length 
     ≡ changed (matrix_with c lists) (outer b)
 rows_grown c (BriefEnrol user) lists many = refl
 rows_grown c (BriefCreate file list tokens tag size) lists many =
-    let f : Filed = record {
-      name = file;
-      node = node_for c.base.sets list;
-      surface = None;
-      generation = c.epoch + 1;
-      tag = tag;
-      length = size;
-    } in
+    let f : Filed = new_file c file list tag size in
     ap (λ (files : List (Option File)). record { users = c.users; files = files })
     (rows-append c.files lists (Some f) (Some list) many)
 rows_grown c (BriefGrant user file token) lists many =
@@ -147,6 +168,9 @@ rows_grown c (BriefGrant user file token) lists many =
 rows_grown c (BriefRevoke user file) lists many =
     ap (λ (files : List (Option File)). record { users = c.users; files = files })
     (rows-change (λ list. without list user) (delisted user) (λ f list. refl) file c.files lists)
+rows_grown c (BriefRemove file) lists many =
+    ap (λ (files : List (Option File)). record { users = c.users; files = files })
+    (rows-gone file c.files lists)
 
 -- ---- one update
 

@@ -18,7 +18,7 @@ use Rattle.std.specs.Prelude.{unwrap_or}
 use Rattle.std.specs.Prelude.{is_some}
 use Rattle.ov_history.specs.Places.{living_at}
 use Rattle.ov_history.specs.Catalogue.{Filed}
-
+use Rattle.ov_history.specs.Briefs.{BriefRemove}
 first_enrolled : (users : ℕ) (sets : List ℕ) (accesses : List Access) → AreFirst users sets accesses
     → AreFirst (users + 1) (sets ++ single users ∷ []) accesses
 first_enrolled users sets accesses old =
@@ -68,3 +68,4 @@ accesses_grown c (BriefGrant user file token) sound fine =
     (has (holders (outline c) (node_of (outline c) file)) user) refl fine.0
     (node_there c file sound fine.1) sound.accesses
 accesses_grown c (BriefRevoke user file) sound fine = sound.accesses
+accesses_grown c (BriefRemove file) sound fine = sound.accesses

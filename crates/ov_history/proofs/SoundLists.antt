@@ -24,6 +24,12 @@ use Rattle.std.specs.Prelude.{option_map}
 use Rattle.std.specs.Prelude.{unwrap_or}
 use Rattle.ov_history.specs.Places.{living_at}
 use Rattle.ov_history.specs.Layers.{want_at}
+use Rattle.ov_history.specs.Places.{gone}
+use Rattle.ov_history.specs.Layers.{new_place}
+use Rattle.ov_history.specs.Layers.{lists_of}
+use Rattle.ov_history.specs.History.{Removed}
+use Rattle.ov_base.specs.Sets.{empty as nobody}
+use Rattle.ov_history.specs.Layers.{with_set}
 
 -- the base node of a place is there, and its holders have each user of the list
 abbrev pub IsHeld : Layers → Option ℕ → Option Place → Type 0
@@ -70,9 +76,8 @@ enrol_grows y user node there = (
       (sym (get_or_append_left y.base (single y.users ∷ []) 0 node there)) held,
 )
 
-create_grows : (y : Layers) (file : List ℕ) (list size : ℕ)
-    → Grows y (grown y (Created file list size))
-create_grows y file list size node there =
+create_grows : (y : Layers) (list : ℕ) → Grows y (record y { base = with_set y.base list })
+create_grows y list node there =
     let kept = with_set-keeps y.base list node there in
     (kept.0, λ u held. subst (λ set. Has (with_accesses y.accesses node set) u) (sym kept.1) held)
 
@@ -156,29 +161,46 @@ more_held y list p (other ∷ lists) [] one h = absurd h
 more_held y list p (other ∷ lists) (q ∷ placed) one (first, rest) =
     (first, more_held y list p lists placed one rest)
 
--- the lists after an update lie within the holders after it
-pub held_after : (y : Layers) (lists : List (Option ℕ)) (u : Update) → AreHeld y lists y.files
-    → AreHeld (grown y u) (lists_after lists u) (grown y u).files
-held_after y lists (Enrolled user) h =
-    still_held y (grown y (Enrolled user)) lists y.files (enrol_grows y user) h
-held_after y lists (Created file list size) h =
-    let z : Layers = grown y (Created file list size) in
+-- a new file's list is held
+new_held : (y : Layers) (list : ℕ)
+    → IsHeld (record y { base = with_set y.base list }) (Some list) (Some (new_place y list))
+new_held y list =
     let node : ℕ = node_for y.base list in
-    let own = with_set-has y.base list in
-    more_held z (Some list)
-    (Some (record { node = node; surface = None; generation = y.epoch + 1 })) lists y.files (
+    let own = with_set-has y.base list in (
       own.0,
-      λ u one. (holders_are z.base y.accesses node u).1
+      λ u one. (holders_are (with_set y.base list) y.accesses node u).1
           (inl (subst (λ set. Has set u) (sym own.1) one)),
     )
-    (still_held y z lists y.files (create_grows y file list size) h)
-held_after y lists (Granted user file) h =
+
+gone_held : (y : Layers) (file : ℕ) (lists : List (Option ℕ)) (placed : List (Option Place))
+    → AreHeld y lists placed → AreHeld y (change_at gone file lists) (change_at gone file placed)
+gone_held y file [] [] h = tt
+gone_held y file [] (p ∷ placed) h = absurd h
+gone_held y file (list ∷ lists) [] h = absurd h
+gone_held y zero (list ∷ lists) (p ∷ placed) (one, rest) = (tt, rest)
+gone_held y (suc file) (list ∷ lists) (p ∷ placed) (one, rest) =
+    (one, gone_held y file lists placed rest)
+
+-- the lists after an update lie within the holders after it
+pub held_after : (y : Layers) (u : Update) → AreHeld y (lists_of y) y.files
+    → AreHeld (grown y u) (lists_after (lists_of y) u) (grown y u).files
+held_after y (Enrolled user) h =
+    still_held y (grown y (Enrolled user)) (lists_of y) y.files (enrol_grows y user) h
+held_after y (Created file list size) h =
+    let z : Layers = grown y (Created file list size) in
+    more_held z (Some list) (Some (new_place y list)) (lists_of y) y.files (new_held y list)
+    (still_held y z (lists_of y) y.files (create_grows y list) h)
+held_after y (Granted user file) h =
     let z : Layers = grown y (Granted user file) in
-    listed_held z user file lists y.files (grant_holds y user file)
-    (still_held y z lists y.files (grant_grows y user file) h)
-held_after y lists (Revoked user file) h =
-    delisted_held (grown y (Revoked user file)) user file lists y.files
-    (still_held y (grown y (Revoked user file)) lists y.files
+    listed_held z user file (lists_of y) y.files (grant_holds y user file)
+    (still_held y z (lists_of y) y.files (grant_grows y user file) h)
+held_after y (Revoked user file) h =
+    delisted_held (grown y (Revoked user file)) user file (lists_of y) y.files
+    (still_held y (grown y (Revoked user file)) (lists_of y) y.files
+    (λ node there. (there, λ u held. held)) h)
+held_after y (Removed file) h =
+    gone_held (grown y (Removed file)) file (lists_of y) y.files
+    (still_held y (grown y (Removed file)) (lists_of y) y.files
     (λ node there. (there, λ u held. held)) h)
 
 -- ---- files that are placed

@@ -23,6 +23,18 @@ use Rattle.ov_history.proofs.SoundLists.{AreHeld, held_after, held_files, holder
 use Rattle.ov_history.proofs.SoundLists.{wants_below}
 use Rattle.ov_history.proofs.SoundTests.{IsFine, accepted}
 use Rattle.ov_history.specs.Places.{living_at}
+use Rattle.std.specs.Prelude.{option_map}
+use Rattle.std.specs.Prelude.{None}
+use Rattle.std.specs.Prelude.{unwrap_or}
+use Rattle.std.specs.Prelude.{is_some}
+use Rattle.std.specs.Prelude.{true}
+use Rattle.ov_history.specs.Layers.{list_at}
+use Rattle.ov_history.specs.Catalogue.{place_of_file}
+use Rattle.ov_history.specs.Briefs.{BriefRemove}
+use Rattle.ov_base.specs.Sets.{empty as nobody}
+use Rattle.ov_history.proofs.Outlining.{lists-at}
+use Rattle.ov_base.proofs.SetLaws.{IsBelow-Within}
+use Rattle.ov_history.specs.Layers.{holders}
 
 -- what is shown while its files have yet to get their wanted surfaces for these lists
 pub record IsReady (c : Catalogue) (lists : List (Option ℕ)) : Type 0 where
@@ -46,6 +58,8 @@ base_grown c (BriefGrant user file token) sound fine parts =
     layer-formed (length c.users) c.base sound.base
 base_grown c (BriefRevoke user file) sound fine parts =
     layer-formed (length c.users) c.base sound.base
+base_grown c (BriefRemove file) sound fine parts =
+    layer-formed (length c.users) c.base sound.base
 
 surface_grown : (c : Catalogue) (b : Brief) → IsSound c
     → IsFormed (length (grown_catalogue c b).users) (grown_catalogue c b).surface
@@ -59,6 +73,8 @@ surface_grown c (BriefCreate file list tokens tag size) sound =
 surface_grown c (BriefGrant user file token) sound =
     layer-formed (length c.users) c.surface sound.surface
 surface_grown c (BriefRevoke user file) sound =
+    layer-formed (length c.users) c.surface sound.surface
+surface_grown c (BriefRemove file) sound =
     layer-formed (length c.users) c.surface sound.surface
 
 -- ---- one update
@@ -74,7 +90,7 @@ ready_after c b sound fine parts = record {
   held =
       subst (λ (y : Layers). AreHeld y (lists_after (lists_of (outline c)) (outer b)) y.files)
       (sym (outline-grown c b parts))
-      (held_after (outline c) (lists_of (outline c)) (outer b) before);
+      (held_after (outline c) (outer b) before);
 } where
   before : AreHeld (outline c) (lists_of (outline c)) (outline c).files
   before =

@@ -25,7 +25,7 @@ use Rattle.ov_history.specs.History.{File}
 use Rattle.ov_history.specs.Catalogue.{file_shown}
 use Rattle.ov_history.specs.Lists.{is_file}
 use Rattle.std.proofs.Common.{sym}
-
+use Rattle.ov_history.specs.Briefs.{BriefRemove}
 -- the users and the file of the update are there
 abbrev pub IsFine : Catalogue → Brief → Type 0
 IsFine c (BriefEnrol user) = Unit {0}
@@ -33,6 +33,7 @@ IsFine c (BriefCreate file list tokens tag size) = IsBelow (length c.users) list
 IsFine c (BriefGrant user file token) =
     (user < length c.users) × (is_some (living_at c.files file) ≡ true)
 IsFine c (BriefRevoke user file) = Unit {0}
+IsFine c (BriefRemove file) = Unit {0}
 
 -- neither layer has too many nodes
 pub record HasFewNodes (y : Layers) : Type 0 where
@@ -110,3 +111,4 @@ accepted c b e =
           ((is_below user (length c.users) no_user, file_is file c no_file), few_nodes _ room)
       by_update (BriefRevoke user file) (no_user, (no_file, (listed, (room, spent)))) =
           (tt, few_nodes _ room)
+      by_update (BriefRemove file) (no_file, (room, spent)) = (tt, few_nodes _ room)

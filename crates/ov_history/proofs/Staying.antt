@@ -13,12 +13,15 @@ use Rattle.ov_history.specs.Layers.{Layers, Place, appended, grown, layers_after
 use Rattle.ov_history.specs.Layers.{lists_after, lists_of, no_place, node_for, wants_of, with_set}
 use Rattle.ov_history.specs.Layers.{with_wants}
 use Rattle.ov_history.specs.Words.{HasFile, longer, place_in}
-use Rattle.ov_history.specs.WordLaws.{BaseNodeIsOfList, NodesStay}
-use Rattle.ov_history.proofs.ChangeLaws.{below_some, is_some-change, length-change_at}
+use Rattle.ov_history.specs.WordLaws.{BaseNodeIsOfList, BaseNodeIsOfOldList, GoneStaysGone, NodesStay}
+use Rattle.ov_history.specs.Lists.{file_at}
+use Rattle.std.proofs.Math.ListN.{get_or-map}
+use Rattle.ov_history.proofs.ChangeLaws.{below_some, gone_other, is_some-change}
+use Rattle.ov_history.proofs.ChangeLaws.{length-change_at}
 use Rattle.std.proofs.lemmas.List.{get_or_append_left}
-use Rattle.ov_history.proofs.Generations.{grown_file}
+use Rattle.ov_history.proofs.Generations.{grown_file, still_grown}
 use Rattle.ov_history.proofs.Listing.{settled_at-node}
-use Rattle.ov_history.proofs.MatrixLaws.{files_of-layers_of}
+use Rattle.ov_history.proofs.MatrixLaws.{files_of-layers_of, lists_of-layers_of}
 use Rattle.ov_history.proofs.PlanLaws.{with_set-has}
 use Rattle.ov_history.proofs.Pushing.{layers_of-push, matrix_of-push, with_updates, with_updates-is}
 use Rattle.ov_history.proofs.StayingFiles.{files_begin}
@@ -28,6 +31,13 @@ use Rattle.std.specs.Prelude.{unwrap_or}
 use Rattle.std.specs.Prelude.{is_some}
 use Rattle.ov_history.specs.History.{File}
 use Rattle.ov_history.specs.Lists.{is_file}
+use Rattle.ov_history.specs.Places.{living_at}
+use Rattle.ov_history.specs.Places.{change_at}
+use Rattle.ov_history.specs.Places.{gone}
+use Rattle.ov_history.specs.Layers.{new_place}
+use Rattle.ov_history.specs.History.{Removed}
+use Rattle.ov_history.specs.Lists.{no_file}
+use Rattle.ov_base.specs.Sets.{empty as nobody}
 
 -- ---- sets
 
@@ -63,6 +73,7 @@ grown_stays y (Created name list size) =
     (appended_stays (plan_of y.base list).fresh y.base list, λ node set is. is)
 grown_stays y (Granted user file) = (λ node set is. is, λ node set is. is)
 grown_stays y (Revoked user file) = (λ node set is. is, λ node set is. is)
+grown_stays y (Removed file) = (λ node set is. is, λ node set is. is)
 
 after_stays : (y : Layers) (u : Update) → LayersStay y (layers_after y u)
 after_stays y u =
@@ -110,6 +121,8 @@ number_stays m (Granted user place) file below =
     omega (arith, length-change_at (option_map (listed user)) place m.files)
 number_stays m (Revoked user place) file below =
     omega (arith, length-change_at (option_map (delisted user)) place m.files)
+number_stays m (Removed place) file below =
+    omega (arith, length-change_at gone place m.files)
 
 pub numbers_stay : (h : History) (more : List Update) (file : ℕ)
     → file < length (matrix_of h).files → file < length (matrix_of (longer h more)).files
@@ -136,6 +149,8 @@ was_there m (Granted user place) file below there =
     sym (is_some-change (listed user) place m.files file) ∙ there
 was_there m (Revoked user place) file below there =
     sym (is_some-change (delisted user) place m.files file) ∙ there
+was_there m (Removed place) file below there =
+    ap (λ (o : Option File). is_some o) (sym (gone_other place m.files file there)) ∙ there
 
 pub was_there-all : (h : History) (more : List Update) (file : ℕ)
     → file < length (matrix_of h).files → HasFile (with_updates h more) file → HasFile h file
@@ -148,9 +163,10 @@ was_there-all h (u ∷ more) file below there =
     (number_stays (matrix_of h) u file below)) there))
 
 node_stays : (y : Layers) (u : Update) (file : ℕ) → file < length y.files
+    → is_some (living_at (grown y u).files file) ≡ true
     → (place_at (layers_after y u).files file).node ≡ (place_at y.files file).node
-node_stays y u file below =
-    let there = grown_file y u file below in
+node_stays y u file below still =
+    let there = grown_file y u file below still in
     ap (λ (p : Place). p.node) (settled_after y u file there.0)
     ∙ settled_at-node (grown y u).epoch (layers_after y u).surface
     (wanted_in (layers_after y u) file) (place_at (grown y u).files file)
@@ -163,7 +179,7 @@ node-push : (h : History) (u : Update) (file : ℕ) → HasFile h file
 node-push h u file there still =
     subst (λ (y : Layers). (place_at y.files file).node ≡ (place_in h file).node)
     (sym (layers_of-push h u))
-    (node_stays (layers_of h) u file (file_below h file there))
+    (node_stays (layers_of h) u file (file_below h file there) (still_grown h u file still))
 
 node-all : (h : History) (more : List Update) (file : ℕ) → HasFile h file
     → HasFile (with_updates h more) file
@@ -194,8 +210,7 @@ created_at : (y : Layers) (name : List ℕ) (list size : ℕ)
 created_at y name list size =
     let u : Update = Created name list size in
     let n : ℕ = length y.files in
-    let new : Place =
-    record { node = node_for y.base list; surface = None; generation = y.epoch + 1 } in
+    let new : Place = new_place y list in
     let below : n < length (y.files ++ Some new ∷ []) =
     omega (arith, length-append y.files (Some new ∷ [])) in
     ap (λ (p : Place). p.node) (settled_after y u n below)
@@ -233,3 +248,24 @@ base_node_is_of_list h name list size more still =
     subst (λ node. slice_get (layers_of (longer next more)).base node ≡ Some list)
     (sym (file_stays next more n there still))
     ((longer_stays next more).0 (place_in next n).node list (created_list h name list size))
+
+-- ---- numbers
+
+pub gone_stays_gone : GoneStaysGone
+gone_stays_gone h more file below there =
+    was_there-all h more file below
+    (subst (λ (g : History). HasFile g file) (sym (with_updates-is h more)) there)
+
+-- ---- the node of a list that a file had
+
+-- the list of a file that is there, off the layers
+listed_in : (h : History) (file : ℕ) → HasFile h file
+    → living_at (lists_of (layers_of h)) file ≡ Some (file_at (matrix_of h) file).list
+listed_in h file there =
+    ap (λ (lists : List (Option ℕ)). living_at lists file) (lists_of-layers_of h)
+    ∙ get_or-map (option_map (λ (f : File). f.list)) (matrix_of h).files file None
+    ∙ by_file (living_at (matrix_of h).files file) there where
+      by_file : (o : Option File) → is_some o ≡ true
+          → option_map (λ (f : File). f.list) o ≡ Some (unwrap_or o no_file).list
+      by_file None some = absurd (cc)
+      by_file (Some f) some = refl

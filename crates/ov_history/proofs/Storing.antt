@@ -12,18 +12,24 @@ use Rattle.ov_surface.proofs.CoatLaws.{length-coated}
 use Rattle.ov_history.specs.Layers.{lists_after, lists_of, node_for, same_surface, surface_at}
 use Rattle.ov_history.specs.Layers.{wants_of, with_wants}
 use Rattle.ov_history.specs.Briefs.{Brief, brief, outer, text_of}
-use Rattle.ov_history.specs.Catalogue.{Catalogue, Filed, catalogue_after, empty_catalogue}
-use Rattle.ov_history.specs.Catalogue.{grown_catalogue, outline, refiled, settled_files}
+use Rattle.ov_history.specs.Catalogue.{Catalogue, Filed, catalogue_after, empty_catalogue, new_file}
+use Rattle.ov_history.specs.Catalogue.{grown_catalogue, no_filed, outline, refiled, settled_files}
 use Rattle.ov_history.specs.Rewrites.{AreCoated, files_after, restored, rewrites_from, rewrites_of}
 use Rattle.ov_history.specs.Rewrites.{rewritten_all, stored_after, surface_key, with_text}
+use Rattle.ov_history.specs.Rewrites.{without_gone}
 use Rattle.ov_history.specs.Sealed.{SealedHistory, catalogue_all, catalogue_of, sent_all, sent_of}
 use Rattle.ov_history.specs.Sealed.{stored_all, stored_of}
 use Rattle.ov_history.specs.KeptLaws.{StoredIsCoated}
+use Rattle.ov_history.proofs.ChangeLaws.{change_at-other, gone_not, gone_other, length-change_at}
+use Rattle.ov_history.proofs.ChangeLaws.{some-there}
 use Rattle.ov_history.proofs.Rewriting.{length-rewritten_all, restored-under, rewritten-each}
 use Rattle.std.specs.Prelude.{Some}
 use Rattle.ov_history.specs.Rewrites.{surface_left}
 use Rattle.ov_history.specs.Places.{living_at}
-
+use Rattle.std.specs.Prelude.{option_map}
+use Rattle.ov_history.specs.Places.{change_at}
+use Rattle.ov_history.specs.Places.{gone}
+use Rattle.ov_record.specs.Updates.{SealedRemove}
 -- ---- files and texts
 
 -- a file that is there has a number below how many there are
@@ -114,52 +120,73 @@ with_last files last n f is = elim (cases_lt n (length files)) [
       inr (here, sym (last_item files last n None here) ∙ is)
 ]
 
-module _ (master : List ℕ) (files : List (Option Filed)) (texts stored : List (List ℕ)) (new : Filed)
-    (text : List ℕ) (has : HasCoats master files files texts stored) where
+-- a file that is gone has no coat to be said of
+gone_coats : (master : List ℕ) (old now : List (Option Filed)) (texts stored : List (List ℕ))
+    (file : ℕ) → HasCoats master old now texts stored
+    → HasCoats master old (change_at gone file now) texts (change_at (λ bytes. []) file stored)
+gone_coats master old now texts stored file has =
+    let many = length-change_at gone file now in
+    let dropped : List (List ℕ) = change_at (λ bytes. []) file stored in
+    let kept : (n : ℕ) (f : Filed) → living_at (change_at gone file now) n ≡ Some f
+    → slice_index_or dropped n [] ≡ slice_index_or stored n [] = λ n f is.
+    change_at-other (λ bytes. []) file n stored []
+    (gone_not file now n (some-there (living_at (change_at gone file now) n) f is)) in
+    let was : (n : ℕ) (f : Filed) → living_at (change_at gone file now) n ≡ Some f
+    → living_at now n ≡ Some f = λ n f is.
+    sym (gone_other file now n (some-there (living_at (change_at gone file now) n) f is)) ∙ is in
+    record {
+      texts_many = has.texts_many ∙ sym many;
+      stored_many = length-change_at (λ bytes. []) file stored ∙ has.stored_many ∙ sym many;
+      sizes = λ n f is. has.sizes n f (was n f is);
+      coats = λ n f is. kept n f is ∙ has.coats n f (was n f is);
+    }
+
+module _ (master : List ℕ) (old files : List (Option Filed)) (same : length old ≡ length files)
+    (texts stored : List (List ℕ)) (new : Option Filed) (text : List ℕ)
+    (has : HasCoats master old files texts stored)
+    (size : (f : Filed) → new ≡ Some f → length text ≡ f.length) where
   text_there : (n : ℕ) → n < length files
       → slice_index_or texts n [] ≡ slice_index_or (texts ++ text ∷ []) n []
-  text_there n old = sym (get_or_append_left texts (text ∷ []) [] n (omega (arith, has.texts_many)))
+  text_there n below =
+      sym (get_or_append_left texts (text ∷ []) [] n (omega (arith, has.texts_many)))
 
   text_last : (n : ℕ) → n ≡ length files → text ≡ slice_index_or (texts ++ text ∷ []) n []
   text_last n here = sym (last_item texts text n [] (here ∙ sym has.texts_many))
 
-  more_sizes : length text ≡ new.length → (n : ℕ) (f : Filed)
-      → living_at (files ++ Some new ∷ []) n ≡ Some f
+  more_sizes : (n : ℕ) (f : Filed)
+      → living_at (files ++ new ∷ []) n ≡ Some f
       → length (slice_index_or (texts ++ text ∷ []) n []) ≡ f.length
-  more_sizes size n f is = elim (with_last files (Some new) n f is) [
-    | inl old ↦ ap length (sym (text_there n old.0)) ∙ has.sizes n f old.1
-    | inr last ↦
-        let same : new ≡ f = cc in
-        ap length (sym (text_last n last.0)) ∙ size ∙ ap (λ (g : Filed). g.length) same
+  more_sizes n f is = elim (with_last files new n f is) [
+    | inl before ↦ ap length (sym (text_there n before.0)) ∙ has.sizes n f before.1
+    | inr last ↦ ap length (sym (text_last n last.0)) ∙ size f last.1
   ]
 
   -- a new file has no surface yet
-  more_stored : (n : ℕ) (f : Filed) → living_at (files ++ Some new ∷ []) n ≡ Some f
+  more_stored : (n : ℕ) (f : Filed) → living_at (files ++ new ∷ []) n ≡ Some f
       → slice_index_or (stored ++ text ∷ []) n []
-      ≡ stored_under (surface_key master (surface_left (living_at files n))) n
+      ≡ stored_under (surface_key master (surface_left (living_at old n))) n
       (slice_index_or (texts ++ text ∷ []) n [])
-  more_stored n f is = elim (with_last files (Some new) n f is) [
-    | inl old ↦
-        get_or_append_left stored (text ∷ []) [] n (omega (arith, has.stored_many, old.0))
-        ∙ has.coats n f old.1
-        ∙ ap (λ plain. stored_under (surface_key master (surface_left (living_at files n))) n plain)
-        (text_there n old.0)
+  more_stored n f is = elim (with_last files new n f is) [
+    | inl before ↦
+        get_or_append_left stored (text ∷ []) [] n (omega (arith, has.stored_many, before.0))
+        ∙ has.coats n f before.1
+        ∙ ap (λ plain. stored_under (surface_key master (surface_left (living_at old n))) n plain)
+        (text_there n before.0)
     | inr last ↦
-        let past : length files ≤ n = omega (arith, last.0) in
+        let past : length old ≤ n = omega (arith, same, last.0) in
         last_item stored text n [] (last.0 ∙ sym has.stored_many)
         ∙ ap (λ (o : Option Filed). stored_under (surface_key master (surface_left o)) n text)
-        (sym (get_or_past files n None past))
-        ∙ ap (λ plain. stored_under (surface_key master (surface_left (living_at files n))) n plain)
+        (sym (get_or_past old n None past))
+        ∙ ap (λ plain. stored_under (surface_key master (surface_left (living_at old n))) n plain)
         (text_last n last.0)
   ]
 
-  more_coats : length text ≡ new.length
-      → HasCoats master files (files ++ Some new ∷ []) (texts ++ text ∷ []) (stored ++ text ∷ [])
-  more_coats size =
-      let many = length-append files (Some new ∷ []) in record {
+  more_coats : HasCoats master old (files ++ new ∷ []) (texts ++ text ∷ []) (stored ++ text ∷ [])
+  more_coats =
+      let many = length-append files (new ∷ []) in record {
         texts_many = omega (arith, has.texts_many, many, length-append texts (text ∷ []));
         stored_many = omega (arith, has.stored_many, many, length-append stored (text ∷ []));
-        sizes = more_sizes size;
+        sizes = more_sizes;
         coats = more_stored;
       }
 
@@ -167,20 +194,20 @@ module _ (master : List ℕ) (files : List (Option Filed)) (texts stored : List 
 grown_coats : (master : List ℕ) (c : Catalogue) (texts stored : List (List ℕ)) (u : SealedUpdate)
     → HasCoats master c.files c.files texts stored
     → HasCoats master c.files (grown_catalogue c (brief u)).files (with_text texts (text_of u))
-    (with_text stored (text_of u))
+    (with_text (without_gone stored (brief u)) (text_of u))
 grown_coats master c texts stored (SealedEnrol user) has = has
 grown_coats master c texts stored (SealedCreate file list tokens tag text) has =
-    let f : Filed = record {
-      name = file;
-      node = node_for c.base.sets list;
-      surface = None;
-      generation = c.epoch + 1;
-      tag = tag;
-      length = length text;
-    } in
-    more_coats master c.files texts stored f text has refl
+    more_coats master c.files c.files refl texts stored
+    (Some (new_file c file list tag (length text))) text has (λ f is. new_size f is) where
+      new_size : (f : Filed) → Some (new_file c file list tag (length text)) ≡ Some f
+          → length text ≡ f.length
+      new_size f is =
+          let same : new_file c file list tag (length text) ≡ f = cc in
+          ap (λ (g : Filed). g.length) same
 grown_coats master c texts stored (SealedGrant user file token) has = has
 grown_coats master c texts stored (SealedRevoke user file) has = has
+grown_coats master c texts stored (SealedRemove file) has =
+    gone_coats master c.files c.files texts stored file has
 
 -- the files come to their new surfaces
 settled_coats : (master : List ℕ) (old files : List (Option Filed)) (texts stored : List (List ℕ))
@@ -221,13 +248,13 @@ coats_after : (master : List ℕ) (c : Catalogue) (texts stored : List (List ℕ
     → HasCoats master c.files c.files texts stored
     → let after = (catalogue_after master c (brief u)).files in
     HasCoats master after after (with_text texts (text_of u))
-    (stored_after master (rewrites_of c (brief u)) (text_of u) stored)
+    (stored_after master (rewrites_of c (brief u)) (text_of u) (without_gone stored (brief u)))
 coats_after master c texts stored u has =
     let next : Catalogue = grown_catalogue c (brief u) in
     let wants : List (Option ℕ) =
     wants_of (outline next) (lists_after (lists_of (outline c)) (outer (brief u))) in
     let more : List (List ℕ) = with_text texts (text_of u) in
-    let kept : List (List ℕ) = with_text stored (text_of u) in
+    let kept : List (List ℕ) = with_text (without_gone stored (brief u)) (text_of u) in
     rewritten_coats master c.files (files_after c (brief u)) more kept
     (settled_coats master c.files next.files more kept next.epoch
     (with_wants next.surface.sets wants) wants (grown_coats master c texts stored u has))
@@ -242,7 +269,8 @@ coats_all : (master : List ℕ) (c : Catalogue) (texts stored : List (List ℕ))
 coats_all master c texts stored [] has = has
 coats_all master c texts stored (u ∷ updates) has =
     coats_all master (catalogue_after master c (brief u)) (with_text texts (text_of u))
-    (stored_after master (rewrites_of c (brief u)) (text_of u) stored) updates
+    (stored_after master (rewrites_of c (brief u)) (text_of u) (without_gone stored (brief u)))
+    updates
     (coats_after master c texts stored u has)
 
 pub coats_of : (master : List ℕ) (g : SealedHistory)

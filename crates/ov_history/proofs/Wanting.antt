@@ -11,6 +11,7 @@ use Rattle.ov_history.specs.Layers.{lists_after, lists_at, lists_of, no_place, s
 use Rattle.ov_history.specs.Layers.{surface_at, wants_at, wants_of}
 use Rattle.ov_history.specs.Words.{want_of, HasFile, wanted_of}
 use Rattle.ov_history.specs.WordLaws.{SurfaceIsWanted, WantedIsThere}
+use Rattle.ov_history.proofs.SoundTests.{is_some-map}
 use Rattle.ov_history.proofs.ChangeLaws.{below_some}
 use Rattle.ov_history.proofs.Listing.{length-lists_after, length-lists_of, lists_of-layers_after}
 use Rattle.ov_history.proofs.Listing.{settled_at-node, settled_at-surface}
@@ -25,6 +26,7 @@ use Rattle.ov_history.specs.Places.{living_at}
 use Rattle.ov_history.specs.Layers.{want_at}
 use Rattle.ov_history.specs.Layers.{list_at}
 use Rattle.ov_history.specs.History.{File}
+use Rattle.ov_history.specs.Lists.{is_file}
 
 -- ---- one of several files
 
@@ -163,7 +165,6 @@ history-settled = each_history (λ (h : History). IsSettled (layers_of h))
     (λ h u before. subst (λ (y : Layers). IsSettled y) (sym (layers_of-push h u))
     (after-settled (layers_of h) u))
 
--- the wanted set of a file, in the words of its history
 -- the list that is read off the place of a number
 pub read_off : (y : Layers) (places : List (Option Place)) (file : ℕ)
     → living_at (lists_at y places) file ≡ option_map (list_at y) (living_at places file)
@@ -171,6 +172,51 @@ read_off y [] file = refl
 read_off y (p ∷ places) zero = refl
 read_off y (p ∷ places) (suc file) = read_off y places file
 
+-- a file is there in the layers where it is in the matrix
+pub living_same : (h : History) (file : ℕ)
+    → is_some (living_at (layers_of h).files file) ≡ is_file (matrix_of h) file
+living_same h file =
+    sym (is_some-map (list_at (layers_of h)) (living_at (layers_of h).files file))
+    ∙ ap (λ (o : Option ℕ). is_some o) (sym (read_off (layers_of h) (layers_of h).files file))
+    ∙ ap (λ (lists : List (Option ℕ)). is_some (living_at lists file)) (lists_of-layers_of h)
+    ∙ ap (λ (o : Option ℕ). is_some o)
+    (get_or-map (option_map (λ (f : File). f.list)) (matrix_of h).files file None)
+    ∙ is_some-map (λ (f : File). f.list) (living_at (matrix_of h).files file)
+
+-- and settling leaves it there
+pub still_settled : (y : Layers) (u : Update) (file : ℕ)
+    → is_some (living_at (layers_after y u).files file)
+    ≡ is_some (living_at (grown y u).files file)
+still_settled y u file =
+    along (grown y u).epoch (layers_after y u).surface
+    (wants_of (grown y u) (lists_after (lists_of y) u)) (grown y u).files file (many y u) where
+      along : (epoch : ℕ) (sets : List ℕ) (wants : List (Option ℕ)) (places : List (Option Place))
+          (n : ℕ) → length wants ≡ length places
+          → is_some (living_at (settled_all epoch sets wants places) n)
+          ≡ is_some (living_at places n)
+      along epoch sets [] places n many = refl
+      along epoch sets (want ∷ wants) [] n many = absurd (omega arith)
+      along epoch sets (want ∷ wants) (p ∷ places) zero many =
+          is_some-map (settled_at epoch sets want) p
+      along epoch sets (want ∷ wants) (p ∷ places) (suc n) many =
+          along epoch sets wants places n (omega arith)
+
+      wants_many : (y : Layers) (lists : List (Option ℕ)) (places : List (Option Place))
+          → length lists ≡ length places → length (wants_at y lists places) ≡ length places
+      wants_many y [] [] same = refl
+      wants_many y [] (p ∷ places) same = absurd (omega arith)
+      wants_many y (list ∷ lists) [] same = absurd (omega arith)
+      wants_many y (list ∷ lists) (p ∷ places) same =
+          ap suc (wants_many y lists places (omega arith))
+
+      many : (y : Layers) (u : Update)
+          → length (wants_of (grown y u) (lists_after (lists_of y) u))
+          ≡ length (grown y u).files
+      many y u =
+          wants_many (grown y u) (lists_after (lists_of y) u) (grown y u).files
+          (length-lists_after y u)
+
+-- the wanted set of a file, in the words of its history
 pub wanted_of-is : (h : History) (file : ℕ) → wanted_of h file ≡ wanted_in (layers_of h) file
 wanted_of-is h file =
     by_file (living_at (matrix_of h).files file) (living_at (layers_of h).files file) both

@@ -11,11 +11,12 @@ use Rattle.ov_graph.specs.Contents.{joined, plan_of}
 use Rattle.ov_base_layer.specs.declared.grant.Grant.{Grant}
 use Rattle.ov_base_layer.specs.Holders.{accesses_of}
 use Rattle.ov_base_layer.specs.Seals.{cover_tokens}
-use Rattle.ov_history.specs.Places.{living_at}
+use Rattle.ov_history.specs.Places.{change_at, gone, living_at}
 use Rattle.ov_history.specs.History.{File, Matrix}
 use Rattle.ov_history.specs.Layers.{Place, Layers, node_for, with_wants, wants_of, surface_at}
 use Rattle.ov_history.specs.Layers.{same_surface, lists_of, lists_after, list_at}
 use Rattle.ov_history.specs.Briefs.{Brief, BriefEnrol, BriefCreate, BriefGrant, BriefRevoke, outer}
+use Rattle.ov_history.specs.Briefs.{BriefRemove}
 
 -- the nodes of a layer: their sets, and the edges into each
 pub record Nodes : Type 0 where
@@ -125,8 +126,20 @@ granted grants user node None = grants
 granted grants user node (Some token) =
     grants ++ record { user = user; node = node; token = token } ∷ []
 
+-- a new file of this name and list, which has no surface yet
+abbrev pub new_file : Catalogue → List ℕ → ℕ → List ℕ → ℕ → Filed
+new_file c name list tag size = record {
+  name = name;
+  node = node_for c.base.sets list;
+  surface = None;
+  generation = c.epoch + 1;
+  tag = tag;
+  length = size;
+}
+
 -- The catalogue with what an update adds: a new user has a node alone in each layer, a new file
--- has the base node of its list and no surface yet, and a grant brings an access token or none.
+-- has the base node of its list and no surface yet, and a grant brings an access token or none. A
+-- file that is removed is gone.
 abbrev pub grown_catalogue : Catalogue → Brief → Catalogue
 grown_catalogue c (BriefEnrol user) = record c {
   epoch = c.epoch + 1;
@@ -138,21 +151,15 @@ grown_catalogue c (BriefCreate file list tokens tag size) = record c {
   epoch = c.epoch + 1;
   base = with_node c.base list tokens;
   files = c.files
-      ++ Some (record {
-        name = file;
-        node = node_for c.base.sets list;
-        surface = None;
-        generation = c.epoch + 1;
-        tag = tag;
-        length = size;
-      })
-      ∷ [];
+      ++ Some (new_file c file list tag size) ∷ [];
 }
 grown_catalogue c (BriefGrant user file token) = record c {
   epoch = c.epoch + 1;
   grants = granted c.grants user (filed_at c file).node token;
 }
 grown_catalogue c (BriefRevoke user file) = record c { epoch = c.epoch + 1 }
+grown_catalogue c (BriefRemove file) =
+    record c { epoch = c.epoch + 1; files = change_at gone file c.files }
 
 -- ---- surfaces
 

@@ -2,7 +2,7 @@
 use Rattle.std.specs.Prelude.{ℕ, ◌+◌, List, [], ◌∷◌, ◌++◌, length, Option, Some, option_map}
 use Rattle.ov_base.specs.Sets.{with, without}
 use Rattle.ov_base.specs.declared.mode.Mode.{Mode}
-use Rattle.ov_history.specs.Places.{change_at}
+use Rattle.ov_history.specs.Places.{change_at, gone}
 
 -- An update that was accepted, without the bytes of a file: their number alone. A name is a list of
 -- bytes, an access list is a set of users, and users and files are their numbers.
@@ -11,6 +11,7 @@ pub data Update : Type 0 where
   Created : (file : List ℕ) → (list size : ℕ) → Update
   Granted : (user file : ℕ) → Update
   Revoked : (user file : ℕ) → Update
+  Removed : (file : ℕ) → Update
 
 -- the mode, the epoch at which the store began, and the updates in order
 pub record History : Type 0 where
@@ -37,7 +38,8 @@ listed user file = record file { list = with file.list user }
 abbrev pub delisted : ℕ → File → File
 delisted user file = record file { list = without file.list user }
 
--- what an update makes of the matrix
+-- what an update makes of the matrix; a file that is removed is gone, and its number isn't given to
+-- another
 abbrev pub changed : Matrix → Update → Matrix
 changed m (Enrolled user) = record m { users = m.users ++ user ∷ [] }
 changed m (Created file list size) =
@@ -46,6 +48,7 @@ changed m (Granted user file) =
     record m { files = change_at (option_map (listed user)) file m.files }
 changed m (Revoked user file) =
     record m { files = change_at (option_map (delisted user)) file m.files }
+changed m (Removed file) = record m { files = change_at gone file m.files }
 
 -- what all these updates make of the matrix, in order
 abbrev pub changed_all : Matrix → List Update → Matrix

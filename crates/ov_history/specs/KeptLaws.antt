@@ -14,6 +14,7 @@ use Rattle.ov_history.specs.Refusals.{IsLegal, refusal_of}
 use Rattle.ov_history.specs.Briefs.{brief, outer, text_of}
 use Rattle.ov_history.specs.Catalogue.{Filed, Catalogue, catalogue_after, empty_catalogue, outline}
 use Rattle.ov_history.specs.Rewrites.{AreCoated, rewrites_of, stored_after, surface_key}
+use Rattle.ov_history.specs.Rewrites.{without_gone}
 use Rattle.ov_history.specs.Masters.{Masters, access_key}
 use Rattle.ov_history.specs.Sealed.{SealedHistory, HasParts, IsSealed, KeepsBytes, StandsFor}
 use Rattle.ov_history.specs.Sealed.{catalogue_of, outer_of, refusal_shown, sent_of, with_sealed}
@@ -77,7 +78,8 @@ KeepingGoesOn =
     → let sent = sealed_update k (layers_of (history_of p)) u in
     IsKept k (with_plain p u) (catalogue_after k.surface c (brief sent))
     × AreKept k (with_plain p u)
-    (stored_after k.surface (rewrites_of c (brief sent)) (text_of sent) stored)
+    (stored_after k.surface (rewrites_of c (brief sent)) (text_of sent)
+    (without_gone stored (brief sent)))
 
 -- a store that keeps a history refuses a sealed update as the history refuses the plain one, and a
 -- sealed update has its parts
@@ -101,7 +103,8 @@ StoredGoesOn =
     (master : List ℕ) (c : Catalogue) (stored : List (List ℕ)) (g : SealedHistory)
     (u : SealedUpdate)
     → StandsFor master c g → KeepsBytes master stored g
-    → KeepsBytes master (stored_after master (rewrites_of c (brief u)) (text_of u) stored)
+    → KeepsBytes master
+    (stored_after master (rewrites_of c (brief u)) (text_of u) (without_gone stored (brief u)))
     (with_sealed g u)
 
 -- after every legal history that is sealed under any two masters, a user's closure has all the

@@ -6,8 +6,9 @@ use Rattle.ov_base.specs.declared.mode.Mode.{Mode}
 use Rattle.ov_base_layer.specs.Holders.{Access, holders_in}
 use Rattle.ov_graph.specs.Contents.{plan_of}
 use Rattle.ov_surface.specs.Wanted.{wanted_surface}
-use Rattle.ov_history.specs.Places.{change_at, living_at}
+use Rattle.ov_history.specs.Places.{change_at, gone, living_at}
 use Rattle.ov_history.specs.History.{Update, Enrolled, Created, Granted, Revoked, History}
+use Rattle.ov_history.specs.History.{Removed}
 
 -- ---- sets of a layer
 
@@ -99,6 +100,7 @@ lists_after lists (Created file list size) = lists ++ Some list ∷ []
 lists_after lists (Granted user file) = change_at (option_map (λ list. with list user)) file lists
 lists_after lists (Revoked user file) =
     change_at (option_map (λ list. without list user)) file lists
+lists_after lists (Removed file) = change_at gone file lists
 
 -- ---- what an update adds
 
@@ -107,8 +109,14 @@ abbrev pub given : Bool → List Access → ℕ → ℕ → List Access
 given true accesses user node = accesses
 given false accesses user node = accesses ++ record { user = user; node = node } ∷ []
 
+-- where a new file of this list is in the layers before it has its surface
+abbrev pub new_place : Layers → ℕ → Place
+new_place y list =
+    record { node = node_for y.base list; surface = None; generation = y.epoch + 1 }
+
 -- A new user has a node alone in each layer, a new file has the base node of its list, and a user
--- who is granted a file and doesn't hold its base node is given access to that.
+-- who is granted a file and doesn't hold its base node is given access to that. A file that is
+-- removed is gone.
 abbrev pub grown : Layers → Update → Layers
 grown y (Enrolled user) = record y {
   epoch = y.epoch + 1;
@@ -119,15 +127,15 @@ grown y (Enrolled user) = record y {
 grown y (Created file list size) = record y {
   epoch = y.epoch + 1;
   base = with_set y.base list;
-  files = y.files
-      ++ Some (record { node = node_for y.base list; surface = None; generation = y.epoch + 1 })
-      ∷ [];
+  files = y.files ++ Some (new_place y list) ∷ [];
 }
 grown y (Granted user file) = record y {
   epoch = y.epoch + 1;
   accesses = given (has (holders y (node_of y file)) user) y.accesses user (node_of y file);
 }
 grown y (Revoked user file) = record y { epoch = y.epoch + 1 }
+grown y (Removed file) =
+    record y { epoch = y.epoch + 1; files = change_at gone file y.files }
 
 -- ---- surfaces
 

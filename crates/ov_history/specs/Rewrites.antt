@@ -6,7 +6,8 @@ use Rattle.ov_tokens.specs.Keys.{node_key}
 use Rattle.ov_surface.specs.Coats.{stored_under}
 use Rattle.ov_history.specs.Places.{change_at, living_at}
 use Rattle.ov_history.specs.Layers.{lists_of, lists_after, same_surface, wants_of, with_wants}
-use Rattle.ov_history.specs.Briefs.{Brief, outer}
+use Rattle.ov_history.specs.Briefs.{Brief, BriefEnrol, BriefCreate, BriefGrant, BriefRevoke}
+use Rattle.ov_history.specs.Briefs.{BriefRemove, outer}
 use Rattle.ov_history.specs.Catalogue.{Filed, Catalogue, grown_catalogue, outline, settled_files}
 
 -- ---- what a file has
@@ -88,6 +89,14 @@ rewritten_all master (r ∷ rewrites) stored =
 abbrev pub with_text : List (List ℕ) → Option (List ℕ) → List (List ℕ)
 with_text stored None = stored
 with_text stored (Some text) = stored ++ text ∷ []
+
+-- the stored bytes, of which none are left of a file that the update removes
+abbrev pub without_gone : List (List ℕ) → Brief → List (List ℕ)
+without_gone stored (BriefEnrol user) = stored
+without_gone stored (BriefCreate file list tokens tag size) = stored
+without_gone stored (BriefGrant user file token) = stored
+without_gone stored (BriefRevoke user file) = stored
+without_gone stored (BriefRemove file) = change_at (λ bytes. []) file stored
 
 -- the stored bytes after an update with these rewrites and with this text of a new file, under the
 -- surface master

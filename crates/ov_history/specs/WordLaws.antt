@@ -1,10 +1,12 @@
 -- The laws that say what the layers of a history are, in the words of its updates.
-use Rattle.std.specs.Prelude.{◌≡◌, ◌≢◌, ◌⊎◌, ◌↔◌, ℕ, ◌<◌, ◌^◌, List, length, slice_get, slice_index}
+use Rattle.std.specs.Prelude.{◌≡◌, ◌≢◌, ◌⊎◌, ◌↔◌, ℕ, ◌<◌, ◌≤◌, ◌^◌, List, [], length, slice_get, slice_index}
 use Rattle.std.specs.Prelude.{Contains, Some}
 use Rattle.ov_base.specs.Sets.{Has}
 use Rattle.ov_ctr.specs.Ctr.{counter_block}
 use Rattle.ov_tokens.specs.declared.label.Label.{Label}
-use Rattle.ov_history.specs.History.{Update, Created, History, epoch_of, matrix_of, with_update}
+use Rattle.ov_history.specs.Places.{living_at}
+use Rattle.ov_history.specs.History.{Update, Created, Removed, File, History, epoch_of, matrix_of}
+use Rattle.ov_history.specs.History.{with_update}
 use Rattle.ov_history.specs.Layers.{holders, surface_at, layers_of}
 use Rattle.ov_history.specs.Refusals.{IsLegal}
 use Rattle.ov_history.specs.Masters.{Masters}
@@ -40,10 +42,15 @@ FilesBegin =
     (h : History) (name : List ℕ) (list size : ℕ)
     → HasFile (with_update h (Created name list size)) (length (matrix_of h).files)
 
--- a file that is there stays there, after any further updates
+-- a file that is there stays there, after any further updates of which none removes it
 abbrev pub FilesStay : Type 0
 FilesStay =
-    (h : History) (more : List Update) (file : ℕ) → HasFile h file → HasFile (longer h more) file
+    (h : History) (more : List Update) (file : ℕ)
+    → HasFile h file → (Contains more (Removed file) → ⊥) → HasFile (longer h more) file
+
+-- a file that is removed is gone
+abbrev pub RemovedIsGone : Type 0
+RemovedIsGone = (h : History) (file : ℕ) → HasFile (with_update h (Removed file)) file → ⊥
 
 -- ---- generations
 
@@ -70,6 +77,28 @@ GenerationsBegin =
     (h : History) (name : List ℕ) (list size : ℕ)
     → let next = with_update h (Created name list size) in
     (place_in next (length (matrix_of h).files)).generation ≡ epoch_of next
+
+-- ---- numbers
+
+-- a number that was given out stays so, also of a file that is gone
+abbrev pub NumbersStay : Type 0
+NumbersStay =
+    (h : History) (more : List Update)
+    → length (matrix_of h).files ≤ length (matrix_of (longer h more)).files
+
+-- a number is given once: a file that is gone isn't there after any further updates
+abbrev pub GoneStaysGone : Type 0
+GoneStaysGone =
+    (h : History) (more : List Update) (file : ℕ)
+    → file < length (matrix_of h).files → HasFile (longer h more) file → HasFile h file
+
+-- after a legal history no two files have one name; the empty one is none
+abbrev pub NamesAreOnce : Type 0
+NamesAreOnce =
+    (h : History) (m n : ℕ) (f g : File)
+    → IsLegal h
+    → living_at (matrix_of h).files m ≡ Some f → living_at (matrix_of h).files n ≡ Some g
+    → f.name ≡ g.name → (f.name ≡ [] → ⊥) → m ≡ n
 
 -- ---- sets
 

@@ -1,0 +1,11 @@
+use Rattle.ov_history.proofs.Staying.{gone_stays_gone}
+use Rattle.ov_history.proofs.StayingFiles.{names_are_once, numbers_stay, removed_is_gone}
+use Rattle.ov_history.proofs.words.numbers_are_given_once.Goals as goal
+
+pub returns : goal.returns
+returns c = record {
+  removed = removed_is_gone;
+  stay = numbers_stay;
+  gone = gone_stays_gone;
+  names = names_are_once;
+}
