@@ -16,7 +16,7 @@ use Rattle.ov_history.specs.Layers.{Layers, Place, grown, layers_after, layers_o
 use Rattle.ov_history.specs.Layers.{lists_of, moved, no_place, node_for, same_surface, settled_at}
 use Rattle.ov_history.specs.Layers.{surface_at, wants_of}
 use Rattle.ov_history.specs.Words.{place_in, wanted_of}
-use Rattle.ov_history.specs.WordLaws.{GenerationsBegin, GenerationsBeginAnew, GenerationsMove}
+use Rattle.ov_history.specs.WordLaws.{GenerationsBegin, GenerationsMove}
 use Rattle.ov_history.specs.WordLaws.{GenerationsStay}
 use Rattle.ov_history.proofs.SoundTests.{is_some-map}
 use Rattle.ov_history.proofs.Listing.{same_surface-is, same_surface-refl}

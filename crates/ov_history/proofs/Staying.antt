@@ -13,7 +13,7 @@ use Rattle.ov_history.specs.Layers.{Layers, Place, appended, grown, layers_after
 use Rattle.ov_history.specs.Layers.{lists_after, lists_of, no_place, node_for, wants_of, with_set}
 use Rattle.ov_history.specs.Layers.{with_wants}
 use Rattle.ov_history.specs.Words.{HasFile, longer, place_in}
-use Rattle.ov_history.specs.WordLaws.{BaseNodeIsOfList, BaseNodeIsOfOldList, GoneStaysGone, NodesStay}
+use Rattle.ov_history.specs.WordLaws.{BaseNodeIsOfList, GoneStaysGone, NodesStay}
 use Rattle.ov_history.specs.Lists.{file_at}
 use Rattle.std.proofs.Math.ListN.{get_or-map}
 use Rattle.ov_history.proofs.ChangeLaws.{below_some, gone_other, is_some-change}

@@ -5,6 +5,7 @@ use Rattle.std.specs.Prelude.{Contains, Option, Some}
 use Rattle.std.proofs.Math.ListN.{get_or-map}
 use Rattle.ov_surface.specs.Wanted.{wanted_surface}
 use Rattle.ov_graph.proofs.ListLaws.{Contains-first, Contains-later}
+use Rattle.std.specs.Prelude.{is_some}
 use Rattle.ov_history.specs.History.{History, Update, matrix_of}
 use Rattle.ov_history.specs.Layers.{Layers, Place, grown, holders, layers_after, layers_of}
 use Rattle.ov_history.specs.Layers.{lists_after, lists_at, lists_of, no_place, settled_all, settled_at}
