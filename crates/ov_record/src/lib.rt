@@ -3,7 +3,7 @@
 //! An [`Update`] is one change of a store: what its owner sends, and what its journal keeps. A
 //! contract sees it by `sealed_update` of `specs/Updates`, as a value that knows nothing of the
 //! width of the set in it. A [`Form`] says how updates are spelled: with how many words in a set,
-//! and with which limits of a creation. Frames and new records are in the form of the second format,
+//! with which limits of a creation, and whether with removals, which the second form alone has. Frames and new records are in the form of the second format,
 //! [`Form::SECOND`], and records of older stores in that of the first, [`Form::FIRST`]; both have
 //! room in their fields, and the records of both fit ([`forms_have_room`]). In each form an update
 //! has one spelling (`spelling` in `specs/Spelling`), [`write`] appends it, and [`read`] gives the

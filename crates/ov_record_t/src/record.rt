@@ -175,11 +175,42 @@ fn both_forms_are_known(rt: HostRuntime) {
     assert_eq!(rt; (first.most_tokens, second.most_tokens), (256, 1_024));
 }
 
+/// The place of the first wrong byte of these bytes in this form; none where they spell an update.
+fn wrong_at<const W: usize>(alloc: Global, form: Form<W>, bytes: &[u8]) -> Option<u32>
+    requires width { (1 ≤ W) × (W ≤ MAX_SET_WORDS) }
+    requires places { longest_spelling (form_of form) < 2 ^ 32 }
+{
+    match read(alloc, form, bytes) {
+        Err(RecordFault::BadRecord { at }) => Some(at),
+        _ => None,
+    }
+}
+
+#[test]
+fn removals_are_of_the_second_form(rt: HostRuntime) -> Result<(), Fail> {
+    let spelled = b"\x06\0\0\x01\x02".as_slice();
+    let Update::Remove { file } = read(rt.alloc(), Form::SECOND, spelled)? else {
+        return Err("a removal".into());
+    };
+    assert_eq!(rt; file, 258);
+    let removal: Update<16> = Update::Remove { file: 258 };
+    let mut out = Vec::new(rt.alloc());
+    write(Form::SECOND, &removal, &mut out)?;
+    assert_eq!(rt; out.as_slice(), spelled);
+    assert_eq!(rt; wrong_at(rt.alloc(), Form::FIRST, spelled), Some(0));
+    // The kind of the step of a store's records is no update's.
+    assert_eq!(rt; wrong_at(rt.alloc(), Form::SECOND, b"\x05\0\0\x01\x02"), Some(0));
+    assert_eq!(rt; wrong_at(rt.alloc(), Form::SECOND, b"\x06\0\0\x01"), Some(4));
+    assert_eq!(rt; wrong_at(rt.alloc(), Form::SECOND, b"\x06\0\0\x01\x02\0"), Some(5));
+    Ok(())
+}
+
 /// The place of the first wrong byte of the creation, in a form with these limits.
 fn creation_wrong_at(alloc: Global, most_tokens: u16, longest: u16) -> Option<u32> {
     let form = Form::<4> {
         most_tokens,
         longest: u32::from(longest),
+        removes: false,
     };
     match read(alloc, form, CREATION) {
         Err(RecordFault::BadRecord { at }) => Some(at),
@@ -203,10 +234,12 @@ fn sets_of_another_width(rt: HostRuntime) {
     let wide = Form::<16> {
         most_tokens: 256,
         longest: 1_048_576,
+        removes: false,
     };
     let narrow = Form::<1> {
         most_tokens: 256,
         longest: 1_048_576,
+        removes: false,
     };
     assert_eq!(rt; read(rt.alloc(), wide, CREATION).err().map(at), Some(132));
     assert_eq!(rt; read(rt.alloc(), narrow, CREATION).err().map(at), Some(46));
