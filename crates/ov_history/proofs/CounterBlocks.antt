@@ -24,10 +24,9 @@ use Rattle.ov_history.proofs.Staying.{numbers_stay}
 use Rattle.ov_history.proofs.ChangeLaws.{below_some}
 use Rattle.std.specs.Prelude.{option_map}
 use Rattle.std.specs.Prelude.{Some}
-use Rattle.ov_history.specs.Places.{living_at}
-use Rattle.ov_history.specs.Places.{change_at}
 use Rattle.ov_history.specs.Places.{gone}
 use Rattle.ov_history.specs.History.{Removed}
+
 -- ---- the number of files
 
 -- an update that isn't refused leaves no more files than there may be

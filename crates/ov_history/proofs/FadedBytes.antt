@@ -1,5 +1,5 @@
 -- Histories that agree but for files that are gone have the same stored bytes.
-use Rattle.std.proofs.Common.{◌≡◌, ◌∙◌, ◌<◌, ℕ, zero, suc, List, [], ◌∷◌, length, refl, sym, ap, arith}
+use Rattle.std.proofs.Common.{◌≡◌, ◌∙◌, ℕ, suc, List, [], ◌∷◌, length, refl, sym, ap, arith}
 use Rattle.std.specs.Prelude.{Option, Some, None, slice_index_or}
 use Rattle.ov_surface.specs.Coats.{stored_under}
 use Rattle.ov_history.specs.Places.{living_at}

@@ -7,14 +7,14 @@ use Rattle.ov_history.specs.Places.{change_at, gone, living_at}
 use Rattle.ov_history.specs.History.{Created, File, Matrix, Update, matrix_of}
 use Rattle.ov_tokens.specs.declared.token.Token.{Token}
 use Rattle.ov_history.specs.Lists.{is_file}
-use Rattle.ov_history.specs.Layers.{Layers, Place, lists_after, lists_of, list_at}
+use Rattle.ov_history.specs.Layers.{Layers, Place, lists_after, lists_of}
 use Rattle.ov_history.specs.Layers.{same_surface, surface_at, wants_of, with_wants}
-use Rattle.ov_history.specs.Briefs.{Brief, BriefCreate, brief, outer, text_of}
+use Rattle.ov_history.specs.Briefs.{BriefCreate, brief, outer, text_of}
 use Rattle.ov_history.specs.Catalogue.{Catalogue, Filed, catalogue_after, empty_catalogue}
 use Rattle.ov_history.specs.Catalogue.{file_shown, settled_catalogue}
-use Rattle.ov_history.specs.Catalogue.{filed_at, granted, grown_catalogue, matrix_shown, new_file}
+use Rattle.ov_history.specs.Catalogue.{filed_at, granted, grown_catalogue, new_file}
 use Rattle.ov_history.specs.Catalogue.{no_filed, outline, place_of_file, places, refiled}
-use Rattle.ov_history.specs.Catalogue.{settled_file, settled_files, settled_under, with_node}
+use Rattle.ov_history.specs.Catalogue.{settled_file, settled_files, settled_under}
 use Rattle.ov_history.specs.Catalogue.{with_surfaces}
 use Rattle.ov_record.specs.Updates.{SealedUpdate, SealedEnrol, SealedCreate, SealedGrant}
 use Rattle.ov_record.specs.Updates.{SealedRevoke, SealedRemove}
@@ -24,7 +24,7 @@ use Rattle.ov_history.specs.Rewrites.{with_text}
 use Rattle.std.specs.Prelude.{slice_index_or}
 use Rattle.std.proofs.Common.{true≢false}
 use Rattle.ov_history.specs.FadingLaws.{AgreeingKeepTheSame, AgreeingShowTheSame, FadedShowTheSame}
-use Rattle.ov_history.specs.Fading.{faded, faded_all}
+use Rattle.ov_history.specs.Fading.{faded_all}
 use Rattle.ov_history.specs.Fading.{faded_if, faded_of, is_gone_from, made_by, no_tag}
 use Rattle.ov_history.proofs.ChangeLaws.{length-change_at, some-there}
 use Rattle.ov_history.proofs.Showing.{matrix-shown}

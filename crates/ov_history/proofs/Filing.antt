@@ -1,5 +1,5 @@
 -- The files of a history that its owner seals are kept in their coats and with their tags.
-use Rattle.std.proofs.Common.{◌≡◌, ◌+◌, ℕ, List, [], ◌∷◌, ◌++◌}
+use Rattle.std.proofs.Common.{◌≡◌, ℕ, List, [], ◌∷◌, ◌++◌}
 use Rattle.std.proofs.Common.{length, refl, sym, ◌∙◌, ap, subst, arith, inl, inr, length-append}
 use Rattle.std.specs.Prelude.{Option, Some, None, slice_index_or}
 use Rattle.std.proofs.lemmas.List.{get_or_append_left}
@@ -13,11 +13,11 @@ use Rattle.ov_surface.proofs.CoatLaws.{both_come_off}
 use Rattle.ov_history.specs.Plain.{PlainCreate, PlainEnrol, PlainGrant, PlainHistory, PlainRevoke}
 use Rattle.ov_history.specs.Plain.{PlainUpdate, bytes_of, history_of, texts_after, texts_of}
 use Rattle.ov_history.specs.Plain.{with_plain}
-use Rattle.ov_history.specs.Layers.{Layers, layers_of, lists_after, lists_of, node_for}
+use Rattle.ov_history.specs.Layers.{Layers, layers_of, lists_after, lists_of}
 use Rattle.ov_history.specs.Layers.{wants_of, with_wants}
 use Rattle.ov_history.specs.Briefs.{brief, outer, text_of}
 use Rattle.ov_history.specs.Catalogue.{Catalogue, Filed, catalogue_after, grown_catalogue}
-use Rattle.ov_history.specs.Catalogue.{outline, places}
+use Rattle.ov_history.specs.Catalogue.{outline}
 use Rattle.ov_history.specs.Rewrites.{surface_key, with_text}
 use Rattle.ov_history.specs.Masters.{Masters, access_key}
 use Rattle.ov_history.specs.Sealed.{SealedHistory, catalogue_of, sent_of}
@@ -31,19 +31,14 @@ use Rattle.ov_history.specs.Sealing.{sealed_tag, sealed_text}
 use Rattle.ov_history.proofs.ChangeLaws.{gone_other, length-change_at, some-there}
 use Rattle.ov_history.proofs.GoingOn.{sent-push}
 use Rattle.ov_history.proofs.Keeping.{catalogue-sealed, kept_stands_for, layers-sealed}
-use Rattle.ov_history.proofs.Outlining.{length-places, lists-at}
+use Rattle.ov_history.proofs.Outlining.{length-places}
 use Rattle.ov_history.proofs.PlainLaws.{each_plain, texts_of-push}
 use Rattle.ov_history.proofs.Sealing.{sealing_goes_on}
 use Rattle.ov_history.proofs.Storing.{IsSameFile, settled_still, with_last, length-settled_files, stored_is_coated}
 use Rattle.ov_history.specs.Places.{living_at}
-use Rattle.std.specs.Prelude.{option_map}
-use Rattle.std.specs.Prelude.{unwrap_or}
 use Rattle.ov_history.specs.Places.{change_at}
-use Rattle.ov_history.specs.Layers.{list_at}
-use Rattle.ov_history.specs.Catalogue.{place_of_file}
 use Rattle.ov_history.specs.Places.{gone}
 use Rattle.ov_history.specs.Plain.{PlainRemove}
-use Rattle.ov_base.specs.Sets.{empty as nobody}
 
 -- ---- one file
 

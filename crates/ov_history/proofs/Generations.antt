@@ -1,5 +1,5 @@
 -- A file's generation is the epoch since when it has its wanted set.
-use Rattle.std.proofs.Common.{◌≡◌, ◌≢◌, ◌==◌, ℕ, ◌+◌, ◌<◌, Bool, true, false, List, [], ◌∷◌, ◌++◌}
+use Rattle.std.proofs.Common.{◌≡◌, ◌≢◌, ◌==◌, ℕ, ◌<◌, Bool, true, false, List, [], ◌∷◌}
 use Rattle.std.proofs.Common.{length, get_or, refl, sym, ◌∙◌, ap, subst, arith, true≢false}
 use Rattle.std.proofs.Common.{length-append}
 use Rattle.std.specs.Prelude.{Contains, Option, Some, None, slice_index}
@@ -18,26 +18,22 @@ use Rattle.ov_history.specs.Layers.{surface_at, wants_of}
 use Rattle.ov_history.specs.Words.{place_in, wanted_of}
 use Rattle.ov_history.specs.WordLaws.{GenerationsBegin, GenerationsMove}
 use Rattle.ov_history.specs.WordLaws.{GenerationsStay}
-use Rattle.ov_history.proofs.SoundTests.{is_some-map}
 use Rattle.ov_history.proofs.Listing.{same_surface-is, same_surface-refl}
 use Rattle.ov_history.proofs.MatrixLaws.{epoch_of-layers_of, files_of-layers_of}
 use Rattle.ov_history.proofs.PlanLaws.{node_for-there, with_wants-keeps}
 use Rattle.ov_history.proofs.Pushing.{layers_of-push}
 use Rattle.ov_history.proofs.Wanting.{IsSettled, file_below, history-settled, length-after}
-use Rattle.ov_history.proofs.Wanting.{living_same, read_off, still_settled}
+use Rattle.ov_history.proofs.Wanting.{living_same, still_settled}
 use Rattle.ov_history.proofs.Wanting.{place_at, settled_after, wanted_in, wanted_of-is}
 use Rattle.std.specs.Prelude.{unwrap_or}
-use Rattle.std.specs.Prelude.{option_map}
 use Rattle.std.specs.Prelude.{is_some}
 use Rattle.ov_history.specs.Places.{living_at}
-use Rattle.ov_history.specs.Places.{change_at}
 use Rattle.ov_history.specs.Places.{gone}
 use Rattle.ov_history.specs.Layers.{new_place}
 use Rattle.ov_history.specs.History.{Removed}
 use Rattle.ov_history.proofs.ChangeLaws.{gone_other}
 use Rattle.ov_history.proofs.ChangeLaws.{length-change_at}
 use Rattle.ov_history.specs.Words.{HasFile}
-use Rattle.ov_history.specs.Layers.{list_at}
 
 -- ---- more sets
 

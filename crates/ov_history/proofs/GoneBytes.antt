@@ -1,12 +1,12 @@
 -- The stored bytes of a file that is gone are none.
-use Rattle.std.proofs.Common.{◌≡◌, ◌∙◌, ◌+◌, ℕ, zero, suc, List, [], ◌∷◌, ◌++◌, length, refl, sym, arith}
+use Rattle.std.proofs.Common.{◌≡◌, ◌∙◌, ℕ, zero, suc, List, [], ◌∷◌, ◌++◌, length, refl, sym, arith}
 use Rattle.std.proofs.Common.{length-append}
-use Rattle.std.specs.Prelude.{Option, Some, None, option_map, slice_index_or}
+use Rattle.std.specs.Prelude.{Option, Some, None, slice_index_or}
 use Rattle.ov_record.specs.Updates.{SealedUpdate, SealedEnrol, SealedCreate, SealedGrant}
 use Rattle.ov_record.specs.Updates.{SealedRevoke, SealedRemove}
 use Rattle.ov_history.specs.Places.{change_at, gone, living_at}
 use Rattle.ov_history.specs.Layers.{lists_after, lists_of, wants_of, with_wants}
-use Rattle.ov_history.specs.Briefs.{Brief, brief, outer, text_of}
+use Rattle.ov_history.specs.Briefs.{brief, outer, text_of}
 use Rattle.ov_history.specs.Catalogue.{Catalogue, Filed, catalogue_after, empty_catalogue}
 use Rattle.ov_history.specs.Catalogue.{grown_catalogue, new_file, outline, settled_files}
 use Rattle.ov_history.specs.Rewrites.{files_after, rewrites_of, stored_after, with_text, without_gone}

@@ -1,5 +1,5 @@
 -- The lists that are read off the layers are those that the updates make.
-use Rattle.std.proofs.Common.{◌≡◌, ◌≢◌, ℕ, suc, ◌+◌, Bool, true, false, ◌==◌, List, [], ◌∷◌, length}
+use Rattle.std.proofs.Common.{◌≡◌, ◌≢◌, ℕ, suc, Bool, true, false, ◌==◌, List, [], ◌∷◌, length}
 use Rattle.std.proofs.Common.{refl, sym, ◌∙◌, ap, eq-eqb, eqb-true}
 use Rattle.std.specs.Prelude.{Contains, Option, Some, None, slice_index}
 use Rattle.std.proofs.lemmas.Bool.{false≢true}
@@ -20,10 +20,10 @@ use Rattle.std.specs.Prelude.{zero}
 use Rattle.ov_history.specs.Places.{change_at}
 use Rattle.ov_history.specs.Layers.{want_at}
 use Rattle.ov_history.specs.Layers.{list_at}
-use Rattle.ov_history.specs.Places.{living_at}
 use Rattle.ov_history.specs.Places.{gone}
 use Rattle.ov_history.specs.Layers.{new_place}
 use Rattle.ov_history.specs.History.{Removed}
+
 -- ---- surfaces
 
 -- two surfaces that are the same

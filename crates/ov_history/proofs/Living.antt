@@ -1,6 +1,6 @@
 -- No update puts a file where one is gone.
-use Rattle.std.proofs.Common.{◌≡◌, ◌<◌, ◌+◌, ℕ, zero, suc, Bool, true, false, List, [], ◌∷◌, ◌++◌}
-use Rattle.std.proofs.Common.{length, refl, sym, ◌∙◌, subst, arith}
+use Rattle.std.proofs.Common.{◌≡◌, ◌<◌, ◌+◌, ℕ, zero, suc, Bool, true, false, List, [], ◌∷◌}
+use Rattle.std.proofs.Common.{length, refl, ◌∙◌, arith}
 use Rattle.std.specs.Prelude.{◌≤◌, Option, Some, None, nat_lt}
 use Rattle.std.proofs.lemmas.Bool.Decides.{nat_tests}
 use Rattle.std.proofs.lemmas.List.{get_or_append_left}
@@ -9,7 +9,7 @@ use Rattle.ov_history.specs.Layers.{lists_after, lists_of, node_for, same_surfac
 use Rattle.ov_history.specs.Layers.{wants_of, with_wants}
 use Rattle.ov_history.specs.Briefs.{Brief, BriefEnrol, BriefCreate, BriefGrant, BriefRevoke, outer}
 use Rattle.ov_history.specs.Briefs.{BriefRemove}
-use Rattle.ov_history.specs.Catalogue.{Catalogue, Filed, catalogue_after, empty_catalogue}
+use Rattle.ov_history.specs.Catalogue.{Catalogue, Filed}
 use Rattle.ov_history.specs.Catalogue.{grown_catalogue, new_file, outline, refiled, settled_file, settled_files}
 use Rattle.ov_history.specs.Rewrites.{files_after, length_left}
 use Rattle.ov_history.proofs.ChangeLaws.{length-change_at}
@@ -89,9 +89,11 @@ new-grown : (c : Catalogue) (b : Brief) (n : ℕ) → length c.files ≤ n
     → (f : Filed) × (living_at (grown_catalogue c b).files n ≡ Some f)
 new-grown c (BriefEnrol user) n past below = absurd (omega (arith, past, below))
 new-grown c (BriefCreate file list tokens tag size) n past below =
-    let new : Filed = new_file c file list tag size in
-    (new, last_item c.files (Some new) n None
-    (omega (arith, past, below, length-append c.files (Some new ∷ []))))
+    let new : Filed = new_file c file list tag size in (
+      new,
+      last_item c.files (Some new) n None
+          (omega (arith, past, below, length-append c.files (Some new ∷ []))),
+    )
 new-grown c (BriefGrant user file token) n past below = absurd (omega (arith, past, below))
 new-grown c (BriefRevoke user file) n past below = absurd (omega (arith, past, below))
 new-grown c (BriefRemove file) n past below =

@@ -18,10 +18,10 @@ use Rattle.std.specs.Prelude.{None}
 use Rattle.std.specs.Prelude.{unwrap_or}
 use Rattle.ov_history.specs.Places.{living_at}
 use Rattle.ov_base.specs.Sets.{empty as nobody}
-use Rattle.std.specs.Prelude.{◌++◌}
 use Rattle.ov_history.specs.Places.{change_at}
 use Rattle.ov_history.specs.Places.{gone}
 use Rattle.ov_history.specs.History.{Removed}
+
 -- ---- lists of files
 
 -- the lists of these files

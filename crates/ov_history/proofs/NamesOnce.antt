@@ -1,5 +1,5 @@
 -- After a legal history no two files have one name.
-use Rattle.std.proofs.Common.{◌≡◌, ◌∙◌, ◌⊎◌, ◌+◌, ℕ, zero, suc, Bool, true, false, List, [], ◌∷◌, ◌++◌}
+use Rattle.std.proofs.Common.{◌≡◌, ◌∙◌, ◌⊎◌, ℕ, zero, suc, Bool, true, false, List, [], ◌∷◌, ◌++◌}
 use Rattle.std.proofs.Common.{length, refl, sym, ap, subst, arith, inl, inr, true≢false}
 use Rattle.std.specs.Prelude.{Option, Some, None, is_some, option_map}
 use Rattle.std.specs.Str.{bytes_eq}
@@ -69,17 +69,17 @@ once_more : (files : List (Option File)) (new : File)
     → AreOnce files → AreOnce (files ++ Some new ∷ [])
 once_more files new free once m n f g is are same some = elim (at_last files new m f is) [
   | inl old ↦ elim (at_last files new n g are) [
-      | inl also ↦ once m n f g old also same some
-      | inr last ↦
-          absurd (taken m f old (same ∙ ap (λ (x : File). x.name) (sym last.1)) some)
-    ]
+    | inl also ↦ once m n f g old also same some
+    | inr last ↦
+        absurd (taken m f old (same ∙ ap (λ (x : File). x.name) (sym last.1)) some)
+  ]
   | inr last ↦ elim (at_last files new n g are) [
-      | inl also ↦
-          absurd
-          (taken n g also (sym same ∙ ap (λ (x : File). x.name) (sym last.1))
-          (λ none. some (same ∙ none)))
-      | inr too ↦ last.0 ∙ sym too.0
-    ]
+    | inl also ↦
+        absurd
+        (taken n g also (sym same ∙ ap (λ (x : File). x.name) (sym last.1))
+        (λ none. some (same ∙ none)))
+    | inr too ↦ last.0 ∙ sym too.0
+  ]
 ] where
   taken : (n : ℕ) (f : File) → living_at files n ≡ Some f → f.name ≡ new.name
       → (f.name ≡ [] → ⊥) → ⊥

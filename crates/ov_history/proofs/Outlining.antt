@@ -15,7 +15,7 @@ use Rattle.ov_base_layer.specs.Seals.{cover_tokens}
 use Rattle.ov_record.specs.Updates.{SealedUpdate}
 use Rattle.ov_history.specs.History.{Created, Enrolled, Granted, History, start_of, with_update}
 use Rattle.ov_history.specs.Layers.{Layers, Place, appended, given, grown, holders, layers_after}
-use Rattle.ov_history.specs.Layers.{layers_of, lists_after, lists_of, moved, no_place, node_for}
+use Rattle.ov_history.specs.Layers.{layers_of, lists_after, lists_of, moved, no_place}
 use Rattle.ov_history.specs.Layers.{node_of, same_surface, settled, settled_all, settled_at}
 use Rattle.ov_history.specs.Layers.{settled_by, surface_at, wants_of, with_set, with_wants}
 use Rattle.ov_history.specs.Briefs.{Brief, BriefCreate, BriefEnrol, BriefGrant, BriefRevoke, brief}
@@ -34,7 +34,6 @@ use Rattle.ov_history.specs.Places.{living_at}
 use Rattle.ov_history.specs.Places.{change_at}
 use Rattle.ov_history.specs.Layers.{list_at}
 use Rattle.ov_history.specs.Places.{gone}
-use Rattle.ov_history.specs.Layers.{new_place}
 use Rattle.ov_history.specs.Catalogue.{new_file}
 use Rattle.ov_history.specs.Briefs.{BriefRemove}
 use Rattle.ov_history.specs.Layers.{lists_at}

@@ -6,6 +6,7 @@ use Rattle.ov_history.specs.History.{History, Update, Enrolled, Created, Granted
 use Rattle.ov_history.specs.Layers.{Layers, Place, layers_of}
 use Rattle.std.specs.Prelude.{Option}
 use Rattle.ov_history.specs.History.{Removed}
+
 -- a place without a surface, and one with
 abbrev bare : ℕ → ℕ → Option Place
 bare node generation = Some (record { node = node; surface = None; generation = generation })

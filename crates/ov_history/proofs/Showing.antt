@@ -1,5 +1,5 @@
 -- A catalogue shows the matrix of its history, and so refuses what the history refuses.
-use Rattle.std.proofs.Common.{◌≡◌, ℕ, zero, suc, ◌+◌, Bool, true, false, List, [], ◌∷◌, ◌++◌}
+use Rattle.std.proofs.Common.{◌≡◌, ℕ, zero, suc, Bool, true, false, List, [], ◌∷◌, ◌++◌}
 use Rattle.std.proofs.Common.{length, refl, sym, ◌∙◌, ap, subst, arith}
 use Rattle.std.specs.Prelude.{Option, None}
 use Rattle.ov_base.specs.Sets.{with, without}
@@ -7,7 +7,7 @@ use Rattle.ov_record.specs.Updates.{SealedUpdate}
 use Rattle.ov_history.specs.Places.{change_at}
 use Rattle.ov_history.specs.History.{File, History, Matrix, changed, delisted, epoch_of, listed}
 use Rattle.ov_history.specs.History.{matrix_of, start_of, with_update}
-use Rattle.ov_history.specs.Layers.{Layers, layers_of, lists_after, lists_at, lists_of, node_for}
+use Rattle.ov_history.specs.Layers.{Layers, layers_of, lists_after, lists_at, lists_of}
 use Rattle.ov_history.specs.Layers.{same_surface, surface_at, wants_of, with_wants}
 use Rattle.ov_history.specs.Refusals.{first_of_tests, tests_of}
 use Rattle.ov_history.specs.Briefs.{Brief, BriefCreate, BriefEnrol, BriefGrant, BriefRevoke, brief}
@@ -29,7 +29,6 @@ use Rattle.ov_history.specs.Places.{living_at}
 use Rattle.ov_history.specs.Places.{gone}
 use Rattle.ov_history.specs.Catalogue.{new_file}
 use Rattle.ov_history.specs.Briefs.{BriefRemove}
-use Rattle.ov_history.proofs.ChangeLaws.{length-change_at}
 
 -- ---- files with their lists
 

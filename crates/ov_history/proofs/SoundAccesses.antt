@@ -19,6 +19,7 @@ use Rattle.std.specs.Prelude.{is_some}
 use Rattle.ov_history.specs.Places.{living_at}
 use Rattle.ov_history.specs.Catalogue.{Filed}
 use Rattle.ov_history.specs.Briefs.{BriefRemove}
+
 first_enrolled : (users : ℕ) (sets : List ℕ) (accesses : List Access) → AreFirst users sets accesses
     → AreFirst (users + 1) (sets ++ single users ∷ []) accesses
 first_enrolled users sets accesses old =

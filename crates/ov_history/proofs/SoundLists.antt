@@ -1,5 +1,5 @@
 -- The lists of files lie within the holders of their base nodes.
-use Rattle.std.proofs.Common.{◌≡◌, ℕ, zero, suc, ◌+◌, ◌<◌, ◌==◌, Bool, true, false, List, [], ◌∷◌}
+use Rattle.std.proofs.Common.{◌≡◌, ℕ, zero, suc, ◌<◌, ◌==◌, Bool, true, false, List, [], ◌∷◌}
 use Rattle.std.proofs.Common.{◌++◌, length, get_or, refl, sym, subst, arith, inl, inr}
 use Rattle.std.proofs.Common.{length-append}
 use Rattle.std.specs.Prelude.{Contains, Some, None}
@@ -28,7 +28,6 @@ use Rattle.ov_history.specs.Places.{gone}
 use Rattle.ov_history.specs.Layers.{new_place}
 use Rattle.ov_history.specs.Layers.{lists_of}
 use Rattle.ov_history.specs.History.{Removed}
-use Rattle.ov_base.specs.Sets.{empty as nobody}
 use Rattle.ov_history.specs.Layers.{with_set}
 
 -- the base node of a place is there, and its holders have each user of the list

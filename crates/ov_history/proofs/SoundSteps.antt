@@ -23,18 +23,7 @@ use Rattle.ov_history.proofs.SoundLists.{AreHeld, held_after, held_files, holder
 use Rattle.ov_history.proofs.SoundLists.{wants_below}
 use Rattle.ov_history.proofs.SoundTests.{IsFine, accepted}
 use Rattle.ov_history.specs.Places.{living_at}
-use Rattle.std.specs.Prelude.{option_map}
-use Rattle.std.specs.Prelude.{None}
-use Rattle.std.specs.Prelude.{unwrap_or}
-use Rattle.std.specs.Prelude.{is_some}
-use Rattle.std.specs.Prelude.{true}
-use Rattle.ov_history.specs.Layers.{list_at}
-use Rattle.ov_history.specs.Catalogue.{place_of_file}
 use Rattle.ov_history.specs.Briefs.{BriefRemove}
-use Rattle.ov_base.specs.Sets.{empty as nobody}
-use Rattle.ov_history.proofs.Outlining.{lists-at}
-use Rattle.ov_base.proofs.SetLaws.{IsBelow-Within}
-use Rattle.ov_history.specs.Layers.{holders}
 
 -- what is shown while its files have yet to get their wanted surfaces for these lists
 pub record IsReady (c : Catalogue) (lists : List (Option ℕ)) : Type 0 where

@@ -26,6 +26,7 @@ use Rattle.ov_history.specs.Catalogue.{file_shown}
 use Rattle.ov_history.specs.Lists.{is_file}
 use Rattle.std.proofs.Common.{sym}
 use Rattle.ov_history.specs.Briefs.{BriefRemove}
+
 -- the users and the file of the update are there
 abbrev pub IsFine : Catalogue → Brief → Type 0
 IsFine c (BriefEnrol user) = Unit {0}

@@ -1,6 +1,6 @@
 -- What stays over further updates: the nodes of each layer with their sets, and the base node of a
 -- file.
-use Rattle.std.proofs.Common.{◌≡◌, ◌<◌, ◌+◌, ℕ, zero, suc, Bool, true, false, List, [], ◌∷◌, ◌++◌}
+use Rattle.std.proofs.Common.{◌≡◌, ◌<◌, ℕ, zero, suc, Bool, true, false, List, [], ◌∷◌, ◌++◌}
 use Rattle.std.proofs.Common.{length, refl, sym, ◌∙◌, ap, subst, arith, length-append}
 use Rattle.std.specs.Prelude.{Option, Some, None, slice_get}
 use Rattle.std.proofs.lemmas.Option.{slice_get-get_or}
@@ -32,12 +32,10 @@ use Rattle.std.specs.Prelude.{is_some}
 use Rattle.ov_history.specs.History.{File}
 use Rattle.ov_history.specs.Lists.{is_file}
 use Rattle.ov_history.specs.Places.{living_at}
-use Rattle.ov_history.specs.Places.{change_at}
 use Rattle.ov_history.specs.Places.{gone}
 use Rattle.ov_history.specs.Layers.{new_place}
 use Rattle.ov_history.specs.History.{Removed}
 use Rattle.ov_history.specs.Lists.{no_file}
-use Rattle.ov_base.specs.Sets.{empty as nobody}
 
 -- ---- sets
 

@@ -1,5 +1,5 @@
 -- What is stored of a file is its text as it was sent, under the coat of its surface.
-use Rattle.std.proofs.Common.{◌≡◌, ◌⊎◌, ◌≤◌, ◌<◌, ◌+◌, ℕ, zero, suc, Bool, true, false, List, [], ◌∷◌, ◌++◌, length, refl, sym, ◌∙◌}
+use Rattle.std.proofs.Common.{◌≡◌, ◌⊎◌, ◌≤◌, ◌<◌, ℕ, zero, suc, Bool, true, false, List, [], ◌∷◌, ◌++◌, length, refl, sym, ◌∙◌}
 use Rattle.std.proofs.Common.{ap, subst, arith, inl, inr, length-append}
 use Rattle.std.specs.Prelude.{Option, None, slice_index_or}
 use Rattle.std.proofs.lemmas.Bool.{cases_lt}
@@ -9,11 +9,11 @@ use Rattle.ov_record.specs.Updates.{SealedUpdate, SealedEnrol, SealedCreate, Sea
 use Rattle.ov_record.specs.Updates.{SealedRevoke}
 use Rattle.ov_surface.specs.Coats.{stored_under}
 use Rattle.ov_surface.proofs.CoatLaws.{length-coated}
-use Rattle.ov_history.specs.Layers.{lists_after, lists_of, node_for, same_surface, surface_at}
+use Rattle.ov_history.specs.Layers.{lists_after, lists_of, same_surface, surface_at}
 use Rattle.ov_history.specs.Layers.{wants_of, with_wants}
 use Rattle.ov_history.specs.Briefs.{Brief, brief, outer, text_of}
 use Rattle.ov_history.specs.Catalogue.{Catalogue, Filed, catalogue_after, empty_catalogue, new_file}
-use Rattle.ov_history.specs.Catalogue.{grown_catalogue, no_filed, outline, refiled, settled_files}
+use Rattle.ov_history.specs.Catalogue.{grown_catalogue, outline, refiled, settled_files}
 use Rattle.ov_history.specs.Rewrites.{AreCoated, files_after, restored, rewrites_from, rewrites_of}
 use Rattle.ov_history.specs.Rewrites.{rewritten_all, stored_after, surface_key, with_text}
 use Rattle.ov_history.specs.Rewrites.{without_gone}
@@ -26,10 +26,10 @@ use Rattle.ov_history.proofs.Rewriting.{length-rewritten_all, restored-under, re
 use Rattle.std.specs.Prelude.{Some}
 use Rattle.ov_history.specs.Rewrites.{surface_left}
 use Rattle.ov_history.specs.Places.{living_at}
-use Rattle.std.specs.Prelude.{option_map}
 use Rattle.ov_history.specs.Places.{change_at}
 use Rattle.ov_history.specs.Places.{gone}
 use Rattle.ov_record.specs.Updates.{SealedRemove}
+
 -- ---- files and texts
 
 -- a file that is there has a number below how many there are

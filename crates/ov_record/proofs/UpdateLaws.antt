@@ -18,7 +18,6 @@ use Rattle.ov_record.specs.Forms.{Form, HasRoom, first_form, second_form, set_by
 use Rattle.ov_record.specs.Forms.{longest_spelling}
 use Rattle.ov_fields.specs.Reading.{Read, made, number_at}
 use Rattle.std.specs.Int.{w32}
-use Rattle.std.proofs.Common.{ap, ◌∙◌}
 use Rattle.ov_record.specs.Updates.{SealedUpdate, SealedEnrol, SealedCreate, SealedGrant, SealedRevoke, SealedRemove}
 use Rattle.ov_record.specs.Spelling.{spelling, HasForm, IsWithinLimits}
 use Rattle.ov_record.specs.Reading.{creation, creation_at, grant, grant_at, revocation, revocation_at, update_at}

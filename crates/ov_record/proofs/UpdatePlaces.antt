@@ -2,7 +2,7 @@
 use Rattle.std.proofs.Common.{◌≡◌, ℕ, zero, suc, ◌-◌, List, [], ◌∷◌, length, Result, Ok, Err, refl, subst, arith}
 use Rattle.std.specs.Prelude.{cond, Bool, true, false, ◌<◌, ◌^◌}
 use Rattle.std.specs.Int.{w32}
-use Rattle.std.proofs.Common.{ap, ◌∙◌, sym}
+use Rattle.std.proofs.Common.{◌∙◌, sym}
 use Rattle.ov_fields.specs.Spelling.{name_field, u32}
 use Rattle.ov_fields.specs.Fronts.{IsFront, IsWrongPlace}
 use Rattle.ov_fields.specs.Reading.{Read, all_of, made, number_at, placed}
