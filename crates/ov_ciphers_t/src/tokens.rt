@@ -2,6 +2,7 @@
 
 mod vectors;
 
+use crate::bytes::fill;
 use ov_base::Key;
 use ov_tokens::*;
 use std::process::Abort;
@@ -11,11 +12,7 @@ use vectors::{ROWS, Row};
 /// The key whose first byte is `start`, each next byte `step` more.
 fn counted_key(start: u8, step: u8) -> Key {
     let mut bytes = [0u8; 32];
-    let mut next = start;
-    for byte in &mut bytes {
-        *byte = next;
-        next = next.wrapping_add(step);
-    }
+    fill(&mut bytes, start, step);
     Key { bytes }
 }
 

@@ -4,23 +4,16 @@ mod callers;
 mod sums;
 mod vectors;
 
+use crate::bytes::fill;
 use callers::{apply_in_two, apply_twice};
 use ov_ctr::apply_at;
 use sums::SUMS;
 use vectors::PADS;
 
 /// The text whose byte `i` is `31 i + 7` modulo 256.
-fn fill(text: &mut [u8]) {
-    let mut next = 7u8;
-    for byte in text {
-        *byte = next;
-        next = next.wrapping_add(31);
-    }
-}
-
 fn text() -> [u8; 48] {
     let mut text = [0u8; 48];
-    fill(&mut text);
+    fill(&mut text, 7, 31);
     text
 }
 
@@ -54,7 +47,7 @@ fn sum_of(bytes: &[u8]) -> u64 {
 #[test]
 fn sums_of_another_implementation(rt: HostRuntime) {
     let mut text = [0u8; 4100];
-    fill(&mut text);
+    fill(&mut text, 7, 31);
     for vector in &SUMS {
         assert!(rt; vector.length <= 4100 && vector.start <= 1048576);
         let mut bytes = text;

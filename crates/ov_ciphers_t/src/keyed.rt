@@ -4,6 +4,7 @@ ghost use Rattle.std.specs.Prelude.{◌<◌};
 
 mod vectors;
 
+use crate::bytes::fill;
 use ov_keyed::{MacKey, Pieces, mac, mac_of_pieces, same};
 use std::process::Abort;
 use vectors::ROWS;
@@ -63,15 +64,6 @@ fn a_message_cut_anywhere_has_one_tag(rt: HostRuntime) {
         let (first, second) = message.split_at(cut);
         assert_eq!(rt; mac(&key, first, second), JEFE);
         assert_eq!(rt; kept.mac(first, second), JEFE);
-    }
-}
-
-/// Bytes of which the first is `start`, and each next one `step` more.
-fn fill(bytes: &mut [u8], start: u8, step: u8) {
-    let mut next = start;
-    for byte in bytes {
-        *byte = next;
-        next = next.wrapping_add(step);
     }
 }
 
