@@ -4,28 +4,14 @@ ghost use Rattle.ov_base.specs.declared.limits.TheConstants.{MAX_SET_WORDS};
 
 mod vectors;
 
-use ov_base::{Key, UserSet};
+use crate::sets::{MASTER, put, set_of_bits};
 use ov_chain::*;
-use ov_graph::{Graph, ListGraph, has_roots, plan_and_add};
+use ov_graph::{Graph, ListGraph};
 use ov_tokens::{Base, Chain, Layer, Master, Step, Surface};
 use std::alloc::Global;
 use std::process::Abort;
 use std::test::Fail;
-use vectors::{BEFORE, NOWHERE, SETS, USERS};
-
-const MASTER: Key = Key { bytes: [7; 32] };
-
-/// Adds a set that is new.
-fn put<L: Layer, G: Graph<L, W>, const W: usize>(
-    rt: &impl Abort,
-    alloc: Global,
-    graph: &mut G,
-    set: &UserSet<W>,
-) -> Result<(), Fail> {
-    assert!(rt; has_roots::<L, G, W>(graph, set));
-    plan_and_add::<L, G, W>(alloc, graph, &Master::new(&MASTER), set)?;
-    Ok(())
-}
+use vectors::{BEFORE, NOWHERE, SETS};
 
 fn chain_between<L: Layer, G: Graph<L, W>, const W: usize>(
     rt: &impl Abort,
@@ -65,19 +51,6 @@ fn expect_chain<L: Layer, G: Graph<L, W>, const W: usize>(
     let key = walk(&L::key_of(&Master::new(&MASTER), root), &chain);
     assert_eq!(rt; key.bytes, L::key_of(&Master::new(&MASTER), node).bytes);
     Ok(())
-}
-
-/// The set of those users whose bits are set.
-fn set_of_bits<const W: usize>(bits: u32) -> UserSet<W>
-    requires { (1 ≤ W) × (W ≤ MAX_SET_WORDS) }
-{
-    let mut set = UserSet::empty();
-    for user in 0..USERS as u32 {
-        if bits >> user & 1 == 1 {
-            set = set.with(user);
-        }
-    }
-    set
 }
 
 /// Users a to d, nodes 0 to 3; then {a, b}, {b, c} and all four.
