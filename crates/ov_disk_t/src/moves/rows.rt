@@ -3,8 +3,9 @@ ghost use Rattle.std.specs.Prelude.{◌≡◌, []};
 ghost use Rattle.ov_disk.specs.Disk.{Only, Told};
 ghost use Rattle.ov_journal.specs.Standing.{IsUnborn};
 
-use crate::asked::{born, is_alone, rewrite_one};
-use crate::turns::{Each, Same};
+use super::asked::{born, is_alone, rewrite_one};
+use super::turns::{Each, Same};
+use crate::runs::expect_runs;
 use ov_blocks::{Extent, Extents};
 use ov_disk::{Disk, MemDisk};
 use ov_journal::CheckFault;
@@ -67,18 +68,6 @@ fn write<D: Disk>(
     )?;
     assert!(rt; goes_to(&moves, 0));
     Ok(())
-}
-
-// So many bytes, all of which are this one, and then others.
-fn expect_runs(rt: &impl Abort, blobs: &[u8], runs: &[(usize, u8)]) {
-    let mut rest = blobs;
-    for (count, byte) in runs {
-        assert!(rt; *count <= rest.len(), "{runs:?}");
-        let (run, behind) = rest.split_at(*count);
-        assert!(rt; run.iter().all(|b| *b == *byte), "{runs:?}");
-        rest = behind;
-    }
-    assert!(rt; rest.is_empty(), "{runs:?}");
 }
 
 // How often the file was written, where it is then, the length of Blobs, and the runs of bytes in it.

@@ -1,23 +1,13 @@
 //! The calls of extents behind a test that they may be made.
-ghost use Rattle.std.specs.Prelude.{◌≡◌, ◌≤◌, All, Contains, IsTrue};
+ghost use Rattle.std.specs.Prelude.{◌≡◌, All, IsTrue};
 ghost use Rattle.std.specs.List.Sorted.{IsStrictlyIncreasing};
 ghost use Rattle.ov_blocks.specs.Extents.{BeginsOne, HasPlace, IsInside};
 ghost use Rattle.ov_blocks.specs.Writes.{place_in_blobs};
-ghost use Rattle.ov_blocks.specs.declared.extents.Extent.{Extent};
-ghost use Rattle.ov_blocks.specs.declared.extents.TheConstants.{MAX_EXTENT_BLOCKS};
 
+use crate::held::{are_short, is_held};
 use ov_blocks::{BLOCK_BYTES, Extent, Extents, MAX_EXTENT_BLOCKS, MAX_HELD};
 use ov_disk::{DiskFault, MemDisk};
 use std::process::Abort;
-
-// Whether each of these extents is short enough beside a new one.
-fn are_short(extents: &[Extent]) -> bool
-    ensures { IsTrue result → All (λ (e : Extent). e.length ≤ MAX_EXTENT_BLOCKS) extents.now }
-{
-    extents
-        .iter()
-        .all(|extent| extent.length <= MAX_EXTENT_BLOCKS)
-}
 
 // Whether a place is found for so many blocks.
 fn has_place(extents: &Extents, length: u32) -> bool
@@ -27,14 +17,6 @@ fn has_place(extents: &Extents, length: u32) -> bool
     let room = (MAX_HELD as usize).saturating_sub(back.len());
     let fits = length > 0 && length <= MAX_EXTENT_BLOCKS && front.len() <= room;
     fits && are_short(front) && are_short(back) && back.len() <= MAX_HELD as usize
-}
-
-// Whether the extent is held.
-fn is_held(extents: &Extents, extent: Extent) -> bool
-    ensures { IsTrue result → Contains extents.now extent }
-{
-    let (front, back) = extents.held();
-    front.iter().chain(back).any(|other| *other == extent)
 }
 
 /// How many extents are held.

@@ -1,5 +1,6 @@
 //! Bytes in extents, and what a stop leaves of them.
-use crate::asked::{put, read};
+use super::asked::{put, read};
+use crate::runs::expect_runs;
 use ov_base::Octets;
 use ov_blocks::{Extent, Extents};
 use ov_disk::{DiskFault, MemDisk, Tear};
@@ -37,18 +38,6 @@ fn disk_of_two(alloc: Global) -> Result<MemDisk, Fail> {
     blobs.resize(8_192, 2)?;
     let book = Octets::copy(alloc, b"abc")?;
     Ok(MemDisk::of(alloc, book, Octets::from_vec(blobs)))
-}
-
-// So many bytes, all of which are this one, and then others.
-fn expect_runs(rt: &impl Abort, blobs: &[u8], runs: &[(usize, u8)]) {
-    let mut rest = blobs;
-    for (count, byte) in runs {
-        assert!(rt; *count <= rest.len(), "{runs:?}");
-        let (run, behind) = rest.split_at(*count);
-        assert!(rt; run.iter().all(|b| *b == *byte), "{runs:?}");
-        rest = behind;
-    }
-    assert!(rt; rest.is_empty(), "{runs:?}");
 }
 
 // A put in the middle of the second extent, and one that begins at the end of Blobs.

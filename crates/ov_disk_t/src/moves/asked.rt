@@ -1,16 +1,15 @@
 //! The call of an update behind a test that it may be made.
-ghost use Rattle.std.specs.Prelude.{◌≡◌, ◌<◌, ◌≤◌, ◌+◌, All, Contains, IfOk, IsTrue, OnOk, length, false, [], ◌∷◌};
+ghost use Rattle.std.specs.Prelude.{◌≡◌, ◌<◌, ◌+◌, IfOk, IsTrue, OnOk, length, false};
 ghost use Rattle.ov_disk.specs.Disk.{Only, Told};
 ghost use Rattle.ov_journal.specs.Log.{Stands};
 ghost use Rattle.ov_journal.specs.Standing.{IsUnborn};
 ghost use Rattle.ov_moves.specs.Placing.{HasNewText, HasPlaces, IsFiled, LiesIn};
-ghost use Rattle.ov_blocks.specs.declared.extents.Extent.{Extent};
-ghost use Rattle.ov_blocks.specs.declared.extents.TheConstants.{MAX_EXTENT_BLOCKS};
 
-use crate::turns::Record;
+use super::turns::Record;
+use crate::held::{are_short, is_held};
 use ov_base::Mode;
 use ov_base::limits::MAX_FILE_BYTES;
-use ov_blocks::{Extent, Extents, MAX_EXTENT_BLOCKS, MAX_HELD, blocks_of};
+use ov_blocks::{Extent, Extents, MAX_HELD, blocks_of};
 use ov_disk::Disk;
 use ov_journal::{CheckFault, Header, Journal};
 use ov_moves::{Move, Placed, Turn, rewrite};
@@ -36,14 +35,6 @@ pub fn born<D: Disk>(alloc: Global, disk: &mut D) -> Result<Journal, CheckFault>
         (Told (D.tells.reads disk.new) (λ i. Only i (D.tells.may_leave disk.new))) }
 {
     Journal::birth(alloc, disk, &HEADER)
-}
-
-// Whether the extent is held.
-fn is_held(extents: &Extents, extent: Extent) -> bool
-    ensures { IsTrue result → Contains extents.now extent }
-{
-    let (front, back) = extents.held();
-    front.iter().chain(back).any(|other| *other == extent)
 }
 
 // Whether the file has its extent, if it has one.
@@ -72,15 +63,6 @@ fn has_new_text(text: &[u8], file: &Placed) -> bool
     ensures { IsTrue result → HasNewText text.now file.now }
 {
     file.first.is_some() || text.len() == file.length as usize
-}
-
-// Whether each of these extents is short enough beside a new one.
-fn are_short(extents: &[Extent]) -> bool
-    ensures { IsTrue result → All (λ (e : Extent). e.length ≤ MAX_EXTENT_BLOCKS) extents.now }
-{
-    extents
-        .iter()
-        .all(|extent| extent.length <= MAX_EXTENT_BLOCKS)
 }
 
 // Whether one more extent may be held.

@@ -3,7 +3,7 @@ use Rattle.std.proofs.lemmas.Bool.{MatchBool-at_true}
 use Rattle.std.proofs.lemmas.Iterator.{cases_from_all, YieldsList-from_slice}
 use Rattle.std.proofs.lemmas.List.Elements.{All-from_all_within}
 use Rattle.ov_blocks.specs.Extents.{BeginsOne}
-use Rattle.ov_blocks_t.proofs.asked.begin_each.Goals as goal
+use Rattle.ov_disk_t.proofs.blocks.asked.begin_each.Goals as goal
 
 pub returns : goal.returns
 returns c told =

@@ -1,5 +1,5 @@
 //! Which blocks are taken: rows by hand.
-use crate::asked::{are_held, count, place, place_from, release, release_all};
+use super::asked::{are_held, count, place, place_from, release, release_all};
 use ov_base::Memory;
 use ov_blocks::{BLOCK_BYTES, Extents, MAX_BLOCKS};
 use std::alloc::{AllocError, Global};

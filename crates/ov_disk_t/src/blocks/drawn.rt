@@ -1,7 +1,7 @@
 //! A run of calls that was drawn, beside what another program answers.
 mod vectors;
 
-use crate::asked::{are_held, place, release};
+use super::asked::{are_held, place, release};
 use ov_blocks::{Extents, MAX_BLOCKS};
 use std::process::Abort;
 use std::test::Fail;
