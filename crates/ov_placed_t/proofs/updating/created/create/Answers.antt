@@ -1,8 +1,8 @@
 use Rattle.std.proofs.Common.{◌∙◌, ap}
 use Rattle.ov_base.specs.Sets.{with}
 use Rattle.ov_recoat.specs.Recoats.{Recoating}
-use Rattle.ov_updating_t.proofs.FirstFile.{first_asked}
-use Rattle.ov_updating_t.proofs.created.create.Goals as goal
+use Rattle.ov_placed_t.proofs.FirstFile.{first_asked}
+use Rattle.ov_placed_t.proofs.updating.created.create.Goals as goal
 
 pub update-requires-clause-asked : goal.update-requires-clause-asked
 update-requires-clause-asked g c =

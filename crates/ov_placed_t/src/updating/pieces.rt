@@ -1,12 +1,12 @@
 //! A file that is turned piece by piece.
 ghost use Rattle.std.specs.Prelude.{◌≤◌};
 
-use ov_base::Key;
+use super::master;
 use ov_moves::Turn;
 use ov_recoat::Recoat;
 use ov_state::Rewrite;
 use ov_surface::over_encrypt;
-use ov_tokens::{Layer, Master, Surface};
+use ov_tokens::{Layer, Surface};
 use std::test::Fail;
 
 const REWRITES: [Rewrite; 2] = [
@@ -23,10 +23,6 @@ const REWRITES: [Rewrite; 2] = [
         new: Some(4),
     },
 ];
-
-fn master() -> Master {
-    Master::new(&Key { bytes: [9; 32] })
-}
 
 fn coat(surface: u32, file: u32, bytes: &mut [u8; 40]) {
     over_encrypt(&Surface::key_of(&master(), surface), file, 0, bytes);

@@ -4,7 +4,8 @@ ghost use Rattle.ov_disk.specs.Disk.{Only, Told};
 ghost use Rattle.ov_journal.specs.Log.{Stands};
 ghost use Rattle.ov_journal.specs.Standing.{IsUnborn};
 
-use ov_base::{Key, Mode, Name, UserSet};
+use super::master;
+use ov_base::{Mode, Name, UserSet};
 use ov_blocks::Extents;
 use ov_disk::{Disk, MemDisk};
 use ov_journal::{CheckFault, Header, Journal};
@@ -13,7 +14,7 @@ use ov_recoat::Recoat;
 use ov_record::Brief;
 use ov_state::Rewrite;
 use ov_surface::over_encrypt;
-use ov_tokens::{Layer, Master, Surface, Tokens};
+use ov_tokens::{Layer, Surface, Tokens};
 use ov_updating::{spell_update, update};
 use std::alloc::Global;
 use std::test::Fail;
@@ -35,10 +36,6 @@ const HEADER: Header = Header {
     base_check: [0x11; 32],
     surface_check: [0x22; 32],
 };
-
-fn master() -> Master {
-    Master::new(&Key { bytes: [9; 32] })
-}
 
 // Creates the first file of a store with one user, who is its list.
 fn create<D: Disk>(
