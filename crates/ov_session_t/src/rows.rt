@@ -1,6 +1,6 @@
 //! Rows of settings files and of sessions.
-ghost use Rattle.ov_settings_t.specs.Rows.{LongestIsSettingsFile, NoMemoryIsAnswered};
-ghost use Rattle.ov_settings_t.specs.Rows.{WorkersAreFourOrGiven};
+ghost use Rattle.ov_session_t.specs.Rows.{LongestIsSettingsFile, NoMemoryIsAnswered};
+ghost use Rattle.ov_session_t.specs.Rows.{WorkersAreFourOrGiven};
 
 /// A settings file may have as many bytes as the longest.
 pub fn the_longest_settings_file_is_one()
