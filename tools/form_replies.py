@@ -9,7 +9,6 @@ to name the same places in frames, but for the inside of pages. Run it at the to
 """
 import argparse
 import hashlib
-import pathlib
 import sys
 
 import trials

@@ -1,5 +1,5 @@
 //! Updates in either form: what is read and written again, or the place of the first wrong byte.
-ghost use Rattle.std.specs.Prelude.{◌≤◌, ◌<◌, ◌×◌, ◌^◌};
+ghost use Rattle.std.specs.Prelude.{◌≤◌, ◌<◌, ◌^◌};
 ghost use Rattle.ov_base.specs.declared.limits.TheConstants.{MAX_SET_WORDS};
 ghost use Rattle.ov_record.specs.Forms.{form_of, longest_spelling};
 

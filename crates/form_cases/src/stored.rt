@@ -1,5 +1,5 @@
 //! Records of a store in either form, which have no bytes of files, and first blocks behind the update.
-ghost use Rattle.std.specs.Prelude.{◌≤◌, ◌×◌};
+ghost use Rattle.std.specs.Prelude.{◌≤◌};
 ghost use Rattle.ov_base.specs.declared.limits.TheConstants.{MAX_FILES, MAX_SET_WORDS};
 
 use crate::records::{expect_same, put_fault};
