@@ -20,6 +20,7 @@ PAGE = ROOT / "docs" / "PROVED.md"
 WORD = re.compile(r"[^\s(){},.:×→⊎≡≢;λ\[\]|]+")
 IMPORT = re.compile(r"use Rattle\.([\w.]+?)\.\{([^}]*)\}")
 DEFINITION = re.compile(r"^\s*(?:abbrev|unfoldable|pub record|pub data)\s+(?:pub\s+)?([^\s:({]+)")
+LEMMA = re.compile(r"^\s*(?:pub )?[a-z]\w* : ")
 
 
 def imports_of(text):
@@ -33,14 +34,17 @@ def imports_of(text):
 
 
 def definitions_of(text):
-    """The lines of each definition of a file, without comments. A module's head ends the definition before it."""
-    found, lines = {}, []
+    """The lines of each definition of a file, without comments. The head of a module or of a lemma ends the
+    definition before it."""
+    found, lines, depth = {}, [], 0
     for line in text.split("\n"):
-        words = line.split()
+        words, indent = line.split(), len(line) - len(line.lstrip())
         begins = DEFINITION.match(line)
         if begins:
-            lines = found.setdefault(begins.group(1), [])
+            lines, depth = found.setdefault(begins.group(1), []), indent
         elif words[:1] in (["module"], ["use"]) or words[:2] == ["pub", "use"]:
+            lines = []
+        elif LEMMA.match(line) and indent <= depth:
             lines = []
         if words and not words[0].startswith("--"):
             lines.append(line)
