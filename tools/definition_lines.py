@@ -8,7 +8,8 @@ aren't counted.
     python3 tools/definition_lines.py page write              # puts the right numbers there
 
 TYPE is the type or the trait of a method, where a crate has several functions of the name. Each row of a
-table of the page ends in a function, or several, with their crate, and the lines of all of them together.
+table of the page ends in a function, or several, with their crate, and the lines of all of them together. A
+clause that a row names has to be one of their contracts.
 """
 import collections
 import pathlib
@@ -142,26 +143,42 @@ def reading_of(crate, function, owner=None):
 
 
 HEAD = "| promise | function (crate) | lines |"
-ROW = re.compile(r"^(\| .* \| ((?:`[\w:]+`, )*`[\w:]+`) \((\w+)\) \| )([\d,]+) \|$")
+ROW = re.compile(r"^(\| (.*) \| ((?:`[\w:]+`, )*`[\w:]+`) \((\w+)\) \| )([\d,]+) \|$")
+
+
+def functions_of(row):
+    """Each function of the row: its crate, its name, and its type or trait where the row has one."""
+    for name in re.findall(r"[\w:]+", row.group(3)):
+        owner, _, function = name.rpartition("::")
+        yield row.group(4), function, owner or None
 
 
 def right_row(row):
     """The row with the right number."""
-    front, names, crate, _ = row.groups()
     read = {}
-    for name in re.findall(r"[\w:]+", names):
-        owner, _, function = name.rpartition("::")
-        read |= reading_of(crate, function, owner or None)
-    return f"{front}{sum(map(len, read.values())):,} |"
+    for function in functions_of(row):
+        read |= reading_of(*function)
+    return f"{row.group(1)}{sum(map(len, read.values())):,} |"
+
+
+def missing_clauses(row):
+    """The clauses that the row names and that no function of it has."""
+    contracts = "".join(contract_at(*file_with(*function)) for function in functions_of(row))
+    for clause in re.findall(r"\bclause `(\w+)`", row.group(2)):
+        if not re.search(rf"ensures {clause}\b", contracts):
+            yield clause
 
 
 def page(write):
-    lines, rows, wrong = PAGE.read_text().split("\n"), 0, 0
+    lines, rows, wrong, missing = PAGE.read_text().split("\n"), 0, 0, 0
     for place, line in enumerate(lines):
         if not line.startswith("|") or line == HEAD or set(line) <= set("|-"):
             continue
         rows += 1
         row = ROW.match(line)
+        for clause in missing_clauses(row) if row else []:
+            missing += 1
+            print(f"{PAGE.name}:{place + 1}: the contract has no clause {clause}")
         right = row and right_row(row)
         if line == right:
             continue
@@ -169,10 +186,10 @@ def page(write):
         print(f"{PAGE.name}:{place + 1}: on the page {line}")
         print(f"    counted {right}" if row else "    this is no promise with a function, its crate and a number")
         lines[place] = right or line
-    print(f"{rows} rows, {wrong} wrong")
+    print(f"{rows} rows, {wrong} wrong, {missing} name a clause that isn't there")
     if write:
         PAGE.write_text("\n".join(lines))
-    elif wrong or not rows:
+    elif wrong or missing or not rows:
         sys.exit(1)
 
 
