@@ -1,17 +1,20 @@
-"""Attacks on an owner's commands over a network: by somebody without a key who changes frames on the way to an honest
-server, and works with a reader, eve; and by a server that lies. Each runs against the real programs and ends with bytes
-of a file whose list didn't have eve. docs/THREATS.md says what each can do, under 'Somebody on the network' and 'A
-lying server'.
+"""Attacks over a network: by somebody without a key who changes frames on the way to an honest server and works with
+a reader, and by a server that lies. Each runs against the real programs. In the first nine eve reads a file whose list
+didn't have her; in the last two alice reads bytes that the owner never stored. docs/THREATS.md says what each attacker
+can do, under 'Somebody who changes what goes over the network' and 'A lying server'.
 
 Run, after `rt run` has built the programs, at the top of the repository:
 
     python3 tools/altered_answers.py crates/overstored/out/overstored crates/overctl/out/overctl \\
         crates/overstore/out/overstore
 
-For each attack it prints what was read, and below that what an honest server says afterwards: the list of the file, and
-`overstore audit eve server` over a copy of the store. Eve reads by `overctl read`, over answers that are made for her.
+For each attack it prints what was read and, below that, what the honest store says afterwards: the list of `report`, the
+end of `overstore run full` and `overstore audit eve server` over a copy. Eve reads by `overctl read`, over answers that
+are made for her.
 """
-import itertools
+import functools
+import hashlib
+import operator
 import pathlib
 import shutil
 import socket
@@ -23,7 +26,7 @@ import threading
 from common import KEYS, framed, keyed, new_folder, started
 
 # It takes the server and the client from the same words.
-from network_cases import CLIENT, SERVER, SURFACE, ask, settings
+from network_cases import CLIENT, SERVER, SURFACE, UPDATE_KEY, ask, settings
 from network_frames import name, u32
 
 PROGRAM = str(pathlib.Path(sys.argv[3]).resolve())
@@ -89,6 +92,7 @@ class Store:
     def __init__(self):
         self.folder = new_folder()
         shutil.copy(KEYS, self.folder)
+        (self.folder / "keys.hex").chmod(0o600)
         (self.folder / "settings.toml").touch(0o600)
         (self.folder / "settings.toml").write_text(settings(1_000_000, mode="full"))
         self.process, self.address = started(self.folder, SERVER, "settings.toml")
@@ -120,15 +124,17 @@ class Store:
             return ask(stream, b"\x07" + bytes([part]) + u32(number))[2:]
 
     def end(self):
-        """What the honest server says of report to the owner, and an audit of a copy of its store."""
-        said = [self.owner("list", "report").decode().strip()]
+        """What the honest server says of report to the owner, and how a copy of its store is opened and audited."""
+        said = self.owner("list", "report")
         copy = new_folder()
         for file in ("keys.hex", "store.book", "store.blobs"):
             shutil.copy(self.folder / file, copy)
-        done = subprocess.run([PROGRAM, "audit", "eve", "server"], cwd=copy, check=True, capture_output=True)
+        for words in (["run", "full"], ["audit", "eve", "server"]):
+            streams = {"stdin": subprocess.DEVNULL, "stdout": subprocess.PIPE}
+            said += subprocess.run([PROGRAM, *words], cwd=copy, check=True, **streams).stdout
         self.process.kill()
         self.process.wait()
-        return said + done.stdout.decode().splitlines()
+        return said.decode().splitlines()
 
 
 class File:
@@ -185,7 +191,35 @@ def eve_reads(store, line, file, *answers, **more):
     return store.reader(line, "report", Between(store.port, change_answer=over(file, *answers, **more)).address)
 
 
-# ---- attacks
+def padded(key, letter, number, text):
+    """The text of the file of this number under the pad of the key, or from under it."""
+    block = letter + bytes(3) + u32(number) + bytes(8)
+    words = ["openssl", "enc", "-aes-256-ctr", "-K", key.hex(), "-iv", block.hex()]
+    return subprocess.run(words, input=text, check=True, capture_output=True).stdout
+
+
+def xored(*texts):
+    return bytes(functools.reduce(operator.xor, column) for column in zip(*texts))
+
+
+def edge_of(store, start, end):
+    """The token of the edge between two base nodes."""
+    edges = store.page(2, end)[128 + 2 :]
+    return next(edges[i + 4 : i + 36] for i in range(0, len(edges), 36) if edges[i : i + 4] == u32(start))
+
+
+def access_by(store, line, node):
+    """The access key of a base node to which an edge leads from the root of this key line."""
+    _, root, key, _, _ = line.split()
+    token = edge_of(store, int(root), node)
+    return hashlib.sha256(xored(token, keyed(bytes.fromhex(key.decode()), b"B" + u32(node)))).digest()
+
+
+def tag_of(access, number, text):
+    return keyed(keyed(access, b"T" + u32(number)), struct.pack(">Q", len(text)) + text)
+
+
+# ---- eve reads
 
 
 def key_line_of_alice(store):
@@ -228,10 +262,8 @@ def unsurfaced(store, file):
     """The frame of the file's creation as far as it is used here, out of stored bytes and the server's settings."""
     with socket.create_connection(("127.0.0.1", store.port)) as stream:
         stored = ask(stream, bytes([CHUNK]) + u32(file.number, file.generation, 0, 65_536))[1:]
-    key, block = keyed(SURFACE, b"S" + u32(file.surface)), b"S\0\0\0" + u32(file.number) + bytes(8)
-    words = ["openssl", "enc", "-aes-256-ctr", "-K", key.hex(), "-iv", block.hex()]
-    bare = subprocess.run(words, input=stored, check=True, capture_output=True).stdout
-    return bytes(5) + b"\2" + name("report") + bytes(128) + bytes(2) + bytes(32) + u32(len(bare)) + bare + bytes(32)
+    bare = padded(keyed(SURFACE, b"S" + u32(file.surface)), b"S", file.number, stored)
+    return bytes(5) + b"\2" + name("report") + bytes(128 + 2 + 32) + u32(len(bare)) + bare + bytes(32)
 
 
 def token_of_a_creation(store):
@@ -243,9 +275,7 @@ def token_of_a_creation(store):
     between = Between(store.port, change_answer=first_of(PLAN, change))
     store.create("notes", "alice", b"Nothing.\n", between.address)
     token = creation_of(updates_of(between)[0])[0][0]
-    edges = store.page(2, file.node)[128 + 2 :]
-    on = next(edges[i + 4 : i + 36] for i in range(0, len(edges), 36) if edges[i : i + 4] == u32(alice))
-    way = chain(eve, (b"B", alice, token), (b"B", file.node, on))
+    way = chain(eve, (b"B", alice, token), (b"B", file.node, edge_of(store, alice, file.node)))
     return eve_reads(store, line, file, way, text=creation_of(store.recorded)[1])
 
 
@@ -269,8 +299,7 @@ def one_pad(store):
     change = lambda answer: answer[:1] + past(answer) + u32(file.number) + answer[SET] + u32(file.node) + b"\0\0\0"
     between = Between(store.port, change_answer=first_of(PLAN, change))
     store.create("notes", "alice", known, between.address)
-    texts = creation_of(updates_of(between)[0])[1], creation_of(store.recorded)[1], known
-    return bytes(a ^ b ^ c for a, b, c in zip(*texts))
+    return xored(creation_of(updates_of(between)[0])[1], creation_of(store.recorded)[1], known)
 
 
 def another_grant(store):
@@ -289,30 +318,63 @@ def another_list(store):
     return store.reader(line, "notes")
 
 
-ATTACKS = [
-    key_line_of_alice,
-    key_line_of_a_set,
-    token_of_a_grant,
-    token_at_a_server,
-    token_of_a_creation,
-    file_for_eve,
-    one_pad,
-    another_grant,
-    another_list,
-]
-# What an audit of eve and the server has to say after each: nothing but its end, or a file that was made or granted.
-SHOWN = {another_grant: ["exposed 0 report listed 6"], another_list: ["exposed 2 notes listed 6"]}
-READ = {b"Sales fell by a third.\n", b"Nobody knows.\n"}
+# ---- alice reads what the owner never stored
+
+REPORT, FORGED = b"Sales fell by a third.\n", b"Sales rose by a half!!\n"
+
+
+def forged_on_the_way(store):
+    """Bob was revoked, and has the base key still: he makes a tag for bytes of his own, and turns those that alice asks
+    for into them on the way to her, under the pads as they are."""
+    line = store.owner("key", "bob")
+    store.owner("revoke", "bob", "report")
+    file = File(store, "report", 0)
+    tag = tag_of(access_by(store, line, file.node), file.number, FORGED)
+
+    def change(frame, answer):
+        if answer[0] == CHAINED:
+            return answer[:17] + tag + answer[49:]
+        return answer[:1] + xored(answer[1:], REPORT, FORGED) if answer[0] == BYTES else answer
+
+    return store.reader(store.owner("key", "alice"), "report", Between(store.port, change_answer=change).address)
+
+
+def forged_at_a_server(store):
+    """Bob and somebody with the server's settings create a file for the list of report, which bob's base key seals as the
+    owner would. A check with both masters finds nothing wrong with it."""
+    line, file = store.owner("key", "bob"), File(store, "report", 0)
+    access = access_by(store, line, file.node)
+    tag, text = tag_of(access, 2, FORGED), padded(access, b"B", 2, FORGED)
+    update = u32(5) + b"\2" + name("notes") + b"\3" + bytes(127) + bytes(2) + tag + u32(len(text)) + text
+    with socket.create_connection(("127.0.0.1", store.port)) as stream:
+        assert ask(stream, bytes([UPDATE]) + update + keyed(UPDATE_KEY, update)) == b"\x84" + u32(6)
+    return store.reader(store.owner("key", "alice"), "notes")
+
+
+# Each attack, what is read by it, and what an audit of eve and the server prints of it afterwards.
+ATTACKS = {
+    key_line_of_alice: (REPORT, []),
+    key_line_of_a_set: (REPORT, []),
+    token_of_a_grant: (REPORT, []),
+    token_at_a_server: (REPORT, []),
+    token_of_a_creation: (REPORT, []),
+    file_for_eve: (b"Nobody knows.\n", []),
+    one_pad: (REPORT, []),
+    another_grant: (REPORT, ["exposed 0 report listed 6"]),
+    another_list: (b"Nobody knows.\n", ["exposed 2 notes listed 6"]),
+    forged_on_the_way: (FORGED, []),
+    forged_at_a_server: (FORGED, []),
+}
 
 
 def main():
-    for attack in ATTACKS:
+    for attack, (text, found) in ATTACKS.items():
         store = Store()
         read = attack(store)
-        said = store.end()
-        print("%s: eve reads %r\n    %s" % (attack.__name__, read.decode(), "; ".join(said)), flush=True)
-        assert read in READ, read
-        assert said[1:-1] == SHOWN.get(attack, []), said
+        listed, end, *audit = store.end()
+        print("%s: %r is read" % (attack.__name__, read.decode()))
+        print("    %s; run: %s; audit: %s" % (listed, end, ", ".join(audit)), flush=True)
+        assert (read, audit) == (text, found + [end]), (read, audit)
     print("%d attacks, each as THREATS says" % len(ATTACKS))
 
 
