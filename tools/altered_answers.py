@@ -1,6 +1,6 @@
 """Attacks over a network: by somebody without a key who changes frames on the way to an honest server and works with
 a reader, and by a server that lies. Each runs against the real programs. In the first nine eve reads a file whose list
-didn't have her; in the last two alice reads bytes that the owner never stored. docs/THREATS.md says what each attacker
+didn't have her; in the last three alice reads bytes that the owner never stored. docs/THREATS.md says what each attacker
 can do, under 'Somebody who changes what goes over the network' and 'A lying server'.
 
 Run, after `rt run` has built the programs, at the top of the repository:
@@ -123,15 +123,18 @@ class Store:
         with socket.create_connection(("127.0.0.1", self.port)) as stream:
             return ask(stream, b"\x07" + bytes([part]) + u32(number))[2:]
 
-    def end(self):
-        """What the honest server says of report to the owner, and how a copy of its store is opened and audited."""
-        said = self.owner("list", "report")
+    def over_a_copy(self, *words, script=""):
+        """What the program prints over a copy of the store's files and both masters."""
         copy = new_folder()
         for file in ("keys.hex", "store.book", "store.blobs"):
             shutil.copy(self.folder / file, copy)
-        for words in (["run", "full"], ["audit", "eve", "server"]):
-            streams = {"stdin": subprocess.DEVNULL, "stdout": subprocess.PIPE}
-            said += subprocess.run([PROGRAM, *words], cwd=copy, check=True, **streams).stdout
+        streams = {"input": script.encode(), "stdout": subprocess.PIPE}
+        return subprocess.run([PROGRAM, *words], cwd=copy, check=True, **streams).stdout
+
+    def end(self):
+        """What the honest server says of report to the owner, and how a copy of its store is opened and audited."""
+        said = self.owner("list", "report")
+        said += self.over_a_copy("run", "full") + self.over_a_copy("audit", "eve", "server")
         self.process.kill()
         self.process.wait()
         return said.decode().splitlines()
@@ -151,6 +154,11 @@ class File:
 def roots_of(store, number):
     """The numbers of a user's two roots, which are public."""
     return store.page(1, number)[-8:]
+
+
+def stored_bytes(store, file):
+    with socket.create_connection(("127.0.0.1", store.port)) as stream:
+        return ask(stream, bytes([CHUNK]) + u32(file.number, file.generation, 0, 65_536))[1:]
 
 
 def updates_of(between):
@@ -260,9 +268,7 @@ def token_at_a_server(store):
 
 def unsurfaced(store, file):
     """The frame of the file's creation as far as it is used here, out of stored bytes and the server's settings."""
-    with socket.create_connection(("127.0.0.1", store.port)) as stream:
-        stored = ask(stream, bytes([CHUNK]) + u32(file.number, file.generation, 0, 65_536))[1:]
-    bare = padded(keyed(SURFACE, b"S" + u32(file.surface)), b"S", file.number, stored)
+    bare = padded(keyed(SURFACE, b"S" + u32(file.surface)), b"S", file.number, stored_bytes(store, file))
     return bytes(5) + b"\2" + name("report") + bytes(128 + 2 + 32) + u32(len(bare)) + bare + bytes(32)
 
 
@@ -351,6 +357,20 @@ def forged_at_a_server(store):
     return store.reader(store.owner("key", "alice"), "notes")
 
 
+def forged_in_the_files(store):
+    """Bob was revoked, and may write to the store's files: he changes a file's bytes, and its tag to theirs."""
+    line = store.owner("key", "bob")
+    store.owner("revoke", "bob", "report")
+    file = File(store, "report", 0)
+    tag, stored = tag_of(access_by(store, line, file.node), file.number, FORGED), stored_bytes(store, file)
+    changes = {"store.book": (file.tag, tag), "store.blobs": (stored, xored(stored, REPORT, FORGED))}
+    for place, (old, new) in changes.items():
+        held = (store.folder / place).read_bytes()
+        assert held.count(old) == 1, place
+        (store.folder / place).write_bytes(held.replace(old, new))
+    return store.over_a_copy("run", "full", script="read alice report\n")
+
+
 # Each attack, what is read by it, and what an audit of eve and the server prints of it afterwards.
 ATTACKS = {
     key_line_of_alice: (REPORT, []),
@@ -364,6 +384,7 @@ ATTACKS = {
     another_list: (b"Nobody knows.\n", ["exposed 2 notes listed 6"]),
     forged_on_the_way: (FORGED, []),
     forged_at_a_server: (FORGED, []),
+    forged_in_the_files: (b"data alice report %d\n%b\nend epoch 6\n" % (len(FORGED), FORGED), []),
 }
 
 
