@@ -74,8 +74,8 @@ def key_line_of_a_list(store):
 
 
 def read_by_grant(store, text):
-    """`overctl grant .. bob plan`, with eve's root and report's node in the first answer, for an epoch that is past: the
-    update has a token from eve's key to report's, and is refused as stale. Eve then reads the text under that key."""
+    """`overctl grant .. bob plan`, with eve's root and report's node in the first answer, for an epoch that is past. The
+    update has a token from eve's key to report's, and is refused as stale. Eve reads the text by it."""
     line, file, (root, _) = store.owner("key", "eve"), File(store, "report", 0), roots_of(store, 2)
 
     def change(answer):
@@ -100,8 +100,8 @@ def token_at_a_server(store):
 
 
 def create_notes(store, number, rest):
-    """`overctl create .. notes alice`, where the first answer has this file number, if one is given, and another plan, for
-    an epoch that is past: the update that is sent for it."""
+    """The update of `overctl create .. notes alice`, where the first answer has this file number, if one is given, and
+    another plan, for an epoch that is past."""
 
     def change(answer):
         return answer[:1] + past(answer) + (number or answer[5:9]) + answer[9:137] + rest
