@@ -1,8 +1,8 @@
 """Attacks over a network: by somebody without a key who changes frames on the way to an honest server, and works with
 a reader; and by a server that lies. Each runs against the real programs. docs/THREATS.md says of each attacker what
 they can do. In the first nine attacks eve reads a file whose list doesn't have her; then alice gets another file than
-she asked for, a revocation isn't made whose `ok` was printed, two stores are spoiled, and in the last three alice gets
-bytes that the owner never stored.
+she asked for, a revocation isn't made whose `ok` was printed, a grant is made after its revocation, two stores are
+spoiled, and in the last three alice gets bytes that the owner never stored.
 
 Run, after `rt run` has built the programs, at the top of the repository; it needs `openssl`:
 
@@ -74,8 +74,8 @@ def key_line_of_a_list(store):
 
 
 def read_by_grant(store, text):
-    """`overctl grant .. bob plan`, with eve's root and report's node in the first answer, for an epoch that is past. The
-    update has a token from eve's key to report's, and is refused as stale. Eve reads the text by it."""
+    """`overctl grant .. bob plan`, with eve's root and report's node in the first answer, for a past epoch: the update
+    has a token from eve's key to report's, and is refused as stale. It is enough to read the text."""
     line, file, (root, _) = store.owner("key", "eve"), File(store, "report", 0), roots_of(store, 2)
 
     def change(answer):
@@ -173,6 +173,21 @@ def revocation_that_isnt_made(store):
     return store.reader(line, "report")
 
 
+def grant_for_later(store):
+    """`overctl grant .. bob plan` is sealed for epoch 8, without a token, as the answer says, and kept. The owner grants
+    again, revokes and enrols. At 8 bob holds the base key, and the kept one is made."""
+    line = store.owner("key", "bob")
+    later = first_of(KNOWN, lambda answer: answer[:1] + u32(8) + answer[5:25] + b"\0")
+    drop = lambda frame: b"\1" if frame[0] == UPDATE else frame
+    accept = lambda frame, answer: bytes([ACCEPTED]) + u32(9) if frame[0] == UPDATE else later(frame, answer)
+    between = Between(store.port, drop, accept)
+    store.owner("grant", "bob", "plan", over=between)
+    for command in (["grant", "bob", "plan"], ["revoke", "bob", "plan"], ["enrol", "dan"]):
+        store.owner(*command)
+    assert store.asked(between.update()) == bytes([ACCEPTED]) + u32(9)
+    return store.reader(line, "plan")
+
+
 # ---- a store that its owner's own program refuses
 
 
@@ -252,6 +267,7 @@ ATTACKS = {
     another_list: (NOTES, BOTH, "end epoch 6", ["exposed 2 notes listed 6"]),
     another_file: (b"Build it.\n", BOTH, "end epoch 5", []),
     revocation_that_isnt_made: (REPORT, BOTH, "end epoch 5", []),
+    grant_for_later: (b"Build it.\n", BOTH, "end epoch 9", []),
     false_token: (b"", BOTH, "error damaged book 538", []),
     another_node: (b"", BOTH, "error damaged book 538", []),
     forged_on_the_way: (FORGED, "alice", "end epoch 6", []),
