@@ -1,8 +1,8 @@
 """Attacks over a network: by somebody without a key who changes frames on the way to an honest server, and works with
 a reader; and by a server that lies. Each runs against the real programs. docs/THREATS.md says of each attacker what
-they can do. In the first nine attacks eve reads a file whose list doesn't have her; then alice gets another file than
-she asked for, a revocation isn't made whose `ok` was printed, a grant is made after its revocation, two stores are
-spoiled, and in the last three alice gets bytes that the owner never stored.
+they can do. In the first ten attacks somebody reads, or could read, a file whose list doesn't have them; then alice gets
+another file than she asked for, a revocation isn't made whose `ok` was printed, a grant is made after its revocation,
+two stores are spoiled, and in the last three alice gets bytes that the owner never stored.
 
 Run, after `rt run` has built the programs, at the top of the repository; it needs `openssl`:
 
@@ -27,11 +27,13 @@ from in_between import (
     UPDATE,
     Between,
     File,
+    Server,
     Store,
     access_by,
     chain,
     edge_of,
     first_of,
+    over,
     padded,
     past,
     roots_of,
@@ -68,6 +70,26 @@ def key_line_of_a_list(store):
     line = line_for_eve(store, file.node, file.surface)
     change = told(file, chain(file.node), chain(file.surface))
     return store.reader(line, "report", Between(store.port, change_answer=change))
+
+
+def line_from_a_false_copy(store):
+    """A server that lies gives the owner a copy in which a file that is gone was made for another list, so that the next
+    user gets the number of its node. `overstore` finds nothing wrong with that, and the line has that list's keys."""
+    store.create("old", "bob,eve", NOTES)
+    store.owner("remove", "old")
+    store.owner("enrol", "dan")
+    copy, true = store.copied(), b"\2" + name("old") + b"\6" + bytes(127) + b"\0\2"
+    book = (copy / "store.book").read_bytes()
+    at = book.index(true)
+    body = b"\2" + name("old") + b"\2" + bytes(127 + 2) + book[at + len(true) + 64 :][:40]
+    behind = book[at + len(true) + 64 + 40 :]
+    (copy / "store.book").write_bytes(book[: at - 4] + u32(len(body)) + body + behind)
+    assert over(copy, "run", "full") == b"end epoch 8\n"
+    home = Server(copy)
+    line = home.owner("key", "dan").split()
+    home.stop()
+    assert roots_of(store, 3) == (5, 5)
+    return b"%b has the roots %b and %b" % (line[0], line[1], line[3])
 
 
 # ---- tokens and files that are sealed for eve
@@ -239,7 +261,7 @@ def forged_in_the_files(store):
         held = (store.folder / place).read_bytes()
         assert held.count(old) == 1, place
         (store.folder / place).write_bytes(held.replace(old, new))
-    read = store.over_a_copy("run", "full", script=b"read alice report\n")
+    read = over(store.copied(), "run", "full", script=b"read alice report\n")
     return read.removeprefix(b"data alice report %d\n" % len(FORGED)).removesuffix(b"\nend epoch 6\n")
 
 
@@ -258,6 +280,7 @@ BOTH = "alice,bob"
 ATTACKS = {
     key_line_of_alice: (REPORT, BOTH, "end epoch 5", []),
     key_line_of_a_list: (REPORT, BOTH, "end epoch 5", []),
+    line_from_a_false_copy: (b"dan has the roots 4 and 4", BOTH, "end epoch 8", ["exposed 2 old listed 6"]),
     token_of_a_grant: (REPORT, BOTH, "end epoch 6", []),
     token_at_a_server: (REPORT, BOTH, "end epoch 6", []),
     token_of_a_creation: (REPORT, BOTH, "end epoch 6", []),

@@ -75,24 +75,17 @@ def past(answer):
 # ---- an owner, readers and an honest server
 
 
-class Store:
-    """A server with `report`, whose list is alice and bob, and `plan`, whose list is alice; eve is a user too.
-    `recorded` is the frame of report's creation."""
+class Server:
+    """A server over the store of a folder, and its owner and readers there."""
 
-    def __init__(self):
-        self.folder = new_folder()
-        shutil.copy(KEYS, self.folder)
-        (self.folder / "keys.hex").chmod(0o600)
-        (self.folder / "settings.toml").touch(0o600)
-        (self.folder / "settings.toml").write_text(settings(1_000_000, mode="full"))
-        self.process, self.address = started(self.folder, SERVER, "settings.toml")
+    def __init__(self, folder):
+        self.folder = folder
+        shutil.copy(KEYS, folder)
+        (folder / "keys.hex").chmod(0o600)
+        (folder / "settings.toml").touch(0o600)
+        (folder / "settings.toml").write_text(settings(1_000_000, mode="full"))
+        self.process, self.address = started(folder, SERVER, "settings.toml")
         self.port = int(self.address.rsplit(":", 1)[1])
-        for user in ("alice", "bob", "eve"):
-            self.owner("enrol", user)
-        between = Between(self.port)
-        self.create("report", "alice,bob", REPORT, between)
-        self.recorded = between.update()
-        self.create("plan", "alice", b"Build it.\n")
 
     def client(self, *words):
         return subprocess.run([CLIENT, *words], cwd=self.folder, check=True, capture_output=True).stdout
@@ -111,7 +104,7 @@ class Store:
         return self.client("read", (over or self).address, "line", file)
 
     def asked(self, frame):
-        """The server's answer to a question, which anyone may ask."""
+        """The answer to a request, which anyone may send."""
         with socket.create_connection(("127.0.0.1", self.port)) as stream:
             return ask(stream, frame)
 
@@ -119,21 +112,44 @@ class Store:
         """An entry of the public catalogue."""
         return self.asked(b"\7" + bytes([part]) + u32(number))[2:]
 
-    def over_a_copy(self, *words, script=b""):
-        """What `overstore` prints over a copy of the store's files, with both masters."""
+    def copied(self):
+        """A folder with copies of the store's files."""
         copy = new_folder()
-        for file in ("keys.hex", "store.book", "store.blobs"):
+        for file in ("store.book", "store.blobs"):
             shutil.copy(self.folder / file, copy)
-        return subprocess.run([PROGRAM, *words], cwd=copy, input=script, capture_output=True).stdout
+        return copy
+
+    def stop(self):
+        self.process.kill()
+        self.process.wait()
+
+
+class Store(Server):
+    """A server with `report`, whose list is alice and bob, and `plan`, whose list is alice; eve is a user too.
+    `recorded` is the frame of report's creation."""
+
+    def __init__(self):
+        super().__init__(new_folder())
+        for user in ("alice", "bob", "eve"):
+            self.owner("enrol", user)
+        between = Between(self.port)
+        self.create("report", "alice,bob", REPORT, between)
+        self.recorded = between.update()
+        self.create("plan", "alice", b"Build it.\n")
 
     def end(self):
         """The list of report as the server says it, and the last lines of a run and an audit over a copy."""
-        listed = self.owner("list", "report").decode().split()[2]
-        run = self.over_a_copy("run", "full").decode().splitlines()
-        audit = self.over_a_copy("audit", "eve", "server").decode().splitlines()
-        self.process.kill()
-        self.process.wait()
+        listed, copy = self.owner("list", "report").decode().split()[2], self.copied()
+        run = over(copy, "run", "full").decode().splitlines()
+        audit = over(copy, "audit", "eve", "server").decode().splitlines()
+        self.stop()
         return listed, run[-1], audit[:-1]
+
+
+def over(folder, *words, script=b""):
+    """What `overstore` prints over the store of this folder, with both masters."""
+    shutil.copy(KEYS, folder)
+    return subprocess.run([PROGRAM, *words], cwd=folder, input=script, capture_output=True).stdout
 
 
 class File:
