@@ -4,7 +4,7 @@
 A fixed seed draws the calls. What they answer comes from a byte for each block, so from code that
 shares nothing with the crate. Run it at the top of the repository:
 
-    python3 tools/block_vectors.py > crates/ov_blocks_t/src/drawn/vectors.rt
+    python3 tools/block_vectors.py > crates/ov_disk_t/src/blocks/drawn/vectors.rt
 
 A run of free blocks is searched for in the bytes, behind which all blocks are free. Each step is
 drawn by chance: a place that is found and held, a range that may be in use, or an extent that is

@@ -4,7 +4,7 @@
 The graph has the sets of ten users alone, and then sets that a fixed seed draws. Its edges and its chains come from
 the definitions alone, by code that shares nothing with the crates. Run it at the top of the repository:
 
-    python3 tools/chain_vectors.py > crates/ov_chain_t/src/chain/vectors.rt
+    python3 tools/chain_vectors.py > crates/ov_graph_t/src/chain/vectors.rt
 
 The edges into a set come from its cover by the sets before it: the nonempty strict subsets, larger ones first and
 then by number, each kept where it has a user that the kept ones before it lack. The distance of a node is the least

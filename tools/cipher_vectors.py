@@ -11,7 +11,7 @@ Run it from the top of the repository, and then lay the files out:
 
     pip install cryptography
     python3 tools/cipher_vectors.py
-    (cd crates/ov_aes_t && rt fmt); (cd crates/ov_ctr_t && rt fmt)
+    (cd crates/ov_ciphers_t && rt fmt)
 """
 import hashlib
 from cryptography.hazmat.primitives.ciphers import Cipher, algorithms, modes
@@ -132,7 +132,7 @@ def sum_lines():
 
 
 write(
-    "crates/ov_aes_t/src/aes/vectors.rt",
+    "crates/ov_ciphers_t/src/aes/vectors.rt",
     "Blocks under AES-256, as OpenSSL encrypts them.",
     """pub struct Vector {
     pub key: [u8; 32],
@@ -144,7 +144,7 @@ write(
     list(block_lines()),
 )
 write(
-    "crates/ov_ctr_t/src/ctr/vectors.rt",
+    "crates/ov_ciphers_t/src/ctr/vectors.rt",
     "Texts whose byte `i` is `31 i + 7` modulo 256, after the pad that OpenSSL computes.",
     """pub struct Vector {
     pub key: [u8; 32],
@@ -158,7 +158,7 @@ write(
     list(pad_lines()),
 )
 write(
-    "crates/ov_ctr_t/src/ctr/sums.rt",
+    "crates/ov_ciphers_t/src/ctr/sums.rt",
     "FNV-1a sums of longer texts, whose byte `i` is `31 i + 7` modulo 256, after OpenSSL's pad.",
     """pub struct Vector {
     pub start: u64,

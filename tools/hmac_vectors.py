@@ -4,7 +4,7 @@
 The tags are those of Python's `hmac` module, over OpenSSL or Python's own SHA-256, so they come
 from code that this repository has no part in. Run it at the top of the repository:
 
-    python3 tools/hmac_vectors.py > crates/ov_keyed_t/src/keyed/vectors.rt
+    python3 tools/hmac_vectors.py > crates/ov_ciphers_t/src/keyed/vectors.rt
 
 Byte i of a row's key is `start + i`, and byte i of each message is `7 * i + 3`, both modulo 256.
 The lengths lie around the places where the message, its padding or the inner block fill a block of

@@ -7,7 +7,7 @@ then lay the files out:
 
     pip install cryptography
     python3 tools/layer_vectors.py
-    (cd crates/ov_layers_t && rt fmt)
+    (cd crates/ov_graph_t && rt fmt)
 
 The base master of a row has the bytes `start + i` modulo 256. Keys of files are SHA-256 digests of
 their own names. Byte i of a plaintext is `31 i + 7` modulo 256.
@@ -158,7 +158,7 @@ pub static PARTS: [Part; {len(PARTS)}] = [{"".join(part_rows())}];
 
 def main():
     for module, rows in [("base_layer", BASE), ("surface", SURFACE)]:
-        path = f"crates/ov_layers_t/src/{module}/vectors.rt"
+        path = f"crates/ov_graph_t/src/{module}/vectors.rt"
         with open(path, "w", encoding="utf-8") as file:
             file.write(rows)
 

@@ -4,7 +4,7 @@
 The values come from Python's `hmac` and `hashlib`, so from code that this repository has no part in.
 Run it at the top of the repository:
 
-    python3 tools/token_vectors.py > crates/ov_tokens_t/src/tokens/vectors.rt
+    python3 tools/token_vectors.py > crates/ov_ciphers_t/src/tokens/vectors.rt
 
 Byte i of a row's base master is `start + i`, and of its surface master `start + 3 * i`, both modulo
 256. The token leads from the key of `B number` to the label `A number`.

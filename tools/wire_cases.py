@@ -1,18 +1,15 @@
 #!/usr/bin/env python3
-"""Writes the cases by which ov_wire's readers are tested.
+"""Writes the frames by which ov_wire's readers are tested, as case files of `form_cases`.
 
-One frame of each kind, with each of its bytes changed in its lowest and in its highest bit. For each change the place
-of the first wrong byte is computed by the reader below, which shares nothing with the crates, or 65535 where the bytes
-are another request or answer. With `grammar` it writes the grammar of answers instead: answers with each field at its
-limits and past them, and each of them read as the answer to a request of each kind. Run it at the top of the
-repository:
+One frame of each kind, each of which `form_cases` reads with each of its bytes changed. With `grammar` answers with each
+field at its limits and past them, each of which is read as the answer to a request of each kind. The reader below, which
+shares nothing with the crates, is one of the two that name the places of wrong bytes (tools/form_replies.py). Run it at
+the top of the repository:
 
-    python3 tools/wire_cases.py > crates/ov_wire_t/src/wire/cases.rt
-    python3 tools/wire_cases.py grammar > crates/ov_wire_t/src/wire/grammar.rt; (cd crates/ov_wire_t && rt fmt)
+    python3 tools/wire_cases.py > crates/form_cases/data/frames.case
+    python3 tools/wire_cases.py grammar > crates/form_cases/data/grammar.case
 """
 import sys
-
-from common import literal
 
 GOOD = 65535
 NAME_FIRST = b"abcdefghijklmnopqrstuvwxyz0123456789"
@@ -240,12 +237,12 @@ def changed(data, at, bit):
 
 
 def case(request, data):
+    """Lines of a case file: the frame, and its changes."""
     read = read_request if request is None else lambda text: read_answer(request, text)
-    low = [place(read, changed(data, i, 1)) for i in range(len(data))]
-    high = [place(read, changed(data, i, 0x80)) for i in range(len(data))]
     assert place(read, data) == GOOD
-    return "Case { request: %s, frame: %s, low: &%s, high: &%s }," % (
-        literal(request or b""), literal(data), low, high)
+    if request is not None:
+        print("to " + request.hex())
+    print("%s %s\nchanges" % ("request" if request is None else "answer", data.hex()))
 
 
 # ---- the grammar of answers: a request of each kind, and answers at the limits of each field
@@ -316,33 +313,22 @@ SAMPLES = [
 SAMPLES += [bytes([0x88, number]) for number in range(13)]
 
 
-def row(request):
-    places = [place(lambda text: read_answer(request, text), answer) for answer in SAMPLES]
-    return "Row { request: %s, places: &%s }," % (literal(request), places)
-
-
 def grammar():
-    print("//! Written by tools/wire_cases.py: answers at the limits of their fields, and the place of the first")
-    print("//! wrong byte in each of them as an answer to each request.\n\nuse super::Row;\n")
-    print("pub const SAMPLES: [&[u8]; %d] = [" % len(SAMPLES))
+    print("# Written by tools/wire_cases.py.\n\n== answers at the limits of their fields, to each request")
     for sample in SAMPLES:
-        print("    " + literal(sample) + ",")
-    print("];\n\npub const ROWS: [Row; %d] = [" % len(ASKED))
+        print("sample " + sample.hex())
     for request in ASKED:
-        print("    " + row(request))
-    print("];")
+        print("to %s\nsamples" % request.hex())
 
 
 def main():
     if sys.argv[1:] == ["grammar"]:
         return grammar()
-    print("//! Written by tools/wire_cases.py: frames, and the place of the first wrong byte in each change of")
-    print("//! them.\n\nuse super::Case;\n")
-    for name, cases in (("REQUESTS", [(None, r) for r in REQUESTS]), ("ANSWERS", ANSWERS)):
-        print("pub const %s: [Case; %d] = [" % (name, len(cases)))
+    print("# Written by tools/wire_cases.py.")
+    for name, cases in (("requests", [(None, r) for r in REQUESTS]), ("answers", ANSWERS)):
+        print("\n== %s of each kind, and each change of them" % name)
         for request, data in cases:
-            print("    " + case(request, data))
-        print("];\n")
+            case(request, data)
 
 
 if __name__ == "__main__":

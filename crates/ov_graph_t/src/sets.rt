@@ -10,7 +10,8 @@ use std::alloc::Global;
 use std::process::Abort;
 use std::test::Fail;
 
-const MASTER: Key = Key { bytes: [7; 32] };
+/// The master whose tokens lead into the nodes.
+pub const MASTER: Key = Key { bytes: [7; 32] };
 
 /// Adds a set, where it is new.
 pub fn put<L: Layer, G: Graph<L, W>, const W: usize>(

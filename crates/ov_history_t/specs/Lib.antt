@@ -1,6 +1,10 @@
+pub mod Extents
 pub mod Fading
+pub mod Formats
+pub mod Images
 pub mod Layers
 pub mod Machine
 pub mod Ordering
 pub mod Refusing
 pub mod Replacing
+pub mod Stores

@@ -1,1 +1,2 @@
+pub mod FirstFile
 pub mod Gates

@@ -1,3 +1,3 @@
-pub mod Images
 pub mod Replies
+pub mod Transcripts
 pub mod Tries

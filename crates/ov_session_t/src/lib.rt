@@ -1,6 +1,11 @@
 //! Tests of `ov_session` and `ov_settings`: sessions in memory and over a port of this machine,
 //! with each fault of a stream, and settings files with each key left out or out of form. The bytes
 //! of the sessions were written by hand.
+//!
+//! Code and definition could be wrong together. So `rows` has functions with empty bodies, whose
+//! contracts are rows: what a definition that contracts cite gives at one value. Where the definition
+//! is turned the row isn't proved any more. The statements are in `specs/`, and each says what the
+//! turned definition would give.
 #![tactic(auto)]
 
 #[cfg(test)]
@@ -9,7 +14,12 @@ mod memory;
 mod peer;
 #[cfg(test)]
 mod port;
+mod rows;
 #[cfg(test)]
 mod session;
 #[cfg(test)]
 mod settings;
+
+pub use rows::{
+    no_memory_is_answered_as_such, the_longest_settings_file_is_one, workers_are_four_or_given,
+};

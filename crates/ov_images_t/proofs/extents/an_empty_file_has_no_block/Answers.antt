@@ -1,5 +1,0 @@
-use Rattle.ov_images_t.proofs.OneFile.{empty_file_has_no_block}
-use Rattle.ov_images_t.proofs.extents.an_empty_file_has_no_block.Goals as goal
-
-pub returns : goal.returns
-returns c = empty_file_has_no_block

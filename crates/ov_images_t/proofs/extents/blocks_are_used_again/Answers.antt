@@ -1,5 +1,0 @@
-use Rattle.ov_images_t.proofs.UsedAgain.{blocks_are_used_again}
-use Rattle.ov_images_t.proofs.extents.blocks_are_used_again.Goals as goal
-
-pub returns : goal.returns
-returns c = blocks_are_used_again

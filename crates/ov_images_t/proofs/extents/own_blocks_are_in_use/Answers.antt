@@ -1,5 +1,0 @@
-use Rattle.ov_images_t.proofs.UsedAgain.{own_blocks_are_in_use}
-use Rattle.ov_images_t.proofs.extents.own_blocks_are_in_use.Goals as goal
-
-pub returns : goal.returns
-returns c = own_blocks_are_in_use

@@ -1,5 +1,0 @@
-use Rattle.ov_images_t.proofs.Removed.{removed_blocks_are_free}
-use Rattle.ov_images_t.proofs.extents.removed_blocks_are_free.Goals as goal
-
-pub returns : goal.returns
-returns c = removed_blocks_are_free

@@ -1,5 +1,0 @@
-use Rattle.ov_images_t.proofs.Removed.{removed_files_are_gone}
-use Rattle.ov_images_t.proofs.extents.removed_files_are_gone.Goals as goal
-
-pub returns : goal.returns
-returns c = removed_files_are_gone

@@ -1,3 +1,0 @@
-pub mod Formats
-pub mod Rows
-pub mod Stores
