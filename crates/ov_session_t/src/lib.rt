@@ -1,8 +1,11 @@
 //! Tests of `ov_session` and `ov_settings`: sessions in memory and over a port of this machine,
-//! with each fault of a stream, and settings files with each key left out or out of form. The bytes
+//! with each fault of a stream, over a socket that signals interrupt, and settings files with each
+//! key left out or out of form. The bytes
 //! of the sessions were written by hand.
 #![tactic(auto)]
 
+#[cfg(test)]
+mod dripping;
 #[cfg(test)]
 mod memory;
 #[cfg(test)]
@@ -13,3 +16,5 @@ mod port;
 mod session;
 #[cfg(test)]
 mod settings;
+#[cfg(test)]
+mod signals;
