@@ -16,6 +16,13 @@ pub const UNWRITTEN: &str = "cannot write standard output";
 /// What to do where standard output can't be written.
 pub const WRITABLE: &str = "see that it is open, and that there is room";
 
+/// What is said where the places of standard streams can't be held.
+pub const NO_PLACES: &str =
+    "/dev/null cannot be opened, and without it another file might be taken for standard output";
+
+/// What to do where the places of standard streams can't be held.
+pub const THERE: &str = "see that it is there, and that you may open files";
+
 /// Why the words are no line of a command.
 #[derive(Drop)]
 pub enum WrongWords<'a> {
