@@ -3,6 +3,10 @@
 //! graph answer alike.
 #![tactic(auto)]
 
+pub mod calls;
+
+#[cfg(test)]
+mod asking;
 #[cfg(test)]
 mod few;
 #[cfg(test)]
