@@ -68,7 +68,6 @@ more_behind from (x ∷ held) (suc p) (suc k) e lt le = more_behind (x.first + x
 -- ---- what is known of them
 
 module _ (held : List Extent) (gap until : ℕ) (was : IsPacked (record { gap = gap; until = until }) held) where
-
   -- a gap where nothing is known tells nothing
   pub short : (start count : ℕ) → 1 ≤ count → (gap < start) ⊎ (until ≤ gap) → AreShort start until count held
   short start count some out k ge lt =

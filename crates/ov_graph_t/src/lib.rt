@@ -3,10 +3,9 @@
 //! graph answer alike.
 #![tactic(auto)]
 
-pub mod calls;
-
 #[cfg(test)]
 mod asking;
+pub mod calls;
 #[cfg(test)]
 mod few;
 #[cfg(test)]

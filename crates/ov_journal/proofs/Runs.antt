@@ -34,7 +34,6 @@ front_of may_leave i k bodies n body lt item is c (inl same) = (n, omega (arith,
 front_of may_leave i k bodies n body lt item is c (inr more) = (n + 1, omega (arith, lt), more.0 ∙ one_more bodies n body (contents_of i.book) (contents_of k.book) lt item is)
 
 module _ {D : Type 0} (tells : DiskTells D) where
-
   pub longer_front : (d0 d1 d2 : D) (m : Image → Type 0) (i k : Image) (bodies : List (List ℕ)) (n : ℕ) (body : List ℕ) → n < length bodies → get_or bodies n [] ≡ body
       → contents_of k.book ≡ with_bodies (take n bodies) (contents_of i.book) → LeavesOnly tells d0 d1 (HasFront i bodies) → LeavesOnly tells d1 d2 (IsBeforeOrAfter m k body)
       → LeavesOnly tells d0 d2 (HasFront i bodies)

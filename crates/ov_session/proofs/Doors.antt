@@ -11,7 +11,6 @@ use Rattle.ov_session.specs.Serving.{Follows, OneSession, Session, and_all, entr
 use Rattle.ov_session.specs.Turns.{IsAt, ServesIt, ServesSome, TellsMany}
 
 module _ {S : Type 0} where
-
   back_last : (l : List (Given S)) (g : Given S) (b : Back S)
       → back_at (l ++ g ∷ []) (length l) b ≡ l ++ record g { back = Some b } ∷ []
   back_last [] g b = refl

@@ -8,7 +8,6 @@ use Rattle.ov_turn.specs.Steps.{failed_after}
 
 module _ {A : Type 0} (tells : AnswererTells A) (old new : A) (stuck : Bool)
     (request reply : List ℕ) (before : stuck ≡ true → tells.stuck old) where
-
   -- a value is stuck after a failed update, and where it was before
   pub left_stuck : (r : Result ℕ Memory) → StaysStuck tells old new request reply r
       → (failed_after r request reply || stuck) ≡ true → tells.stuck new
