@@ -156,9 +156,6 @@ surface_given c users (Some over) = (given (label_of Surface over) (inr refl), t
 
 module _ (master : List ℕ) (g : SealedHistory) (fit : IsSealed g) (users : List ℕ) (file : ℕ)
     (are : AreUsers g users) where
-  c_now : Catalogue
-  c_now = catalogue_of master g
-
   low : (user : ℕ) → Contains users user → user < length (catalogue_of master g).users
   low user among =
       subst (λ n. user < n) (sym (ap length (users-shown master g fit))) (are user among)

@@ -1,6 +1,6 @@
 //! What is said of words that are no line of a command, and where memory or output is missing.
 
-use ov_acts::line_of;
+use ov_acts::{MAX_WRITTEN_LIST, line_of};
 use std::fmt;
 use std::fmt::{Display, Formatter, Write};
 
@@ -56,7 +56,7 @@ impl Display for WrongWords<'_> {
             ),
             WrongWords::List(word) => write!(
                 f,
-                "`{word}` is no list: names with commas between, or `-`, in 70000 bytes at most"
+                "`{word}` is no list: names with commas between, or `-`, in {MAX_WRITTEN_LIST} bytes at most"
             ),
         }
     }

@@ -1,6 +1,7 @@
 //! What is wrong and what to do, for standard error.
 use crate::lacks::Lack;
 use ov_answering::Status;
+use ov_base::limits::MAX_LINE_BYTES;
 use ov_files::FileFault;
 
 /// Where the program was when it ended.
@@ -199,6 +200,9 @@ fn by_work(
         _ => at_first,
     }
 }
+
+// The number that `on_lack` has in a text.
+const _: () = prove!(MAX_LINE_BYTES == 70_000);
 
 /// What a bad line lacks.
 pub fn on_lack(lack: Lack) -> &'static str {

@@ -1,6 +1,7 @@
 //! Calls that change a graph, one after the other.
 ghost use Rattle.std.specs.Prelude.{◌≡◌, IfOk, OnOk};
-ghost use Rattle.ov_index.specs.Agreement.{Agree, AreCalled, IsAdded, IsCalled};
+ghost use Rattle.ov_graph_t.specs.Calls.{AreCalled, IsAdded, IsCalled};
+ghost use Rattle.ov_index.specs.Agreement.{Agree};
 
 use ov_base::{Memory, UserSet};
 use ov_graph::{Graph, GraphRefusal, has_roots};

@@ -1,7 +1,7 @@
 use Rattle.std.proofs.Common.{drop}
 use Rattle.ov_graph.specs.Contents.{Contents}
-use Rattle.ov_index.specs.Agreement.{AreCalled}
-use Rattle.ov_index.proofs.calls.call_each.Given as goal
+use Rattle.ov_graph_t.specs.Calls.{AreCalled}
+use Rattle.ov_graph_t.proofs.calls.call_each.Given as goal
 
 abbrev pub invariant-loop-each : goal.invariant-loop-each
 invariant-loop-each g l =

@@ -1,6 +1,6 @@
 use Rattle.ov_graph.specs.Contents.{Contents}
-use Rattle.ov_index.proofs.AgreementLaws.{call_step}
-use Rattle.ov_index.proofs.calls.call_each.Goals as goal
+use Rattle.ov_graph_t.proofs.CallLaws.{call_step}
+use Rattle.ov_graph_t.proofs.calls.call_each.Goals as goal
 
 pub loop-each-preserved : goal.loop-each-preserved
 loop-each-preserved g c =

