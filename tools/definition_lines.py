@@ -1,7 +1,7 @@
 """Counts what has to be read to know what a contract says: the definitions of specs/ that its clauses
 name, those that these name, and so on, through all crates, and the clauses of the repository's traits
 that bound a type of the contract, with what these name. Types of the code and the kit's own definitions
-aren't counted.
+aren't counted, nor are the records of CLOSED opened.
 
     python3 tools/definition_lines.py CRATE FUNCTION [TYPE]   # definitions, lines, and lines by crate
     python3 tools/definition_lines.py page                    # is docs/PROVED.md right? Names each row that isn't
@@ -21,6 +21,9 @@ PAGE = ROOT / "docs" / "PROVED.md"
 WORD = re.compile(r"[^\s(){},.:×→⊎≡≢;λ\[\]|]+")
 IMPORT = re.compile(r"use Rattle\.([\w.]+?)\.\{([^}]*)\}")
 DEFINITION = re.compile(r"^\s*(?:abbrev|unfoldable|pub record|pub data)\s+(?:pub\s+)?([^\s:({]+)")
+# Each is the contract of a call as one record. The laws that name it say what it is good for, so a reader of theirs
+# takes it as "the call kept its contract" and needs none of its fields.
+CLOSED = {"RunPromises", "LoadPromises"}
 LEMMA = re.compile(r"^\s*(?:pub )?[a-z]\w* : ")
 
 
@@ -132,6 +135,8 @@ def reading_of(crate, function, owner=None):
         seen.add((module, name))
         definitions, imported = SPECS.get(module, ({}, {}))
         if name not in definitions:
+            continue
+        if name in CLOSED:
             continue
         found[module, name] = definitions[name]
         for word in set(WORD.findall("\n".join(definitions[name]))):
