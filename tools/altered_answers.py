@@ -314,8 +314,11 @@ ATTACKS = {
 def main():
     for attack, expected in ATTACKS.items():
         store = Store()
-        read = attack(store)
-        listed, run, audit = store.end()
+        try:
+            read = attack(store)
+            listed, run, audit = store.end()
+        finally:
+            store.stop()
         print("%s: %r is read" % (attack.__name__, read.decode()))
         print("    list: %s; run: %s; audit: %s" % (listed, run, ", ".join(audit) or "nothing"), flush=True)
         assert (read, listed, run, audit) == expected, expected
