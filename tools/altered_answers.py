@@ -2,7 +2,7 @@
 a reader; and by a server that lies. Each runs against the real programs. docs/THREATS.md says of each attacker what
 they can do. In the first ten attacks somebody reads, or could read, a file whose list doesn't have them; then alice gets
 another file than she asked for, a revocation isn't made whose `ok` was printed, a grant is made after its revocation,
-two stores are spoiled, and in the last three alice gets bytes that the owner never stored.
+two stores are spoiled, and in the last four alice gets bytes that the owner never stored.
 
 Run, after `rt run` has built the programs, at the top of the repository; it needs `openssl`:
 
@@ -252,6 +252,17 @@ def forged_on_the_way(store):
     return store.reader(store.owner("key", "alice"), "report", Between(store.port, change_answer=change))
 
 
+def forged_by_another_key(store):
+    """Alice reads plan, whose key bob never held. The answer names the node of report's list, which both hold."""
+    line, file = store.owner("key", "bob"), File(store, "report", 0)
+    access = access_by(store, line, file.node)
+    file.tag, file.length = tag_by(access, file.number, FORGED), len(FORGED)
+    (alice, _) = roots_of(store, 0)
+    way = chain(alice, (b"B", file.node, edge_of(store, alice, file.node)))
+    change = told(file, way, text=padded(access, b"B", file.number, FORGED))
+    return store.reader(store.owner("key", "alice"), "plan", Between(store.port, change_answer=change))
+
+
 def forged_in_the_files(store):
     """So they are in the store's files. Alice's read is one of `overstore run`, over a copy."""
     file, tag = bob_is_revoked(store)
@@ -294,6 +305,7 @@ ATTACKS = {
     false_token: (b"", BOTH, "error damaged book 538", []),
     another_node: (b"", BOTH, "error damaged book 538", []),
     forged_on_the_way: (FORGED, "alice", "end epoch 6", []),
+    forged_by_another_key: (FORGED, BOTH, "end epoch 5", []),
     forged_in_the_files: (FORGED, "alice", "end epoch 6", []),
     forged_at_a_server: (FORGED, BOTH, "end epoch 6", []),
 }
@@ -302,8 +314,11 @@ ATTACKS = {
 def main():
     for attack, expected in ATTACKS.items():
         store = Store()
-        read = attack(store)
-        listed, run, audit = store.end()
+        try:
+            read = attack(store)
+            listed, run, audit = store.end()
+        finally:
+            store.stop()
         print("%s: %r is read" % (attack.__name__, read.decode()))
         print("    list: %s; run: %s; audit: %s" % (listed, run, ", ".join(audit) or "nothing"), flush=True)
         assert (read, listed, run, audit) == expected, expected

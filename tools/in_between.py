@@ -142,7 +142,6 @@ class Store(Server):
         listed, copy = self.owner("list", "report").decode().split()[2], self.copied()
         run = over(copy, "run", "full").decode().splitlines()
         audit = over(copy, "audit", "eve", "server").decode().splitlines()
-        self.stop()
         return listed, run[-1], audit[:-1]
 
 
