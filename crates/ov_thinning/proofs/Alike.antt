@@ -1,20 +1,17 @@
 -- At each moment the two histories are alike.
-use Rattle.std.proofs.Common.{◌≡◌, ◌≢◌, ◌⊎◌, ◌<◌, ◌≤◌, ◌+◌, ℕ, zero, suc, Bool, true, false, List, [], ◌∷◌, ◌++◌}
-use Rattle.std.proofs.Common.{length, take, get_or, refl, sym, ◌∙◌, ap, subst, arith, inl, inr}
-use Rattle.std.specs.Prelude.{Contains, Option, Some, None, slice_get, option_map, unwrap_or, not}
-use Rattle.std.proofs.lemmas.Bool.{cases_lt}
+use Rattle.std.proofs.Common.{◌≡◌, ◌⊎◌, ◌<◌, ◌≤◌, ◌+◌, ℕ, zero, suc, Bool, true, false, List, [], ◌∷◌, ◌++◌}
+use Rattle.std.proofs.Common.{length, get_or, refl, sym, ◌∙◌, ap, subst, arith, inl, inr}
+use Rattle.std.specs.Prelude.{Contains, Option, Some, None, option_map, unwrap_or, not}
 use Rattle.std.proofs.lemmas.List.{append-nil}
 use Rattle.std.proofs.lemmas.List.Elements.{Contains-append_left}
 use Rattle.std.proofs.lemmas.Option.{slice_get-get_or, slice_get_within}
 use Rattle.ov_base.specs.Sets.{Within, has, single, with, without}
-use Rattle.ov_base.specs.declared.mode.Mode.{Mode}
 use Rattle.ov_base.specs.declared.mode.Mode.TheVariants.{Delta}
-use Rattle.ov_base.proofs.Tests.{true_of_not}
 use Rattle.ov_base_layer.specs.Holders.{Access}
 use Rattle.ov_surface.specs.Wanted.{wanted_surface}
 use Rattle.ov_history.specs.Places.{change_at, living_at}
 use Rattle.ov_history.specs.History.{Update, Enrolled, Created, Granted, Revoked, Removed, Replaced}
-use Rattle.ov_history.specs.History.{History, Matrix, matrix_of, with_update}
+use Rattle.ov_history.specs.History.{History, matrix_of, with_update}
 use Rattle.ov_history.specs.Lists.{is_listed}
 use Rattle.ov_history.specs.Layers.{Layers, given, grown, holders, layers_after, layers_of, list_in}
 use Rattle.ov_history.specs.Layers.{lists_after, lists_of, node_of, settled}
@@ -30,7 +27,7 @@ use Rattle.ov_history.proofs.Wanting.{history-settled}
 use Rattle.ov_thinning.specs.Idle.{AreOpposite, IsIdlePair, IsThere, IsUpdateAt, as_before, file_named}
 use Rattle.ov_thinning.specs.Idle.{list_before, publishes}
 use Rattle.ov_thinning.proofs.Holding.{history_held}
-use Rattle.ov_thinning.proofs.Leaving.{Agree, ArePairs, IsOpen, NoneIsOpen, closes, ends_here, kept_before}
+use Rattle.ov_thinning.proofs.Leaving.{Agree, ArePairs, IsOpen, closes, ends_here, kept_before}
 use Rattle.ov_thinning.proofs.Leaving.{kept_if, kept_next, kept_others, kept_own, left_others, not_first, opens}
 use Rattle.ov_thinning.proofs.Moments.{accepted_then, granted_again, granted_then, holders_stay, later_moment}
 use Rattle.ov_thinning.proofs.Moments.{list_is, next_list_is, next_moment, node_stays, relisted}

@@ -1,15 +1,13 @@
 -- What is kept of the first updates doesn't depend on later ones.
-use Rattle.std.proofs.Common.{◌≡◌, ◌≢◌, ◌⊎◌, ◌<◌, ◌≤◌, ◌+◌, ℕ, zero, suc, Bool, true, false, List, [], ◌∷◌, ◌++◌}
-use Rattle.std.proofs.Common.{length, take, refl, sym, ◌∙◌, ap, subst, arith, inl, inr, length-append}
-use Rattle.std.specs.Prelude.{Contains, Option, Some, None, slice_get}
+use Rattle.std.proofs.Common.{◌≡◌, ◌<◌, ◌≤◌, ◌+◌, ℕ, zero, suc, List, [], ◌∷◌, ◌++◌}
+use Rattle.std.proofs.Common.{length, refl, sym, ◌∙◌, ap, subst, arith, inl, inr, length-append}
+use Rattle.std.specs.Prelude.{Contains, slice_get}
 use Rattle.std.proofs.lemmas.List.{take-append-le}
-use Rattle.std.proofs.lemmas.Option.{slice_get_within}
-use Rattle.ov_base.specs.declared.mode.Mode.{Mode}
 use Rattle.ov_history.specs.History.{History, Update, file_at, matrix_of, with_update}
 use Rattle.ov_history.specs.Layers.{holders, layers_of, node_of}
 use Rattle.ov_history.specs.Words.{cut_to}
-use Rattle.ov_thinning.specs.Idle.{IsIdlePair, IsThere, IsUpdateAt, as_before, file_named, list_before, publishes}
-use Rattle.ov_thinning.specs.Thin.{AreKeptOf, AreThinned, IsLastOf, IsPartner, KeepsNext, NamesAt}
+use Rattle.ov_thinning.specs.Idle.{IsIdlePair, IsThere, as_before, list_before, publishes}
+use Rattle.ov_thinning.specs.Thin.{AreKeptOf, IsPartner, KeepsNext, NamesAt}
 use Rattle.ov_thinning.specs.Laws.{ThinsGoOn}
 
 -- the histories have the same first updates

@@ -1,34 +1,30 @@
 -- A history without idle pairs is legal, and has the matrix and the layers of the longer one.
-use Rattle.std.proofs.Common.{◌≡◌, ◌≢◌, ◌⊎◌, ◌<◌, ◌≤◌, ◌+◌, ◌-◌, ℕ, zero, suc, Bool, true, false, List, [], ◌∷◌, ◌++◌}
+use Rattle.std.proofs.Common.{◌≡◌, ◌⊎◌, ◌<◌, ◌≤◌, ◌+◌, ◌-◌, ℕ, zero, suc, Bool, true, false, List, [], ◌∷◌, ◌++◌}
 use Rattle.std.proofs.Common.{length, take, get_or, refl, sym, ◌∙◌, ap, subst, arith, inl, inr, length-append}
 use Rattle.std.specs.Prelude.{Option, Some, None, not, nat_le, nat_lt, ◌||◌}
-use Rattle.std.proofs.Math.Seq.{take-length}
-use Rattle.std.proofs.lemmas.List.{append-nil, length-take-le}
+use Rattle.std.proofs.lemmas.List.{length-take-le}
 use Rattle.std.proofs.lemmas.Option.{slice_get-get_or, slice_get_within}
 use Rattle.std.proofs.lemmas.Bool.Decides.{nat_tests}
 use Rattle.ov_base.specs.Sets.{has, within}
-use Rattle.ov_base.specs.declared.limits.TheConstants.{LAST_EPOCH, MAX_FILES, MAX_LAYER_NODES, MAX_STORE_BYTES}
+use Rattle.ov_base.specs.declared.limits.TheConstants.{MAX_FILES, MAX_LAYER_NODES, MAX_STORE_BYTES}
 use Rattle.ov_base.specs.declared.limits.TheConstants.{MAX_USERS}
 use Rattle.ov_history.specs.Places.{change_at, gone, place_of}
 use Rattle.ov_history.specs.History.{Update, Enrolled, Created, Granted, Revoked, Removed, Replaced}
-use Rattle.ov_history.specs.History.{File, History, Matrix, changed, epoch_of, file_at, matrix_of, start_of, with_update}
-use Rattle.ov_history.specs.Lists.{byte_sum, everyone, file_names, file_number, is_file, is_listed, is_user}
-use Rattle.ov_history.specs.Lists.{user_number}
-use Rattle.ov_history.specs.Layers.{Layers, layers_after, layers_of, list_in}
+use Rattle.ov_history.specs.History.{File, History, Matrix, changed, epoch_of, matrix_of, start_of, with_update}
+use Rattle.ov_history.specs.Lists.{byte_sum, everyone, file_names, file_number, is_file, is_listed}
+use Rattle.ov_history.specs.Layers.{Layers, layers_after, layers_of}
 use Rattle.ov_history.specs.Refusals.{AllAccepted, IsLegal, Test, first_of_tests, is_last, is_past_nodes}
 use Rattle.ov_history.specs.Refusals.{refusal_of, tests_of}
-use Rattle.ov_history.specs.Words.{cut_to}
 use Rattle.ov_history.proofs.MatrixLaws.{lists_of-layers_of}
-use Rattle.ov_history.proofs.Pushing.{layers_of-push, matrix_of-push, with_updates, with_updates-is}
+use Rattle.ov_history.proofs.Pushing.{matrix_of-push, with_updates, with_updates-is}
 use Rattle.ov_history.proofs.SoundTests.{NoneApplies, none_applies}
 use Rattle.ov_history.proofs.Staying.{list_of-file}
 use Rattle.ov_thinning.specs.Idle.{AreOpposite, IsIdlePair, IsUpdateAt, as_before, file_named}
-use Rattle.ov_thinning.proofs.Alike.{always_alike, kept_alike, kept_is, kept_list, left_is, lists_end, step_kept}
-use Rattle.ov_thinning.proofs.Leaving.{ArePairs, kept_before, kept_from, kept_if, kept_next}
+use Rattle.ov_thinning.proofs.Alike.{always_alike, kept_is, kept_list, left_is, lists_end, step_kept}
+use Rattle.ov_thinning.proofs.Leaving.{ArePairs, kept_before}
 use Rattle.ov_thinning.proofs.Matrices.{bare_changed, listed_again, unlisted, unlisted-bytes, unlisted-changed}
 use Rattle.ov_thinning.proofs.Matrices.{unlisted-is_file, unlisted-left, unlisted-length, unlisted-names, unlisted_files}
 use Rattle.ov_thinning.proofs.Moments.{accepted_then, next_moment}
-use Rattle.ov_thinning.proofs.Steps.{AreSame}
 
 -- ---- tests
 

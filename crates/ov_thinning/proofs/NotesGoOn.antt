@@ -1,9 +1,9 @@
 -- The notes of all files go on with the next update.
-use Rattle.std.proofs.Common.{◌≡◌, ◌≢◌, ◌⊎◌, ◌<◌, ◌≤◌, ◌+◌, ◌==◌, ℕ, zero, suc, Bool, true, false, List, [], ◌∷◌, ◌++◌}
-use Rattle.std.proofs.Common.{length, take, get_or, refl, sym, ◌∙◌, ap, subst, arith, inl, inr, length-append, eqb-true, eq-eqb}
-use Rattle.std.specs.Prelude.{◌↔◌, Contains, Option, Some, None, slice_get, not, ◌||◌, ◌&&◌, option_map, is_some}
+use Rattle.std.proofs.Common.{◌≡◌, ◌≢◌, ◌⊎◌, ◌<◌, ◌+◌, ◌==◌, ℕ, zero, suc, Bool, true, false, List, [], ◌∷◌, ◌++◌}
+use Rattle.std.proofs.Common.{length, refl, sym, ◌∙◌, ap, subst, arith, inl, inr, eq-eqb}
+use Rattle.std.specs.Prelude.{◌↔◌, Contains, Option, Some, None, not, ◌||◌, ◌&&◌, is_some}
 use Rattle.std.specs.Prelude.{slice_index_or}
-use Rattle.std.proofs.lemmas.Bool.{cases_lt, cases_eq}
+use Rattle.std.proofs.lemmas.Bool.{cases_eq}
 use Rattle.std.proofs.lemmas.Option.{slice_get_within}
 use Rattle.ov_graph.specs.Contents.{node_of as node_with}
 use Rattle.ov_graph.proofs.ListLaws.{Contains-place, node_none, node_some, place-Contains}
@@ -15,7 +15,7 @@ use Rattle.ov_history.specs.Refusals.{IsLegal}
 use Rattle.ov_history.proofs.ChangeLaws.{change_at-here, change_at-other}
 use Rattle.ov_history.proofs.Staying.{list_of-file}
 use Rattle.ov_thinning.specs.Idle.{IsUpdateAt, as_before, file_named, list_before, publishes}
-use Rattle.ov_thinning.specs.Notes.{IsNoteOf, Last, NoneToTell, TellsOfLast, ends_pair, has_node, is_paired, kept_after}
+use Rattle.ov_thinning.specs.Notes.{IsNoteOf, Last, ends_pair, has_node, is_paired, kept_after}
 use Rattle.ov_thinning.specs.Notes.{list_by, notes_after, noted, place_in_note, place_noted, unless_noted, update_by}
 use Rattle.ov_thinning.specs.Notes.{update_noted}
 use Rattle.ov_thinning.specs.Thin.{AreThinned, NamesAt, left_out}

@@ -1,34 +1,32 @@
 -- The laws of shorter histories as they are sent.
-use Rattle.std.proofs.Common.{◌≡◌, ◌≢◌, ◌⊎◌, ◌<◌, ◌≤◌, ◌+◌, ◌-◌, ℕ, zero, suc, Bool, true, false, List, [], ◌∷◌, ◌++◌}
-use Rattle.std.proofs.Common.{length, map, take, get_or, refl, sym, ◌∙◌, ap, subst, arith, inl, inr}
-use Rattle.std.specs.Prelude.{◌↔◌, Option, Some, None, option_map, unwrap_or, slice_get}
+use Rattle.std.proofs.Common.{◌≡◌, ◌⊎◌, ◌<◌, ◌≤◌, ◌-◌, ℕ, zero, suc, Bool, true, false, List, [], ◌∷◌, ◌++◌}
+use Rattle.std.proofs.Common.{length, map, take, refl, sym, ◌∙◌, ap, subst, arith, inl, inr}
+use Rattle.std.specs.Prelude.{Option, Some, None, option_map, slice_get}
 use Rattle.std.proofs.Math.Seq.{take-length}
 use Rattle.std.proofs.lemmas.List.{append-nil}
 use Rattle.std.proofs.lemmas.Option.{slice_get_within}
 use Rattle.ov_tokens.specs.declared.label.Label.{Label}
-use Rattle.ov_base_layer.specs.declared.grant.Grant.{Grant}
 use Rattle.ov_history.specs.History.{Update, Granted, Revoked, History, epoch_of, start_of, with_update}
 use Rattle.ov_history.specs.Layers.{Layers, Place, layers_of}
-use Rattle.ov_history.specs.Briefs.{Brief, brief, outer}
+use Rattle.ov_history.specs.Briefs.{brief, outer}
 use Rattle.ov_history.specs.Refusals.{AllAccepted, IsLegal, refusal_of}
-use Rattle.ov_history.specs.Catalogue.{Catalogue, Filed, Nodes, catalogue_after, empty_catalogue, outline}
+use Rattle.ov_history.specs.Catalogue.{Catalogue, Filed, catalogue_after, outline}
 use Rattle.ov_history.specs.Catalogue.{place_of_file, places}
-use Rattle.ov_history.specs.Closure.{Holds, IsRootOf, Reaches, along, given as at_first}
+use Rattle.ov_history.specs.Closure.{Holds, along, given as at_first}
 use Rattle.ov_history.specs.Sealed.{AllFit, HasParts, IsSealed, SealedHistory, catalogue_of, outer_all, outer_of}
 use Rattle.ov_history.specs.Sealed.{with_sealed}
 use Rattle.ov_history.specs.Sent.{SealedUpdate}
 use Rattle.ov_history.specs.Words.{cut_to}
-use Rattle.ov_history.proofs.GoingOn.{catalogue-push, outer_of-push, sealed_push}
+use Rattle.ov_history.proofs.GoingOn.{catalogue-push, sealed_push}
 use Rattle.ov_history.proofs.Outlining.{outline-shown}
 use Rattle.ov_history.proofs.Pushing.{with_updates, with_updates-is}
-use Rattle.ov_history.proofs.Showing.{epoch-shown}
 use Rattle.ov_thinning.specs.Idle.{AreOpposite, IsIdlePair, IsUpdateAt, as_before, publishes}
 use Rattle.ov_thinning.specs.Laws.{ageless, ageless_layers}
 use Rattle.ov_thinning.specs.SealedThin.{ThinnedHoldsTheSame, ThinnedIsOuter, ThinnedIsSealed}
 use Rattle.ov_thinning.specs.SealedThin.{ThinnedShowsTheSame, ageless_catalogue, ageless_filed, thinned_sealed}
 use Rattle.ov_thinning.specs.Thin.{AreThinned, items_at, put_some, thinned}
 use Rattle.ov_thinning.proofs.Alike.{always_alike, kept_alike}
-use Rattle.ov_thinning.proofs.Keeping.{AreBelow, is_kept, items_all, items_count}
+use Rattle.ov_thinning.proofs.Keeping.{AreBelow, is_kept, items_all}
 use Rattle.ov_thinning.proofs.Leaving.{ArePairs, kept_before, kept_from, kept_if, kept_push}
 use Rattle.ov_thinning.proofs.Legal.{kept_accepted, left_epoch}
 use Rattle.ov_thinning.proofs.MadeNodes.{same_surfaces}

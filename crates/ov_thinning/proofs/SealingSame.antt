@@ -1,10 +1,8 @@
 -- The owner seals the shorter history as the updates that are kept were sealed.
-use Rattle.std.proofs.Common.{◌≡◌, ◌<◌, ◌≤◌, ◌+◌, ◌-◌, ℕ, zero, suc, Bool, true, false, List, [], ◌∷◌, ◌++◌}
+use Rattle.std.proofs.Common.{◌≡◌, ◌<◌, ◌≤◌, ◌-◌, ℕ, zero, suc, Bool, true, false, List, [], ◌∷◌, ◌++◌}
 use Rattle.std.proofs.Common.{length, take, refl, sym, ◌∙◌, ap, subst, arith}
 use Rattle.std.specs.Prelude.{Option, Some, None, slice_get}
-use Rattle.std.proofs.Math.Seq.{take-length}
 use Rattle.std.proofs.lemmas.List.{append-nil}
-use Rattle.std.proofs.lemmas.Option.{slice_get_within}
 use Rattle.ov_base.specs.Sets.{has}
 use Rattle.ov_tokens.specs.declared.token.Token.{Token}
 use Rattle.ov_tokens.specs.declared.label.Kind.TheVariants.{Derive}
@@ -14,7 +12,7 @@ use Rattle.ov_surface.specs.Coats.{base_text}
 use Rattle.ov_surface.specs.Tags.{tag_of_file}
 use Rattle.ov_history.specs.History.{History, Update, empty, epoch_of, with_update}
 use Rattle.ov_history.specs.Plain.{PlainCreate, PlainEnrol, PlainGrant, PlainHistory, PlainRevoke, PlainRemove}
-use Rattle.ov_history.specs.Plain.{PlainReplace, PlainUpdate, history_of, measured, measured_all, with_plain}
+use Rattle.ov_history.specs.Plain.{PlainReplace, PlainUpdate, history_of, measured, measured_all}
 use Rattle.ov_history.specs.Layers.{Layers, Place, holders, layers_of, list_in, node_for, node_of, root_of}
 use Rattle.ov_history.specs.Masters.{Masters, access_key}
 use Rattle.ov_history.specs.Refusals.{IsLegal}
@@ -25,8 +23,8 @@ use Rattle.ov_history.specs.Words.{cut_to}
 use Rattle.ov_history.proofs.Pushing.{with_updates, with_updates-is}
 use Rattle.ov_history.proofs.Sealing.{sealing_goes_on, sealing_is_outer}
 use Rattle.ov_thinning.specs.Idle.{IsUpdateAt, as_before}
-use Rattle.ov_thinning.specs.SealedThin.{ThinnedIsSealedSo, thinned_plain, thinned_sealed}
-use Rattle.ov_thinning.specs.Thin.{AreThinned, items_at}
+use Rattle.ov_thinning.specs.SealedThin.{ThinnedIsSealedSo}
+use Rattle.ov_thinning.specs.Thin.{items_at}
 use Rattle.ov_thinning.proofs.Alike.{always_alike, kept_alike}
 use Rattle.ov_thinning.proofs.Keeping.{AreBelow, is_kept, items_all}
 use Rattle.ov_thinning.proofs.Leaving.{ArePairs, kept_before, kept_from, kept_if, kept_push}

@@ -1,7 +1,7 @@
 -- What the catalogues of both histories show.
-use Rattle.std.proofs.Common.{◌≡◌, ◌≢◌, ◌⊎◌, ◌<◌, ◌≤◌, ◌+◌, ℕ, zero, suc, Bool, true, false, List, [], ◌∷◌, ◌++◌}
-use Rattle.std.proofs.Common.{length, map, take, get_or, refl, sym, ◌∙◌, ap, subst, arith, inl, inr}
-use Rattle.std.specs.Prelude.{Option, Some, None, option_map, unwrap_or, not, is_some, slice_get}
+use Rattle.std.proofs.Common.{◌≡◌, ◌⊎◌, ℕ, Bool, true, false, List, [], ◌∷◌, ◌++◌}
+use Rattle.std.proofs.Common.{length, map, refl, sym, ◌∙◌, ap, inl, inr}
+use Rattle.std.specs.Prelude.{Option, Some, None, option_map, unwrap_or, not, is_some}
 use Rattle.std.proofs.lemmas.List.{map-append}
 use Rattle.std.proofs.Math.ListN.{get_or-map}
 use Rattle.ov_base.specs.Sets.{single, has}
@@ -9,7 +9,7 @@ use Rattle.ov_base_layer.specs.declared.grant.Grant.{Grant}
 use Rattle.ov_tokens.specs.declared.token.Token.{Token}
 use Rattle.ov_graph.specs.Contents.{plan_of}
 use Rattle.ov_history.specs.Places.{change_at, gone, living_at}
-use Rattle.ov_history.specs.History.{Update, Enrolled, Created, Granted, Revoked, Removed, Replaced}
+use Rattle.ov_history.specs.History.{Granted, Revoked}
 use Rattle.ov_history.specs.Layers.{Layers, holders, list_in, lists_after, lists_of, node_for, node_of, wants_of}
 use Rattle.ov_history.specs.Layers.{with_wants}
 use Rattle.ov_history.specs.Briefs.{Brief, BriefEnrol, BriefCreate, BriefGrant, BriefRevoke, BriefRemove, BriefReplace}

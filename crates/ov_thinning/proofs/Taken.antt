@@ -1,18 +1,17 @@
 -- What has taken a history goes on with each update that isn't refused and has its parts.
-use Rattle.std.proofs.Common.{◌≡◌, ◌≢◌, ◌⊎◌, ◌<◌, ◌≤◌, ◌+◌, ℕ, zero, suc, Bool, true, false, List, [], ◌∷◌, ◌++◌}
+use Rattle.std.proofs.Common.{◌≡◌, ◌<◌, ◌+◌, ℕ, suc, true, false, List, [], ◌∷◌, ◌++◌}
 use Rattle.std.proofs.Common.{length, refl, sym, ◌∙◌, ap, subst, arith, length-append}
-use Rattle.std.specs.Prelude.{Contains, Option, Some, None, not, option_map, is_some}
+use Rattle.std.specs.Prelude.{Option, Some, None, not}
 use Rattle.ov_base.proofs.Tests.{true_of_not}
 use Rattle.ov_graph.proofs.ListLaws.{Contains-none}
 use Rattle.ov_history.specs.Places.{change_at, gone, living_at}
 use Rattle.ov_history.specs.History.{Update, Enrolled, Created, Granted, Revoked, Removed, Replaced, History}
 use Rattle.ov_history.specs.History.{empty, epoch_of, matrix_of, with_update}
 use Rattle.ov_history.specs.Lists.{is_file}
-use Rattle.ov_history.specs.Layers.{Layers, Place, grown, layers_after, layers_of, list_in, new_place}
+use Rattle.ov_history.specs.Layers.{Layers, grown, layers_after, layers_of, list_in, new_place}
 use Rattle.ov_history.specs.Refusals.{AllAccepted, IsLegal, refusal_of, tests_of}
 use Rattle.ov_history.specs.Briefs.{Brief, outer}
 use Rattle.ov_history.specs.Catalogue.{Catalogue, catalogue_after, empty_catalogue, outline}
-use Rattle.ov_history.specs.Sealed.{HasParts}
 use Rattle.ov_history.specs.Texts.{AllFitBriefly, BriefHistory, IsSealedBriefly, StandsBriefly, catalogue_from}
 use Rattle.ov_history.specs.Texts.{with_brief}
 use Rattle.ov_history.specs.Words.{HasFile}
@@ -23,8 +22,8 @@ use Rattle.ov_history.proofs.Pushing.{with_updates, with_updates-is}
 use Rattle.ov_history.proofs.Replaying.{briefs_begin, briefs_go_on}
 use Rattle.ov_history.proofs.SoundTests.{NoneApplies, none_applies}
 use Rattle.ov_history.proofs.Wanting.{length-after}
-use Rattle.ov_thinning.specs.Idle.{file_named, publishes}
-use Rattle.ov_thinning.specs.Notes.{HasTaken, IsNoteOf, Last, NothingIsTaken, TakingGoesOn, Thinning, is_paired}
+use Rattle.ov_thinning.specs.Idle.{file_named}
+use Rattle.ov_thinning.specs.Notes.{IsNoteOf, Last, NothingIsTaken, TakingGoesOn, is_paired}
 use Rattle.ov_thinning.specs.Notes.{kept_after, notes_after, outer_brief, outer_briefs, place_noted, taken_next}
 use Rattle.ov_thinning.specs.Thin.{AreThinned, KeepsNext}
 use Rattle.ov_thinning.proofs.Fronts.{thins_go_on}

@@ -1,23 +1,20 @@
 -- What is noted goes on with the next update.
-use Rattle.std.proofs.Common.{◌≡◌, ◌≢◌, ◌⊎◌, ◌<◌, ◌≤◌, ◌+◌, ◌==◌, ℕ, zero, suc, Bool, true, false, List, [], ◌∷◌, ◌++◌}
-use Rattle.std.proofs.Common.{length, take, get_or, refl, sym, ◌∙◌, ap, subst, arith, inl, inr, length-append, eqb-true, eq-eqb}
-use Rattle.std.specs.Prelude.{◌↔◌, Contains, Option, Some, None, slice_get, not, ◌||◌, ◌&&◌, option_map, is_some}
-use Rattle.std.specs.Prelude.{slice_index_or}
+use Rattle.std.proofs.Common.{◌≡◌, ◌≢◌, ◌⊎◌, ◌<◌, ◌≤◌, ◌+◌, ◌==◌, ℕ, Bool, true, false, List, [], ◌∷◌, ◌++◌}
+use Rattle.std.proofs.Common.{length, refl, sym, ◌∙◌, ap, subst, arith, inl, inr, length-append, eqb-true}
+use Rattle.std.specs.Prelude.{◌↔◌, Contains, Option, Some, None, slice_get, not, ◌||◌, ◌&&◌}
 use Rattle.std.proofs.Math.Seq.{take-length}
-use Rattle.std.proofs.lemmas.Bool.{cases_lt, cases_eq}
-use Rattle.std.proofs.lemmas.Bool.Decides.{nat_tests}
+use Rattle.std.proofs.lemmas.Bool.{cases_lt}
 use Rattle.std.proofs.lemmas.Option.{slice_get_within}
-use Rattle.ov_history.specs.Places.{change_at, gone, living_at}
+use Rattle.ov_history.specs.Places.{living_at}
 use Rattle.ov_history.specs.History.{Update, Enrolled, Created, Granted, Revoked, Removed, Replaced, History}
 use Rattle.ov_history.specs.History.{file_at, matrix_of, with_update}
-use Rattle.ov_history.specs.Layers.{Layers, layers_of, list_in}
+use Rattle.ov_history.specs.Layers.{layers_of}
 use Rattle.ov_history.specs.Refusals.{IsLegal}
 use Rattle.ov_history.specs.Words.{cut_to}
-use Rattle.ov_history.proofs.ChangeLaws.{change_at-here, change_at-other}
 use Rattle.ov_thinning.specs.Idle.{AreOpposite, IsIdlePair, IsUpdateAt, as_before, file_named, list_before, publishes}
 use Rattle.ov_thinning.specs.Notes.{IsNoteOf, Last, NoneToTell, TellsOfLast, ends_pair, is_paired, kept_after}
-use Rattle.ov_thinning.specs.Notes.{notes_after, noted, place_in_note, place_noted, unless_noted, update_by, update_noted}
-use Rattle.ov_thinning.specs.Thin.{AreThinned, IsLastOf, IsPartner, KeepsNext, NamesAt, left_out}
+use Rattle.ov_thinning.specs.Notes.{place_in_note, place_noted, update_by, update_noted}
+use Rattle.ov_thinning.specs.Thin.{AreThinned, IsPartner, KeepsNext, NamesAt, left_out}
 use Rattle.ov_thinning.proofs.Fronts.{AgreeTo, agree_more}
 use Rattle.ov_thinning.proofs.Keeping.{Contains_kept, is_kept, kept_Contains, kept_below, kept_out, kept_push}
 use Rattle.ov_thinning.proofs.Noted.{if_pair, named_by, pair_if}

@@ -1,19 +1,17 @@
 -- The laws of shorter histories.
-use Rattle.std.proofs.Common.{◌≡◌, ◌<◌, ◌≤◌, ◌+◌, ◌-◌, ℕ, zero, suc, List, [], ◌∷◌, length, map, take}
+use Rattle.std.proofs.Common.{◌≡◌, ◌<◌, ◌≤◌, ◌+◌, ◌-◌, ℕ, suc, List, [], ◌∷◌, length, map}
 use Rattle.std.proofs.Common.{refl, sym, ◌∙◌, ap, subst, arith}
-use Rattle.std.specs.Prelude.{Option, Some, None, option_map, unwrap_or}
+use Rattle.std.specs.Prelude.{Option, Some, None, option_map}
 use Rattle.std.proofs.Math.Seq.{take-length}
 use Rattle.ov_base.specs.declared.mode.Mode.{Mode}
-use Rattle.ov_base_layer.specs.Holders.{Access}
 use Rattle.ov_surface.specs.Wanted.{wanted_surface}
-use Rattle.ov_history.specs.Places.{living_at}
 use Rattle.ov_history.specs.History.{History, Update, epoch_of, matrix_of}
 use Rattle.ov_history.specs.Layers.{Layers, Place, holders, layers_of, lists_of, surface_at}
 use Rattle.ov_history.specs.Refusals.{IsLegal}
 use Rattle.ov_history.specs.Words.{cut_to}
-use Rattle.ov_history.proofs.MatrixLaws.{epoch_of-layers_of, mode_of-layers_of}
+use Rattle.ov_history.proofs.MatrixLaws.{epoch_of-layers_of}
 use Rattle.ov_history.proofs.SoundLists.{AreHeld, IsHeld}
-use Rattle.ov_history.proofs.Wanting.{IsSettled, history-settled, place_at, wanted_at}
+use Rattle.ov_history.proofs.Wanting.{history-settled, place_at, wanted_at}
 use Rattle.ov_thinning.specs.Idle.{as_before}
 use Rattle.ov_thinning.specs.Laws.{ThinnedHasEpoch, ThinnedHasLayers, ThinnedHasMatrix, ThinnedIsLegal}
 use Rattle.ov_thinning.specs.Laws.{ageless, ageless_layers}

@@ -1,7 +1,7 @@
 -- What is noted of each file while one update after the other is taken, and which places are kept.
 use Rattle.std.specs.Prelude.{◌≡◌, ◌≢◌, ◌⊎◌, ◌↔◌, ℕ, ◌+◌, ◌<◌, ◌==◌, ◌&&◌, ◌||◌, Bool, true, false, not, List, [], ◌∷◌, ◌++◌}
-use Rattle.std.specs.Prelude.{length, Contains, Option, Some, None, is_some, position}
-use Rattle.ov_base.specs.Sets.{has, with, without}
+use Rattle.std.specs.Prelude.{length, Contains, Option, Some, None, is_some}
+use Rattle.ov_base.specs.Sets.{with, without}
 use Rattle.ov_base.specs.declared.mode.Mode.{Mode}
 use Rattle.ov_base.specs.declared.mode.Mode.TheVariants.{Full, Delta}
 use Rattle.ov_graph.specs.Contents.{node_of as node_with}
@@ -10,7 +10,6 @@ use Rattle.ov_history.specs.History.{Update, Enrolled, Created, Granted, Revoked
 use Rattle.ov_history.specs.Layers.{Layers, holders, layers_of, list_in, node_of}
 use Rattle.ov_history.specs.Briefs.{Brief, outer}
 use Rattle.ov_history.specs.Catalogue.{Catalogue, catalogue_after, empty_catalogue, outline}
-use Rattle.ov_history.specs.Refusals.{refusal_of}
 use Rattle.ov_history.specs.Sealed.{HasParts, refusal_shown}
 use Rattle.ov_history.specs.Texts.{BriefHistory, StandsBriefly, blank_brief, with_brief}
 use Rattle.ov_thinning.specs.Idle.{IsUpdateAt, as_before, file_named, list_before, publishes}
