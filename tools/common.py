@@ -71,7 +71,7 @@ def run_without_devices(folder, *words):
         shutil.copy(path, place)
     shutil.copytree(folder, root / "here")
     enter = lambda: (os.chroot(root), os.chdir("/here"))
-    done = subprocess.run(words, stdin=subprocess.DEVNULL, capture_output=True, preexec_fn=enter)
+    done = subprocess.run(words, stdin=subprocess.DEVNULL, capture_output=True, preexec_fn=enter, timeout=60)
     return done, root / "here"
 
 

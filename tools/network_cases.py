@@ -319,9 +319,13 @@ def accepted_updates_whose_replies_are_lost():
 def a_server_that_is_stopped_and_goes_on():
     """Sessions that wait for a client, and one that waits until its client takes its replies, go on where they were."""
     server = Server(new_folder(), 2)
-    with server.connect() as waiting, server.connect() as full:
+    with server.connect() as waiting, socket.socket() as full:
         assert ask(waiting, HELLO) == welcome(0)
-        count = 200_000
+        # A client with little room for replies.
+        full.setsockopt(socket.SOL_SOCKET, socket.SO_RCVBUF, 4096)
+        full.settimeout(SECONDS)
+        full.connect(("127.0.0.1", server.port))
+        count = 20_000
         sender = threading.Thread(target=full.sendall, args=(framed(HELLO) * count,))
         sender.start()
         time.sleep(1)
@@ -424,7 +428,7 @@ def closed_streams_in_a_folder_that_isnt_read():
     (folder / "settings.toml").write_text(settings(1, book="kept/store.book", blobs="kept/store.blobs"))
     folder.chmod(0o300)
     words = ["sh", "-c", 'exec "$0" settings.toml <&- >&-', SERVER]
-    done = subprocess.run(words, cwd=folder, capture_output=True, **user)
+    done = subprocess.run(words, cwd=folder, capture_output=True, timeout=SECONDS, **user)
     assert done.returncode == 6, done
     is_told(done.stderr.decode().replace("kept/", ""), "standard output can't be written")
     folder.chmod(0o700)
