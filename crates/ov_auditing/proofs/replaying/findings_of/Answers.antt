@@ -42,18 +42,24 @@ look_at_next-requires-clause-members g c = (
       c.requires.members.1,
 )
 
+pub look_at_next-requires-clause-any : goal.look_at_next-requires-clause-any
+look_at_next-requires-clause-any g c =
+    rw (sym c.deref_mut.ensures.value) at c.updates.invariant.any
+
 pub look_at_next-requires-clause-followed : goal.look_at_next-requires-clause-followed
 look_at_next-requires-clause-followed g c =
-    one_followed g.D.Disk.tells c.args.store.now c.updates.store c.updates.invariant.stays c.updates.i
+    rw (sym c.deref_mut.ensures.value) at
+    (one_followed g.D.Disk.tells c.args.store.now c.updates.store c.updates.invariant.stays c.updates.i
     c.updates.state.value.catalogue c.updates.audit c.updates.invariant.followed c.known.ensures.0
-    c.known.ensures.1
+    c.known.ensures.1)
 
 pub updates-preserved : goal.updates-preserved
 updates-preserved g c = record {
   any = c.in_ok-look_at_next.ensures.any;
   followed = each_followed g.D.Disk.tells c.args.store.now c.updates.store c.updates.invariant.stays
       c.updates.i c.updates.state.value.catalogue c.look_at_next.new.state.catalogue c.updates.audit
-      c.look_at_next.new.audit c.updates.invariant.followed c.in_ok-look_at_next.ensures.followed;
+      c.look_at_next.new.audit c.updates.invariant.followed
+      (rw c.deref_mut.ensures.value at c.in_ok-look_at_next.ensures.followed);
   stays = stays_on g.D.Disk.tells c.args.store.now c.updates.store c.updates.invariant.stays
       c.look_at_next.new.store _ (λ none. absurd none) c.look_at_next.ensures.stays;
   users = c.look_at_next.ensures.same.0 ∙ c.updates.invariant.users;
