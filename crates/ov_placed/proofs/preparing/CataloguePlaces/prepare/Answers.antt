@@ -15,7 +15,7 @@ use Rattle.ov_placed.proofs.preparing.CataloguePlaces.prepare.Goals as goal
 pub returns-clause-prepared : goal.returns-clause-prepared
 returns-clause-prepared c =
     let master = c.args.surface.now.bytes in
-    let d : Catalogue = c.self.inside.catalogue.value.catalogue in
+    let d : Catalogue = c.self.inside.catalogue.catalogue in
     let s : SealedUpdate = sealed_update c.args.update in
     let own : SpelledBrief = plain_brief c.of-brief.result.0 in
     let b : SpelledBrief = plain_brief c.in_ok-brief.brief in

@@ -28,8 +28,8 @@ pub returns-in_err-make_room-clause-any_moment : goal.returns-in_err-make_room-c
 returns-in_err-make_room-clause-any_moment g c =
     let master = c.args.surface.now.bytes in
     let s : PlacedStore = record {
-      catalogue = c.self.inside.catalogue.value.catalogue;
-      room = c.self.inside.catalogue.value.room;
+      catalogue = c.self.inside.catalogue.catalogue;
+      room = c.self.inside.catalogue.room;
       placed = c.self.inside.placed.items;
       held = c.self.inside.extents;
     } in
@@ -45,8 +45,8 @@ pub new-recoat-requires : goal.new-recoat-requires
 new-recoat-requires g c =
     let master = c.args.surface.now.bytes in
     let s : PlacedStore = record {
-      catalogue = c.self.inside.catalogue.value.catalogue;
-      room = c.self.inside.catalogue.value.room;
+      catalogue = c.self.inside.catalogue.catalogue;
+      room = c.self.inside.catalogue.room;
       placed = c.self.inside.placed.items;
       held = c.self.inside.extents;
     } in
@@ -60,8 +60,8 @@ pub update-requires-clause-asked : goal.update-requires-clause-asked
 update-requires-clause-asked g c =
     let master = c.args.surface.now.bytes in
     let s : PlacedStore = record {
-      catalogue = c.self.inside.catalogue.value.catalogue;
-      room = c.self.inside.catalogue.value.room;
+      catalogue = c.self.inside.catalogue.catalogue;
+      room = c.self.inside.catalogue.room;
       placed = c.self.inside.placed.items;
       held = c.self.inside.extents;
     } in
@@ -88,8 +88,8 @@ pub returns-in_err-moves-clause-any_moment : goal.returns-in_err-moves-clause-an
 returns-in_err-moves-clause-any_moment g c =
     let master = c.args.surface.now.bytes in
     let s : PlacedStore = record {
-      catalogue = c.self.inside.catalogue.value.catalogue;
-      room = c.self.inside.catalogue.value.room;
+      catalogue = c.self.inside.catalogue.catalogue;
+      room = c.self.inside.catalogue.room;
       placed = c.self.inside.placed.items;
       held = c.self.inside.extents;
     } in
@@ -118,8 +118,8 @@ pub put_firsts-requires : goal.put_firsts-requires
 put_firsts-requires g c =
     let master = c.args.surface.now.bytes in
     let s : PlacedStore = record {
-      catalogue = c.self.inside.catalogue.value.catalogue;
-      room = c.self.inside.catalogue.value.room;
+      catalogue = c.self.inside.catalogue.catalogue;
+      room = c.self.inside.catalogue.room;
       placed = c.self.inside.placed.items;
       held = c.self.inside.extents;
     } in
@@ -139,8 +139,8 @@ pub invariant_of-self-2 : goal.invariant_of-self-2
 invariant_of-self-2 g c =
     let master = c.args.surface.now.bytes in
     let s : PlacedStore = record {
-      catalogue = c.self.inside.catalogue.value.catalogue;
-      room = c.self.inside.catalogue.value.room;
+      catalogue = c.self.inside.catalogue.catalogue;
+      room = c.self.inside.catalogue.room;
       placed = c.self.inside.placed.items;
       held = c.self.inside.extents;
     } in
@@ -182,8 +182,8 @@ pub returns-clause-any_moment : goal.returns-clause-any_moment
 returns-clause-any_moment g c =
     let master = c.args.surface.now.bytes in
     let s : PlacedStore = record {
-      catalogue = c.self.inside.catalogue.value.catalogue;
-      room = c.self.inside.catalogue.value.room;
+      catalogue = c.self.inside.catalogue.catalogue;
+      room = c.self.inside.catalogue.room;
       placed = c.self.inside.placed.items;
       held = c.self.inside.extents;
     } in
@@ -212,8 +212,8 @@ pub returns-clause-made : goal.returns-clause-made
 returns-clause-made g c =
     let master = c.args.surface.now.bytes in
     let s : PlacedStore = record {
-      catalogue = c.self.inside.catalogue.value.catalogue;
-      room = c.self.inside.catalogue.value.room;
+      catalogue = c.self.inside.catalogue.catalogue;
+      room = c.self.inside.catalogue.room;
       placed = c.self.inside.placed.items;
       held = c.self.inside.extents;
     } in
