@@ -292,6 +292,11 @@ class Replies:
         lines = shown(self.called(line.split(" "), self.case.script, areas=(b"", b""))[1])
         self.out += b"sizes %s\nin pieces of 1 bytes:\n%s" % (rest.encode(), lines)
 
+    def watched(self, rest):
+        """Of all reasons for which a write fails a broken pipe alone says that its reader is gone."""
+        reader = b"is gone" if rest == "broken-pipe" else b"isn't gone"
+        self.out += b"watched %s: the line fails, the reader %s\n" % (rest.encode(), reader)
+
     def read_only(self, rest):
         status, lines, _, device = self.called(rest.split(" "), self.case.script)
         if device.log:
@@ -309,6 +314,7 @@ class Replies:
             "read-only": self.read_only,
             "counted": self.counted,
             "flips": self.flips,
+            "watched": self.watched,
         }
         if line == "modes":
             self.modes()

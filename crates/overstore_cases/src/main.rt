@@ -31,6 +31,7 @@
 //! | `read-only audit ..` | audits a disk that can't be written |
 //! | `counted run ..` | runs it over such a disk, and prints how many calls that had |
 //! | `flips first place bits run ..` | runs it over such a disk, and once more where the first, or `last`, read of a byte of Book gives it with these bits changed |
+//! | `watched broken-pipe`, `watched storage-full` | writes a line, which fails for this reason, and prints whether its reader is gone |
 //!
 //! In a text `\n`, `\r`, `\\` and `\x` with two digits stand for a byte each. The first line of a
 //! script after a call begins a new one. Lines of more than 1,000 bytes, frames, and both areas are
@@ -54,6 +55,7 @@ mod sizes;
 mod steps;
 mod stops;
 mod texts;
+mod watched;
 
 use case::Case;
 use std::test::Fail;

@@ -7,6 +7,7 @@ use crate::inputs::set_inputs;
 use crate::reading::{print_counted, print_flips, print_read};
 use crate::sizes::print_sizes;
 use crate::stops::print_stops;
+use crate::watched::print_watched;
 use ov_disk::MemDisk;
 use std::alloc::Global;
 use std::test::Fail;
@@ -74,6 +75,7 @@ fn print(
         "read-only" => print_read(rt, case, rest),
         "counted" => print_counted(rt, case, rest),
         "flips" => print_flips(rt, case, rest),
+        "watched" => print_watched(rt, rest),
         _ => call(rt, case, line),
     }
 }
