@@ -2,7 +2,7 @@
 use crate::calling::{arguments_of, ran};
 use crate::case::{Case, Fails, NEVER};
 use crate::pieces::Pieces;
-use crate::reading::is_told;
+use crate::reading::says_disk_failed;
 use crate::recorder::Recorder;
 use crate::stops::{lines_over, tears};
 use crate::texts::number_of;
@@ -158,7 +158,7 @@ fn wrong_runs(alloc: Global, case: &Case, line: &str, each: &Each) -> Result<u64
 fn wrong_audits(alloc: Global, case: &Case, line: &str, count: u64) -> Result<u64, Fail> {
     let mut wrong = 0u64;
     for call in 0..=count {
-        if is_told(alloc, case, line, call)? != (call < count) {
+        if says_disk_failed(alloc, case, line, call)? != (call < count) {
             wrong = wrong.saturating_add(1);
         }
     }

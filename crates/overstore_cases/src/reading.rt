@@ -12,7 +12,7 @@ fn disk_of<'a>(case: &'a Case, place: usize) -> ReadOnly<'a> {
     ReadOnly::of(case.disk.book(), case.disk.blobs(), place)
 }
 
-// The lines of a call over this disk, and its status behind them.
+// The lines of a call over this disk, and then its status.
 fn lines_over(
     alloc: Global,
     case: &Case,
@@ -76,7 +76,7 @@ pub fn print_flips(rt: &HostRuntime, case: &Case, rest: &str) -> Result<(), Fail
 }
 
 /// Whether a call says that the disk failed where its call of this number does.
-pub fn is_told(alloc: Global, case: &Case, line: &str, call: u64) -> Result<bool, Fail> {
+pub fn says_disk_failed(alloc: Global, case: &Case, line: &str, call: u64) -> Result<bool, Fail> {
     let mut disk = disk_of(case, 0);
     disk.fails = call;
     let text = lines_over(alloc, case, line, &mut disk)?;

@@ -51,14 +51,14 @@ pub fn push_text(to: &mut Vec<u8>, text: &[u8]) -> Result<(), AllocError> {
     let mut rest = text;
     for _ in 0..text.len() {
         match rest {
-            [b'\\', behind @ ..] => {
-                let (byte, count) = escaped(behind);
+            [b'\\', following @ ..] => {
+                let (byte, count) = escaped(following);
                 to.push(byte)?;
-                rest = behind.get(count..).unwrap_or(b"");
+                rest = following.get(count..).unwrap_or(b"");
             }
-            [byte, behind @ ..] => {
+            [byte, following @ ..] => {
                 to.push(*byte)?;
-                rest = behind;
+                rest = following;
             }
             [] => break,
         }
