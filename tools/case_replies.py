@@ -6,8 +6,8 @@ It reads the same files as the program `overstore_cases`, and makes each line th
 table at the head of the program's `src/main.rt` says what the lines of a case do. The store, its frames and its
 disk are those of the independent reference, and nothing is taken from what the program printed. Some lines follow
 from a rule and not from the reference, and the rule stands where they are made: `each` (nothing is wrong),
-`counted` (how often an opening reads), `flips` (what a second look finds), and a script that is repeated (a refusal
-that changes nothing comes again).
+`counted` (how often an opening reads), `flips` (what a second look finds), `watched` (which reader is gone), and a
+script that is repeated (a refusal that changes nothing comes again).
 
 With `--only FILE` it prints the replies to the cases of that file alone. `--jobs` is how many processes make them;
 two minutes of one processor make all.
@@ -271,7 +271,8 @@ class Replies:
         most, line = rest.split(" ", 1)
         self.out += b"stops %s\n" % rest.encode()
         calls = self.calls_with_reads()
-        answers = functools.cache(lambda *areas: shown(self.called(line.split(" "), self.case.script, areas=areas)[1]))
+        words = line.split(" ")
+        answers = functools.cache(lambda *areas: shown(self.called(words, self.case.script, areas=areas)[1]))
         for tear, name in TEARS:
             last = None
             for behind in range(int(most), -1, -1):
@@ -303,7 +304,7 @@ class Replies:
             sys.exit(f"{rest} writes")
         self.out += b"read-only %s\n%s  status %d\n" % (rest.encode(), shown(lines), status)
 
-    def main_step(self, line):
+    def print_step(self, line):
         """A line that prints something."""
         case = self.case
         word, _, rest = line.partition(" ")
@@ -330,8 +331,8 @@ class Replies:
     def counted(self, rest):
         """Arguments that are refused make no call. An opening asks how long each area is, reads the front of Book,
         and looks once where each record begins and where they end; it reads each record once for the store, and once
-        for its tokens and its tag. Of Blobs it reads each file once, for the tag, and nothing of a file without bytes.
-        One sync makes what it read last."""
+        for its tokens and its tag. Of Blobs it reads each file once, for the tag, and nothing of a file without
+        bytes. One sync makes what it read last."""
         status, lines, _, device = self.called(rest.split(" "), self.case.script)
         if device.log:
             sys.exit(f"{rest} writes")
@@ -369,7 +370,8 @@ class Replies:
         base, surface = self.reference.run.read_keys(self.case.keys)
         check = self.reference.layers.check_value(base)
         store, stage = self.opened(device), self.reference.stage
-        server, owner = self.reference.wire.Server(store, surface, check, stage), self.reference.wire.Owner(base, surface, stage)
+        server = self.reference.wire.Server(store, surface, check, stage)
+        owner = self.reference.wire.Owner(base, surface, stage)
         out = bytearray()
         for item in self.reference.matrix.script(bytes(self.case.script), stage):
             command = item[1] if item[0] == "command" else ("end",)
@@ -383,8 +385,9 @@ class Replies:
     def flipped_record(self, place, bits):
         """A record that is other when the audit reads it for the last time, behind an opening that found it right, is
         damage at its gate."""
-        gates = [record.gate for record in self.opened(self.reference.image.Device(self.case.book, self.case.blobs)).records]
-        return b"error damaged book %d\n  status 8\n" % max(gate for gate in gates if gate < place)
+        store = self.opened(self.reference.image.Device(self.case.book, self.case.blobs))
+        gate = max(record.gate for record in store.records if record.gate < place)
+        return b"error damaged book %d\n  status 8\n" % gate
 
     # ---- lines
 
@@ -456,7 +459,7 @@ class Replies:
         if added is not None:
             self.case.to_script().extend(added)
         elif not self.set_step(word, rest):
-            self.main_step(line)
+            self.print_step(line)
 
 
 def replies_to(arguments, name):
