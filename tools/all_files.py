@@ -1,5 +1,5 @@
-"""What list_all.py, revoke_all.py and grant_all.py have in common: the names in a store.book, the replies
-to a script of `list` lines, and how the scripts end.
+"""What the scripts that read a store.book or the replies to `list` lines have in common: the records and the names
+in a book, those replies, and how the scripts end.
 """
 import pathlib
 import re
@@ -23,7 +23,7 @@ def end(status, line):
 
 
 def words(least, most, form):
-    """The words of the call, of which the first names a user. `form` is how they have to be."""
+    """The words of the call, so many at least and at most. `form` is how they have to be."""
     given = sys.argv[1:]
     usage = f"usage: {pathlib.Path(sys.argv[0]).name} {form}"
     if given == ["--help"]:
@@ -32,14 +32,20 @@ def words(least, most, form):
     if not least <= len(given) <= most:
         sys.stderr.write(usage + "\n")
         sys.exit(BAD_WORDS)
+    return given
+
+
+def user_words(least, most, form):
+    """The words of a call of which the first names a user."""
+    given = words(least, most, form)
     if given and not NAME.fullmatch(given[0]):
         end(BAD_WORDS, f"{given[0]} is no name: 1 to 64 of a-z, 0-9, `.`, `_` and `-`, a letter or a digit first")
     return given
 
 
-def records(book, origin):
-    """The updates of a store.book, as docs/FORMATS.md has them, and with each how many bytes a set has in it.
-    `overstore run` says more of a bad one."""
+def records(book, origin, steps=False):
+    """The updates of a store.book, as docs/FORMATS.md has them, and with each how many bytes a set has in it; its step
+    record too where `steps` is set. `overstore run` says more of a bad one."""
     set_bytes = SET_BYTES.get(book[:9])
     if set_bytes is None or len(book) <= FIRST_RECORD:
         end(BAD_INPUT, f"{origin} is no store.book: its header isn't whole")
@@ -49,6 +55,8 @@ def records(book, origin):
         body = book[at + 5 : at + 5 + length]
         if length == 1 and body == STEP:
             set_bytes = SET_BYTES[b"\x01OVERENC2"]
+            if steps:
+                yield body, set_bytes
         elif len(body) < max(length, 2):
             end(BAD_INPUT, f"{origin}: the record at byte {at} isn't whole")
         else:

@@ -1,5 +1,5 @@
-"""Runs list_all.py, revoke_all.py and grant_all.py over books and replies that are made here: the scripts
-that they write, and each status but 0 with its line on standard error.
+"""Runs list_all.py, revoke_all.py, grant_all.py, store_usage.py and script_of_book.py over books and replies that are
+made here: what they write, and each status but 0 with its line on standard error.
 
 Run: python3 tools/all_files_cases.py [FOLDER]
 
@@ -10,11 +10,14 @@ import subprocess
 import sys
 import tempfile
 
+TOOLS = pathlib.Path(__file__).resolve().parent
+# The scripts by the names of their calls, and the commands that they are where they are installed.
+SCRIPTS = {"list": "list_all", "revoke": "revoke_all", "grant": "grant_all", "usage": "store_usage", "script": "script_of_book"}
+COMMANDS = {"list": "list-all", "revoke": "revoke-all", "grant": "grant-all", "usage": "usage", "script": "script-of-book"}
 if len(sys.argv) > 1:
-    CALLS = {name: [f"{sys.argv[1]}/overstore-{name}-all"] for name in ("list", "revoke", "grant")}
+    CALLS = {name: [f"{sys.argv[1]}/overstore-{command}"] for name, command in COMMANDS.items()}
 else:
-    TOOLS = pathlib.Path(__file__).resolve().parent
-    CALLS = {name: [sys.executable, TOOLS / f"{name}_all.py"] for name in ("list", "revoke", "grant")}
+    CALLS = {name: [sys.executable, TOOLS / f"{script}.py"] for name, script in SCRIPTS.items()}
 
 HEADER = b"\x01OVERENC2" + bytes(1 + 4 + 32 + 32)
 REPLIES = b"list plan alice,bob\nlist budget alice\nlist old -\nend epoch 6\n"
@@ -61,6 +64,17 @@ REPLACED_BOOK = (
     + b"\0"
 )  # fmt: skip
 
+USAGE = """mode full
+updates 7 of 4294967295
+users 3 of 1024
+base sets 4 of 4096
+surface sets 4 of 4096
+file numbers 3 of 16384
+files 3
+bytes 15 of 67108864
+store.book 676
+"""
+
 # The name and the words of a call, its input, whether store.book is in the folder, its status, what it puts, and
 # a part of what it says.
 CASES = [
@@ -95,6 +109,18 @@ CASES = [
     ("grant", "dora", b"list old -\nend epoch 6\n", True, 3, "", "dora isn't enrolled in store.book"),
     ("grant", "alice", b"list plan alice,bob\nend epoch 6\n", True, 4, "", "every list names alice"),
     ("grant", "", REPLIES, True, 2, "", "usage: "),
+    ("usage", "", BOOK, False, 0, USAGE, ""),
+    ("usage", "", BOOK + b"more", False, 0, USAGE, ""),
+    ("usage", "", BOOK[:130], False, 1, "", "the record at byte 112 isn't whole"),
+    ("usage", "", BOOK[:-1] + b"\x01\0\0\0\x05\x06\0\0\0\x09\0", False, 1, "", "update 8 can't follow on those before it"),
+    ("usage", "", b"x" * 200, False, 1, "", "its header isn't whole"),
+    ("usage", "full", BOOK, False, 2, "", "usage: "),
+    ("script", "", b"", True, 2, "", "usage: "),
+    ("script", "store.book store.book . last", b"", True, 2, "", "last is no epoch"),
+    ("script", "no.hex store.book .", b"", True, 1, "", "cannot read no.hex"),
+    ("script", "store.book store.book .", b"", True, 1, "", "store.book is no key file"),
+    ("script", f"{TOOLS.parent}/examples/keys.hex store.book .", b"", True, 1, "", "isn't the key file of this store"),
+    ("script", "store.book store.book nowhere", b"", True, 1, "", "nowhere is no folder"),
 ]
 
 

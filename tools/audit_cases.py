@@ -3,11 +3,12 @@ saved state.
 
     python3 tools/audit_cases.py crates/overstore/out/overstore [COUNT] [SEED]
 
-Each history has up to 60 updates, in one mode. After it each of a few audits, of one user or several, with
-the server and without, has to print the lines that the plain program does. The plain program knows no
-tokens and no ciphers: a user has the keys of the sets that have the user, and of the base nodes to which
-the user was given access; and a saved state of a file is open to whoever has both of its keys. It is tried
-with itself as well, with no program: python3 tools/audit_cases.py - [COUNT] [SEED].
+Each history has up to 60 updates, in one mode, and gives the names of removed files to new ones. After it
+an audit of each user alone and one of several users, each with the server and without, have to print the
+lines that the plain program does. The plain program knows no tokens and no ciphers: a user has the keys of
+the sets that have the user, and of the base nodes to which the user was given access; and a saved state of
+a file is open to a user with both of its keys. With no program only the plain one runs:
+python3 tools/audit_cases.py - [COUNT] [SEED].
 """
 import random
 import shutil
@@ -83,6 +84,12 @@ class Store:
         self.files.append({"name": file["name"], "node": node, "list": set(members)})
         self.made("replace %s 1\ny\n" % file["name"])
 
+    def free_name(self, draw):
+        """A name that no file has: that of a removed file, or a new one."""
+        taken = {file["name"] for file in self.files if file["list"] is not None}
+        removed = sorted({file["name"] for file in self.files} - taken)
+        return draw.choice(removed) if removed and draw.random() < 0.5 else "f%d" % len(self.files)
+
     def opens(self, users, server, number):
         """Whether some saved state of the file is open to the keys that the users have now."""
         node = self.files[number]["node"]
@@ -119,7 +126,7 @@ def history(draw, full):
             store.enrol()
         elif step < 0.35 or not there:
             members = {user for user in range(len(store.users)) if draw.random() < 0.5}
-            store.create("f%d" % len(store.files), members)
+            store.create(store.free_name(draw), members)
         else:
             number = draw.choice(there)
             members = store.files[number]["list"]
@@ -141,8 +148,16 @@ def put(program, folder, words, script=""):
     return done.stdout.decode(), done.returncode
 
 
+def audits(draw, store):
+    """The users of each audit, and whether the server helps: each user alone, and some together."""
+    together = {user for user in range(len(store.users)) if draw.random() < 0.4} or {0}
+    for server in (False, True):
+        for users in [{user} for user in range(len(store.users))] + [together]:
+            yield users, server
+
+
 def tried(program, seed):
-    """Tries one history, and gives what differs."""
+    """Tries one history, and gives how many audits were tried and what differs."""
     draw = random.Random(seed)
     full = draw.random() < 0.5
     store = history(draw, full)
@@ -152,16 +167,26 @@ def tried(program, seed):
     mode = "full" if full else "delta"
     replies, status = put(program, folder, ["run", mode], "".join(store.script))
     if status or not replies.endswith("end epoch %d\n" % store.epoch):
-        return ["the script: status %d, %r" % (status, replies[-40:])]
-    differs = []
-    for server in (False, True):
-        users = {user for user in range(len(store.users)) if draw.random() < 0.4} or {0}
+        return 0, ["the script: status %d, %r" % (status, replies[-40:])]
+    count, differs = 0, []
+    for users, server in audits(draw, store):
+        count += 1
         words = ["audit", ",".join(store.users[user] for user in sorted(users))] + ["server"] * server
         wanted, got = store.lines(users, server), put(program, folder, words)
         if got != (wanted, 0):
             differs.append("%s: %r, wanted %r" % (" ".join(words), got, wanted))
     shutil.rmtree(folder)
-    return differs
+    return count, differs
+
+
+def plain(count, first):
+    """Runs the plain program alone."""
+    for seed in range(first, first + count):
+        draw = random.Random(seed)
+        store = history(draw, draw.random() < 0.5)
+        for users, server in audits(draw, store):
+            store.lines(users, server)
+    print("%d histories" % count)
 
 
 def main():
@@ -169,19 +194,16 @@ def main():
     count = int(sys.argv[2]) if len(sys.argv) > 2 else 1000
     first = int(sys.argv[3]) if len(sys.argv) > 3 else 0
     if program == "-":
-        for seed in range(first, first + count):
-            draw = random.Random(seed)
-            store = history(draw, draw.random() < 0.5)
-            store.lines(set(range(len(store.users))), True)
-        print("%d histories" % count)
-        return
+        return plain(count, first)
     run_folder()
-    differ = 0
+    audited = differ = 0
     for seed in range(first, first + count):
-        for what in tried(program, seed):
-            differ += 1
+        tries, differs = tried(program, seed)
+        audited += tries
+        differ += len(differs)
+        for what in differs:
             print("seed %d: %s" % (seed, what))
-    print("%d histories, %d audits differ" % (count, differ))
+    print("%d histories, %d audits, %d differ" % (count, audited, differ))
     sys.exit(differ > 0)
 
 

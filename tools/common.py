@@ -1,10 +1,13 @@
-"""What several tools have in common: folders, the example keys, keyed hashes, frames, byte strings and servers."""
+"""What several tools have in common: folders, the example keys, keyed hashes, frames, byte strings, servers and roots
+without devices."""
 import atexit
 import functools
 import hashlib
 import hmac
 import os
 import pathlib
+import re
+import shutil
 import struct
 import subprocess
 import tempfile
@@ -55,6 +58,21 @@ def started(folder, *words):
     line = process.stdout.readline().decode().split()
     assert line[:1] == ["listening"], (folder / "told").read_text()
     return process, line[1]
+
+
+def run_without_devices(folder, *words):
+    """Runs a program where there is no /dev, in a folder of which it has a copy: what came of it, and the copy. Only
+    root can do that."""
+    root = new_folder()
+    needed = re.findall(r"(/\S+) \(0x", subprocess.run(["ldd", words[0]], capture_output=True, text=True, check=True).stdout)
+    for path in (words[0], *needed):
+        place = root / path.lstrip("/")
+        place.parent.mkdir(parents=True, exist_ok=True)
+        shutil.copy(path, place)
+    shutil.copytree(folder, root / "here")
+    enter = lambda: (os.chroot(root), os.chdir("/here"))
+    done = subprocess.run(words, stdin=subprocess.DEVNULL, capture_output=True, preexec_fn=enter, timeout=60)
+    return done, root / "here"
 
 
 def processor(process):

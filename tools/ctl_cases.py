@@ -14,7 +14,7 @@ import sys
 import threading
 import time
 
-from common import ROOT, framed, new_folder
+from common import ROOT, framed, new_folder, run_without_devices
 
 PROGRAM = str(pathlib.Path(sys.argv[1]).resolve())
 TESTS = ROOT / "crates" / "ov_acts_t" / "src" / "acts"
@@ -543,6 +543,15 @@ def closed_streams():
         assert (folder / "keys").read_text() == KEYS
 
 
+def no_place_can_be_held():
+    """Where /dev/null isn't there, no file is opened, since it might come to stand where a stream was closed."""
+    if os.geteuid() != 0:
+        return
+    done, _ = run_without_devices(client_folder(), PROGRAM, "check", "keys")
+    assert (done.returncode, done.stdout) == (6, b""), done
+    assert b"overctl: error: /dev/null cannot be opened" in done.stderr, done.stderr
+
+
 CASES = [
     commands,
     refusals_and_disks,
@@ -563,6 +572,7 @@ CASES = [
     keys_that_others_read,
     keys_in_a_pipe,
     closed_streams,
+    no_place_can_be_held,
 ]
 
 for one in CASES:

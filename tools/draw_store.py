@@ -12,7 +12,7 @@ import html
 import sys
 
 from all_files import end, expect_enrolled
-from store_layers import Store
+from store_layers import last_store
 
 ROW, BOX, COLUMNS, TOP = 44, (132, 28), (24, 236, 472), 58
 GREEN, GREY, INK = "#1a7f37", "#8c959f", "#24292f"
@@ -96,7 +96,7 @@ class Picture:
 def main():
     if len(sys.argv) != 3 or sys.argv[1] not in ("full", "delta"):
         end(2, "usage: draw_store.py full|delta USER < store.book > PICTURE.svg")
-    store = Store(sys.argv[1], sys.stdin.buffer.read(), "standard input")
+    store = last_store(sys.stdin.buffer.read(), "standard input", sys.argv[1])
     expect_enrolled(sys.argv[2], store.users, "this store.book")
     sys.stdout.write(Picture(store, store.users.index(sys.argv[2])).draw())
 

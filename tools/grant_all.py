@@ -8,9 +8,9 @@ that doesn't name the user the script has a `grant` and, behind it, a `list` tha
 enrolled in BOOK, or else in the store.book of this folder, is refused. `make -C dist install` installs it
 as overstore-grant-all, with a man page.
 """
-from all_files import NOTHING_TO_DO, end, expect_enrolled_at_hand, lists, put, words
+from all_files import NOTHING_TO_DO, end, expect_enrolled_at_hand, lists, put, user_words
 
-user, *book = words(1, 2, "USER [BOOK] < REPLIES > SCRIPT")
+user, *book = user_words(1, 2, "USER [BOOK] < REPLIES > SCRIPT")
 expect_enrolled_at_hand(user, book)
 files = [file for file, listed in lists() if user not in listed]
 if not files:

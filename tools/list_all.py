@@ -9,9 +9,9 @@ will do, for the files that were there then, if none of them was removed since.
 """
 import sys
 
-from all_files import expect_enrolled, names, words
+from all_files import expect_enrolled, names, user_words
 
-given = words(0, 1, "[USER] < store.book > SCRIPT")
+given = user_words(0, 1, "[USER] < store.book > SCRIPT")
 users, files = names(sys.stdin.buffer.read(), "standard input")
 for user in given:
     expect_enrolled(user, users, "this store.book")

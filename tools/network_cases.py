@@ -18,9 +18,10 @@ import socket
 import struct
 import subprocess
 import sys
+import threading
 import time
 
-from common import KEYS, framed, keyed, new_folder
+from common import KEYS, framed, keyed, new_folder, run_without_devices
 
 WORDS = [word for word in sys.argv[1:] if word != "--slow"]
 SLOW = "--slow" in sys.argv
@@ -298,6 +299,47 @@ def logged():
     assert (done.returncode, done.stdout) == (2, b"error settings\n")
 
 
+def accepted_updates_whose_replies_are_lost():
+    """A client that resets its connection right behind its update: the update is made, and the log has it."""
+    server = Server(new_folder(), 12, "--log", workers=1)
+    with server.connect() as first:
+        # The worker is held, so each of these clients is gone before its update is read.
+        assert ask(first, HELLO) == welcome(0)
+        for number in range(10):
+            with server.connect() as stream:
+                stream.setsockopt(socket.SOL_SOCKET, socket.SO_LINGER, struct.pack("ii", 1, 0))
+                stream.sendall(framed(enrolment(number, b"u%d" % number)))
+        time.sleep(0.5)
+    with server.connect() as last:
+        assert ask(last, HELLO) == welcome(10)
+    logged = [line.split(" ", 4)[4] for line in server.end(12) if ": log: " in line]
+    assert [line for line in logged if not line.startswith("end of")] == ["user %d" % n for n in range(1, 11)], logged
+
+
+def a_server_that_is_stopped_and_goes_on():
+    """Sessions that wait for a client, and one that waits until its client takes its replies, go on where they were."""
+    server = Server(new_folder(), 2)
+    with server.connect() as waiting, socket.socket() as full:
+        assert ask(waiting, HELLO) == welcome(0)
+        # A client with little room for replies.
+        full.setsockopt(socket.SOL_SOCKET, socket.SO_RCVBUF, 4096)
+        full.settimeout(SECONDS)
+        full.connect(("127.0.0.1", server.port))
+        count = 20_000
+        sender = threading.Thread(target=full.sendall, args=(framed(HELLO) * count,))
+        sender.start()
+        time.sleep(1)
+        for _ in range(3):
+            server.process.send_signal(signal.SIGSTOP)
+            time.sleep(0.2)
+            server.process.send_signal(signal.SIGCONT)
+            time.sleep(0.2)
+        assert ask(waiting, HELLO) == welcome(0)
+        assert all(reply(full) == welcome(0) for _ in range(count))
+        sender.join()
+    assert server.end(2) == []
+
+
 # ---- statuses
 
 
@@ -356,6 +398,57 @@ def files_that_cant_be_used():
     refused(folder, settings(1), 4, b"error disk\n", "store.book: the server may not read and write it", **user)
 
 
+def files_that_are_other_files():
+    """A file of the store under whose name the settings, the store's other file or a link is found: nothing of what it
+    leads to is written."""
+    other = "it is one file with the store's other file or with the settings"
+    for name in ("book", "blobs"):
+        folder = new_folder()
+        text = settings(1)
+        (folder / "settings.toml").touch(0o600)
+        (folder / ("store." + name)).hardlink_to(folder / "settings.toml")
+        refused(folder, text, 4, b"error disk\n", "store.%s: %s" % (name, other))
+        assert (folder / "settings.toml").read_text() == text
+        (folder / ("store." + name)).unlink()
+        (folder / "kept").write_bytes(b"")
+        (folder / ("store." + name)).symlink_to("kept")
+        refused(folder, text, 4, b"error disk\n", "store.%s: it is a symbolic link" % name)
+        assert (folder / "kept").read_bytes() == b""
+    refused(new_folder(), settings(1, blobs="store.book"), 4, b"error disk\n", "store.book: " + other)
+
+
+def closed_streams_in_a_folder_that_isnt_read():
+    """Where a server may not read the folder that it runs in, no file of the store comes to stand where standard output
+    was closed."""
+    folder, user = nobody_but_root()
+    kept = folder / "kept"
+    kept.mkdir(0o700)
+    if user:
+        os.chown(kept, 65534, 65534)
+    (folder / "settings.toml").write_text(settings(1, book="kept/store.book", blobs="kept/store.blobs"))
+    folder.chmod(0o300)
+    words = ["sh", "-c", 'exec "$0" settings.toml <&- >&-', SERVER]
+    done = subprocess.run(words, cwd=folder, capture_output=True, timeout=SECONDS, **user)
+    assert done.returncode == 6, done
+    is_told(done.stderr.decode().replace("kept/", ""), "standard output can't be written")
+    folder.chmod(0o700)
+    # Its line would begin the book, which begins with a gate.
+    assert (kept / "store.book").read_bytes()[:9] == b"\x01OVERENC2", (kept / "store.book").read_bytes()[:20]
+
+
+def no_place_can_be_held():
+    """Where /dev/null isn't there, no file is opened."""
+    if os.geteuid() != 0:
+        return
+    folder = new_folder()
+    (folder / "settings.toml").touch(0o600)
+    (folder / "settings.toml").write_text(settings(1))
+    done, left = run_without_devices(folder, SERVER, "settings.toml")
+    assert (done.returncode, done.stdout) == (6, b""), done
+    assert b"overstored: error: /dev/null: it can't be opened" in done.stderr, done.stderr
+    assert [path.name for path in left.iterdir()] == ["settings.toml"], left
+
+
 def addresses_that_cant_be():
     """One with no port, one whose port is no number, and a host that is another machine."""
     for address in ("127.0.0.1", "127.0.0.1:port"):
@@ -411,9 +504,12 @@ def settings_that_others_may_read():
         server = Server(folder, 1)
         server.connect().close()
         assert server.end(1) == (warned if mode & 0o044 else []), mode
-    environment = {**os.environ, "CREDENTIALS_DIRECTORY": "settings"}
-    process = start(folder, settings(1, mode="full"), env=environment)
-    assert process.communicate(timeout=SECONDS)[1].count(b"warning") == 0
+    (folder / "settings.toml").write_text(settings(1, mode="full"))
+    # The folder of the service manager's files, one whose name this folder's begins with, and none.
+    for place, count in ((str(folder), 0), (str(folder)[:-1], 1), ("", 1), ("settings", 1)):
+        environment = {**os.environ, "CREDENTIALS_DIRECTORY": place}
+        done = subprocess.run([SERVER, folder / "settings.toml"], cwd=folder, env=environment, capture_output=True)
+        assert done.returncode == 9 and done.stderr.count(b"warning") == count, (place, done)
 
 
 def stores_of_others():
@@ -600,8 +696,13 @@ CASES = [
     sessions_at_once,
     broken_sessions,
     logged,
+    accepted_updates_whose_replies_are_lost,
+    a_server_that_is_stopped_and_goes_on,
     statuses,
     files_that_cant_be_used,
+    files_that_are_other_files,
+    closed_streams_in_a_folder_that_isnt_read,
+    no_place_can_be_held,
     addresses_that_cant_be,
     stores_that_begin,
     stores_of_an_older_format,

@@ -1,11 +1,13 @@
 """Runs the program where `run` can't be run in a proof: every exit status over real files, what standard
 error says of some, standard streams that are closed at the start, a reader that is gone, replies that
-are counted on a terminal, files that are folders, two programs at once, a stop after each write of a
+are counted on a terminal, files that are folders, links or other files of the store, two programs at once, a stop
+after each write of a
 grant, 300 kills, 1,000 more while files are written to other blocks, and two loads of one number, which print
 the same.
 
 Run, after `rt run` has built the program: python3 tools/program_cases.py crates/overstore/out/overstore
 """
+import fcntl
 import os
 import pathlib
 import pty
@@ -13,11 +15,12 @@ import random
 import resource
 import shutil
 import signal
+import struct
 import subprocess
 import sys
 import time
 
-from common import KEYS, new_folder
+from common import KEYS, new_folder, run_without_devices
 
 PROGRAM = str(pathlib.Path(sys.argv[1]).resolve())
 KILLS, KILLS_IN_MOVES = 300, 1000
@@ -275,6 +278,70 @@ def writes_that_fail():
     expect(run(folder), 0, b"end epoch 0\n")
 
 
+def refused_and_kept(folder, status, lines, name, why):
+    """A run ends so, names this file, and changes none of those that are there."""
+    before = files_of(folder)
+    found, put, said = told(folder, "run", "full", script=b"enrol b\nread a f\n")
+    assert (found, put) == (status, lines), (name, why, found, put, said)
+    assert said.startswith("overstore: error: %s: " % name) and why in said, said
+    assert {path: data for path, data in files_of(folder).items() if path in before} == before, (name, why)
+
+
+def traces_that_are_other_files():
+    """A trace under whose name another file is found, by either kind of link, ends the run before a frame is put, and
+    nothing of that file is lost. A link to a device is one to nothing that could be lost."""
+    for name in ("keys.hex", "store.book", "store.blobs"):
+        folder = store_folder()
+        expect(run(folder, b"enrol a\ncreate f a 3\nxyz\n", mode="full"), 0, b"ok 1\nok 2\nend epoch 2\n")
+        trace = folder / "trace.bin"
+        trace.unlink()
+        trace.hardlink_to(folder / name)
+        refused_and_kept(folder, 6, b"", "trace.bin", "it is one file with another that the program uses")
+        trace.unlink()
+        trace.symlink_to(name)
+        refused_and_kept(folder, 6, b"", "trace.bin", "it is a symbolic link")
+    (folder / "notes").write_bytes(b"kept")
+    for goal in ("notes", "nowhere"):
+        trace.unlink()
+        trace.symlink_to(goal)
+        refused_and_kept(folder, 6, b"", "trace.bin", "it is a symbolic link")
+    assert not (folder / "nowhere").exists()
+    trace.unlink()
+    trace.write_bytes(b"kept")
+    with open(trace, "ab") as other:
+        # A lock of this open file, which other opens of this program leave alone.
+        fcntl.fcntl(other, fcntl.F_OFD_SETLK, struct.pack("hhxxxxqqixxxx", fcntl.F_WRLCK, os.SEEK_SET, 0, 0, 0))
+        refused_and_kept(folder, 6, b"", "trace.bin", "another program has it in use")
+    trace.unlink()
+    trace.symlink_to("/dev/null")
+    expect(run(folder, b"read a f\n", mode="full"), 0, b"data a f 3\nxyz\nend epoch 2\n")
+
+
+def stores_that_are_other_files():
+    """A file of the store under whose name another file is found: nothing of either is written. A link to the masters
+    is followed, since they are only read."""
+    for name in ("store.book", "store.blobs"):
+        folder, other = store_folder(), store_folder()
+        expect(run(folder, b"enrol a\n", mode="full"), 0, b"ok 1\nend epoch 1\n")
+        (folder / name).rename(other / "kept")
+        (folder / name).symlink_to(other / "kept")
+        refused_and_kept(folder, 4, b"error disk\n", name, "it is a symbolic link")
+        (folder / name).unlink()
+        (folder / name).symlink_to("nowhere")
+        refused_and_kept(folder, 4, b"error disk\n", name, "it is a symbolic link")
+        assert not (folder / "nowhere").exists()
+        (folder / name).unlink()
+        (folder / name).hardlink_to(folder / "keys.hex")
+        refused_and_kept(folder, 4, b"error disk\n", name, "it is one file with another that the program uses")
+    folder = store_folder()
+    (folder / "store.book").touch()
+    (folder / "store.blobs").hardlink_to(folder / "store.book")
+    refused_and_kept(folder, 4, b"error disk\n", "store.book", "it is one file with another that the program uses")
+    folder, other = store_folder(keys=False), store_folder()
+    (folder / "keys.hex").symlink_to(other / "keys.hex")
+    expect(run(folder, b"enrol a\n"), 0, b"ok 1\nend epoch 1\n")
+
+
 def a_reader_that_is_gone():
     folder = store_folder()
     behind, before = os.pipe()
@@ -488,6 +555,16 @@ def closed_streams():
         assert status == 0 and lines in (b"end epoch 0\n", b"end epoch 1\n")
 
 
+def no_place_can_be_held():
+    """Where /dev/null isn't there, no file is opened, since it might come to stand where a stream was closed."""
+    if os.geteuid() != 0:
+        return
+    done, left = run_without_devices(store_folder(), PROGRAM, "run", "full")
+    assert (done.returncode, done.stdout) == (6, b""), done
+    assert b"overstore: error: /dev/null can't be opened" in done.stderr, done.stderr
+    assert list(files_of(left)) == ["keys.hex"], left
+
+
 def two_at_once():
     folder = store_folder()
     first = subprocess.Popen([PROGRAM, "run", "delta"], cwd=folder, stdin=subprocess.PIPE, stdout=subprocess.PIPE)
@@ -498,7 +575,7 @@ def two_at_once():
         [PROGRAM, "run", "delta"], cwd=folder, input=b"enrol b\n", stdout=subprocess.PIPE, stderr=subprocess.PIPE
     )
     assert (second.returncode, second.stdout) == (4, b"error disk\n"), second
-    assert b"in use" in second.stderr, second.stderr
+    assert second.stderr.startswith(b"overstore: error: store.book: another program has it in use"), second.stderr
     first.stdin.write(b"enrol c\n")
     first.stdin.close()
     assert first.stdout.read() == b"ok 2\nend epoch 2\n" and first.wait() == 0
@@ -644,6 +721,8 @@ cases = [
     disks_that_fail,
     reads_that_fail,
     writes_that_fail,
+    traces_that_are_other_files,
+    stores_that_are_other_files,
     a_reader_that_is_gone,
     replies_that_are_counted,
     memory_that_is_refused,
@@ -654,6 +733,7 @@ cases = [
     records_that_are_not_the_owners,
     key_files_that_are_none,
     closed_streams,
+    no_place_can_be_held,
     two_at_once,
     a_grant_that_is_stopped,
     killed_at_random,

@@ -8,9 +8,9 @@ that names the user the script has a `revoke` and, behind it, a `list` that show
 enrolled in BOOK, or else in the store.book of this folder, is refused, and so is one whom no list names.
 `make -C dist install` installs it as overstore-revoke-all, with a man page.
 """
-from all_files import NOTHING_TO_DO, end, expect_enrolled_at_hand, lists, put, words
+from all_files import NOTHING_TO_DO, end, expect_enrolled_at_hand, lists, put, user_words
 
-user, *book = words(1, 2, "USER [BOOK] < REPLIES > SCRIPT")
+user, *book = user_words(1, 2, "USER [BOOK] < REPLIES > SCRIPT")
 enrolled = expect_enrolled_at_hand(user, book)
 files = [file for file, listed in lists() if user in listed]
 if not files:

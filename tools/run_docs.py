@@ -11,7 +11,7 @@ A program is known by its name, which ends in overstore, overstored or overctl.
 A block of a page is run where a comment stands above it:
 
     <!-- run -->             in a new folder that has tools/, examples/, dist/ and docs/
-    <!-- run: program -->    so, with the example key file, `overstore` and `overstore-revoke-all`, -list-, -grant-
+    <!-- run: program -->    so, with the example key file, `overstore` and the scripts that are installed with it
     <!-- run: network -->    so, with the example key file, `overstored` and `overctl`
     <!-- run: .., on -->     in the folder of the block before it
     <!-- run: kit -->        in this repository
@@ -49,6 +49,14 @@ NEW_STORE = (
     "overstore: hint: where these keys had a store before, run nothing more: read Restoring in OPERATING.md\n"
 )
 PROGRAMS = ("overstored", "overstore", "overctl")
+# The scripts of tools/ that are installed, by the commands that they are then.
+SCRIPTS = {
+    "list-all": "list_all",
+    "revoke-all": "revoke_all",
+    "grant-all": "grant_all",
+    "usage": "store_usage",
+    "script-of-book": "script_of_book",
+}
 
 
 def lay_keys(folder):
@@ -226,8 +234,8 @@ def run_examples(have):
 words = sys.argv[1:]
 have = {"kit"} if "kit" in words else set()
 BIN = new_folder()
-for name in ("list", "revoke", "grant"):
-    (BIN / f"overstore-{name}-all").symlink_to(ROOT / "tools" / f"{name}_all.py")
+for command, name in SCRIPTS.items():
+    (BIN / f"overstore-{command}").symlink_to(ROOT / "tools" / f"{name}.py")
 for path in (pathlib.Path(word).resolve() for word in words if word != "kit"):
     name = next((name for name in PROGRAMS if path.name.endswith(name)), None)
     if name is None:

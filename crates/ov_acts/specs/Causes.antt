@@ -54,10 +54,18 @@ StoresFile (Create file list) = Unit {0}
 StoresFile (Replace file) = Unit {0}
 StoresFile act = ⊥
 
--- how many bytes of a file of keys are taken at most: one more than the longest of its form has
+-- one byte more than the longest user key line has
+abbrev pub past_key_line : ℕ
+past_key_line = 206
+
+-- one byte more than the longest key file has
+abbrev pub past_key_file : ℕ
+past_key_file = 131
+
+-- how many bytes of a file of keys are taken at most
 abbrev pub most_keys : Act → ℕ
-most_keys (Read file) = 206
-most_keys act = 131
+most_keys (Read file) = past_key_line
+most_keys act = past_key_file
 
 -- how many bytes of a file to be stored are taken at most
 abbrev pub most_bytes : ℕ

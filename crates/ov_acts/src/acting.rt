@@ -9,6 +9,7 @@ ghost use Rattle.ov_protocol.specs.Serving.{Service};
 ghost use Rattle.ov_acts.specs.Acts.{Acts, ChecksBy, OwnsBy, ReadsBy, check_line};
 ghost use Rattle.ov_acts.specs.Causes.{EndsFor, HasKeys, NeedsKeys, StopsFor, StoresFile};
 ghost use Rattle.ov_acts.specs.Causes.{StoresTooMany, TakesFiles, TakesUpTo, most_bytes};
+ghost use Rattle.ov_acts.specs.Causes.{past_key_file, past_key_line};
 ghost use Rattle.ov_acts.specs.Completeness.{AsksByName, IsComplete};
 ghost use Rattle.ov_acts.specs.Endings.{Ends};
 ghost use Rattle.ov_acts.specs.Files.{FindsBody, HasListLimits, IsOwners};
@@ -90,7 +91,7 @@ fn read<K: Source, P: Peer>(
     ensures cause { StopsFor (Rose (K.tells.faults keys.old) (K.tells.faults keys.new))
         (Rose (P.tells.faults peer.old) (P.tells.faults peer.new))
         (IfSome (K.tells.left keys.old) (λ line. ((r : Reader) × IsLineOf line r) → ⊥)) ⊥ result }
-    ensures takes { TakesUpTo K.tells 206 keys.old keys.new }
+    ensures takes { TakesUpTo K.tells past_key_line keys.old keys.new }
 {
     lines_are_read_once();
     let client = match client_of(keys) {
@@ -119,7 +120,7 @@ fn check<K: Source>(alloc: Global, keys: &mut K) -> Result<Octets, Stop>
     ensures acts { ChecksBy (K.tells.left keys.old) result }
     ensures cause { StopsFor (Rose (K.tells.faults keys.old) (K.tells.faults keys.new)) ⊥
         (IfSome (K.tells.left keys.old) (λ file. HasMasters file → ⊥)) ⊥ result }
-    ensures takes { TakesUpTo K.tells 131 keys.old keys.new }
+    ensures takes { TakesUpTo K.tells past_key_file keys.old keys.new }
 {
     let masters = masters_of(keys)?;
     match line_on_check(alloc, &check_value(&Master::new(&masters.base))) {

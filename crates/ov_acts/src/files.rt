@@ -5,7 +5,7 @@ ghost use Rattle.ov_base.specs.declared.limits.TheConstants.{MAX_FILE_BYTES};
 ghost use Rattle.ov_client.specs.KeyLines.{IsLineOf};
 ghost use Rattle.ov_client.specs.Readers.{Reader};
 ghost use Rattle.ov_keyfile.specs.KeyFile.{HasMasters};
-ghost use Rattle.ov_acts.specs.Causes.{StopsFor, TakesUpTo, most_bytes};
+ghost use Rattle.ov_acts.specs.Causes.{StopsFor, TakesUpTo, most_bytes, past_key_file};
 ghost use Rattle.ov_acts.specs.Files.{FindsBytes, FindsMasters, FindsReader};
 
 use crate::stop::Stop;
@@ -24,7 +24,7 @@ const TOO_MANY: usize = MAX_FILE_BYTES as usize + 1;
 
 /// The masters of the key file.
 pub fn masters_of<K: Source>(keys: &mut K) -> Result<Masters, Stop>
-    ensures takes { TakesUpTo K.tells 131 keys.old keys.new }
+    ensures takes { TakesUpTo K.tells past_key_file keys.old keys.new }
     ensures found { FindsMasters (K.tells.left keys.old) result }
     ensures cause { StopsFor (Rose (K.tells.faults keys.old) (K.tells.faults keys.new)) ⊥
         (IfSome (K.tells.left keys.old) (λ file. HasMasters file → ⊥)) ⊥ result }

@@ -13,12 +13,14 @@ ghost use Rattle.ov_acts.specs.declared.job.Job.{Job as JobValue};
 use crate::job::{Act, Job};
 use crate::line::judge;
 use clap::error::ErrorKind;
+use ov_base::limits::MAX_LINE_BYTES;
 use ov_base::{Memory, Name, Names, Octets};
 use ov_script::list_of;
 use std::alloc::Global;
 
-/// Bytes of LIST, at most.
-pub const MAX_WRITTEN_LIST: usize = 70_000;
+/// Bytes of LIST, at most: as many as a line of a script has, so that each list that a script can
+/// have can be written.
+pub const MAX_WRITTEN_LIST: usize = MAX_LINE_BYTES;
 
 /// The names of the list that a word is.
 pub fn names_of(alloc: Global, word: &str) -> Result<Option<Names>, Memory>

@@ -174,11 +174,6 @@ with_last-0 w block x = below_fours (λ r c. r + c < 6 → byte_in (rounds w (wi
     (λ lt. refl) (λ lt. refl) (λ lt. refl) (λ lt. refl) (λ lt. refl) (λ lt. refl) (λ lt. refl) (λ lt. refl)
     (λ lt. refl) (λ lt. refl) (λ lt. refl) (λ lt. refl) (λ lt. refl) (λ lt. refl) (λ lt. refl) (λ lt. absurd (omega arith))
 
-pub last_byte-0 : (w : List (List ℕ)) (block : List ℕ) (x : ℕ)
-    → byte_in (rounds w (with_last block x) 0) 3 3 ≡ bit_xor x (slice_index (word_in w 3) 3)
-unfolding rounds
-last_byte-0 w block x = refl
-
 -- column 0 after round 1
 pub with_last-1 : (w : List (List ℕ)) (block : List ℕ) (x r : ℕ) → r < 4
     → byte_in (rounds w (with_last block x) 1) r 0

@@ -26,12 +26,6 @@ below f e y lt = ltb-true _ _ (at_each 256 (λ x. ltb (f x) 256) (λ x. true) e 
 pub from_tower-lt : (y : ℕ) → y < 256 → from_tower y < 256
 from_tower-lt = below from_tower refl
 
-pub one_of-lt : (y : ℕ) → y < 256 → one_of y < 256
-one_of-lt = below one_of refl
-
-pub two_of-lt : (y : ℕ) → y < 256 → two_of y < 256
-two_of-lt = below two_of refl
-
 pub into_tower-lt : (x : ℕ) → x < 256 → into_tower x < 256
 into_tower-lt = below into_tower refl
 

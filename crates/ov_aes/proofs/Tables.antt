@@ -24,9 +24,6 @@ pub sbox_entry : (b : ℕ) → b < 256 → get_or SBOX b 0 ≡ sbox b
 unfolding sbox
 sbox_entry = at_each 256 (λ b. get_or SBOX b 0) sbox refl
 
-pub power_entry : (n : ℕ) → n < 7 → get_or POWERS_OF_X n 0 ≡ power_of_x n
-power_entry = at_each 7 (λ n. get_or POWERS_OF_X n 0) power_of_x refl
-
 -- ---- the terms of a column, from the S-box's byte s
 
 abbrev pub first_term : ℕ → List ℕ

@@ -14,11 +14,6 @@ IsBlock v = (length v ≡ 16) × Each1 (Fits w8) v
 abbrev pub down : ℕ → ℕ → ℕ
 down a b = a / 2 ^ b
 
--- two functions that agree on all bytes
-pub map_same : (f g : ℕ → ℕ) → map f (range_with_len 0 256) ≡ map g (range_with_len 0 256) → (v : List ℕ) → Each1 (Fits w8) v → map f v ≡ map g v
-map_same f g e [] h = refl
-map_same f g e (x ∷ xs) h = rw (at_byte f g e x h.0.fits, map_same f g e xs h.1) refl
-
 true_at : (b : Bool) → b ≡ true → T b
 true_at b e = rw e tt
 

@@ -16,9 +16,6 @@ pub struct Aes256 {
     words: KeySchedule,
 }
 
-/// [`Aes256`] by the way in which it is computed.
-pub type TableAes256 = Aes256;
-
 impl Model for Aes256 {
     ghost Value = { List ℕ };
 

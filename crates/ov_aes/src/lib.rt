@@ -24,7 +24,7 @@ mod sbox;
 mod tower;
 mod weights;
 
-pub use cipher::{Aes256, TableAes256};
+pub use cipher::Aes256;
 pub use front::Front;
 pub use lanes::LaneAes256;
 pub use row_blocks::Blocks;

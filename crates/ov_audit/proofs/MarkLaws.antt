@@ -154,14 +154,6 @@ listed_is users c sound file =
       by_file None = sym (meets-empty users)
       by_file (Some f) = list_is users c sound f.node f.surface
 
--- ---- the step of a pass
-
--- the marks with the accesses from a place on are those with the one there, and then the rest
-pub marked_step : (users : ℕ) (access : Access) (accesses : List Access) (marks : List Bool)
-    → marks_with users (access ∷ accesses) marks
-    ≡ marks_with users accesses (marked_if (has users access.user) marks access.node)
-marked_step users access accesses marks = refl
-
 -- ---- the marks of a state
 
 -- each access token is to a base node that has a mark

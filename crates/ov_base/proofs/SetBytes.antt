@@ -11,31 +11,6 @@ unfolding bytes_of
 length-bytes_of zero set = refl
 length-bytes_of (suc count) set = ap suc (length-bytes_of count (set / 256))
 
--- each is a byte
-pub bytes_of-fit : (count set i : ℕ) → get_or (bytes_of count set) i 0 < 256
-unfolding bytes_of
-bytes_of-fit zero set i = omega arith
-bytes_of-fit (suc count) set zero = omega arith
-bytes_of-fit (suc count) set (suc i) = bytes_of-fit count (set / 256) i
-
--- a user's bit
-pub bit_of_byte : (count set n : ℕ) → n < 8 * count → bit_at (get_or (bytes_of count set) (n / 8) 0) (n % 8) ≡ bit_at set n
-unfolding bytes_of
-bit_of_byte zero set n h = absurd (omega arith)
-bit_of_byte (suc count) set n h =
-    let whole : set ≡ set / 256 * 2 ^ 8 + set % 256 = omega arith in
-    elim (cases_lt n 8) [
-      | inl low ↦
-          let row : n / 8 ≡ 0 = omega arith in
-          let col : n % 8 ≡ n = omega arith in
-          rw (row, col) (sym (bit_at_cat_low (set / 256) 8 (set % 256) n low) ∙ ap (λ s. bit_at s n) (sym whole))
-      | inr high ↦
-          let row : n / 8 ≡ suc ((n - 8) / 8) = omega arith in
-          let col : n % 8 ≡ (n - 8) % 8 = omega arith in
-          rw (row, col) (bit_of_byte count (set / 256) (n - 8) (omega arith)
-          ∙ sym (bit_at_cat_high (set / 256) 8 (set % 256) n (omega arith) high) ∙ ap (λ s. bit_at s n) (sym whole))
-    ]
-
 -- the bytes of a set that fits them are the set again
 pub set_of_bytes-bytes_of : (count set : ℕ) → set < 256 ^ count → set_of_bytes (bytes_of count set) ≡ set
 unfolding bytes_of set_of_bytes

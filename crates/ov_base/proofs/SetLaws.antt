@@ -148,9 +148,6 @@ within-Within a b h n here = and_left (has a n) (has b n) (sym (has-both a b n) 
 pub Within-within : (a b : ℕ) → Within a b → within a b ≡ true
 Within-within a b h = eq-eqb _ _ (same_members (bit_and a b) a (λ n. has-both a b n ∙ and_is_left (has a n) (has b n) (h n)))
 
-pub within-refl : (a : ℕ) → within a a ≡ true
-within-refl a = Within-within a a (λ n h. h)
-
 pub empty_within : (a : ℕ) → Within empty a
 empty_within a n h = absurd (empty-Has n h)
 
@@ -190,20 +187,6 @@ union_same a = union_within_left a a (λ n h. h)
 
 pub union_comm : (a b : ℕ) → union a b ≡ union b a
 union_comm a b = each_within _ _ (union_within a b _ (union_right b a) (union_left b a)) (union_within b a _ (union_right a b) (union_left a b))
-
-pub union_assoc : (a b c : ℕ) → union (union a b) c ≡ union a (union b c)
-union_assoc a b c =
-    let all : ℕ = union a (union b c) in
-    let whole : ℕ = union (union a b) c in
-    let a_all : Within a all = union_left a (union b c) in
-    let b_all : Within b all = λ n h. union_right a (union b c) n (union_left b c n h) in
-    let c_all : Within c all = λ n h. union_right a (union b c) n (union_right b c n h) in
-    let a_whole : Within a whole = λ n h. union_left (union a b) c n (union_left a b n h) in
-    let b_whole : Within b whole = λ n h. union_left (union a b) c n (union_right a b n h) in
-    let c_whole : Within c whole = union_right (union a b) c in
-    each_within whole all
-    (union_within (union a b) c all (union_within a b all a_all b_all) c_all)
-    (union_within a (union b c) whole a_whole (union_within b c whole b_whole c_whole))
 
 -- ---- limits
 

@@ -100,22 +100,6 @@ and_parts : (x y : Bool) → (x && y) ≡ true → (x ≡ true) × (y ≡ true)
 and_parts true y e = (refl, e)
 and_parts false y e = absurd (true≢false (sym e))
 
-and_true : (x : Bool) → (x && true) ≡ x
-and_true true = refl
-and_true false = refl
-
-and_false : (x : Bool) → (x && false) ≡ false
-and_false true = refl
-and_false false = refl
-
-and_true_or : (x : Bool) → ((x && true) || false) ≡ x
-and_true_or true = refl
-and_true_or false = refl
-
-and_false_or : (x : Bool) → ((x && false) || true) ≡ true
-and_false_or true = refl
-and_false_or false = refl
-
 -- ---- sizes of unions
 
 low_union : (a b : ℕ) → union a b % 2 + bit_and a b % 2 ≡ a % 2 + b % 2
@@ -159,26 +143,3 @@ size-with s n new =
 
 pub with_member : (s n : ℕ) → Has s n → with s n ≡ s
 with_member s n h = union_within_left (single n) s (single_within n s h)
-
-pub without_other : (s n : ℕ) → has s n ≡ false → without s n ≡ s
-without_other s n absent = same_members _ _ (λ m. has-without s n m ∙ keeps m) where
-  keeps : (m : ℕ) → (has s m && not (m == n)) ≡ has s m
-  keeps m = elim (cases_eq m n) [
-    | inl same ↦ rw (same, absent) refl
-    | inr other ↦ rw (ne_eqb m n other) (and_true (has s m))
-  ]
-
--- a user who is put back
-pub with-without : (s n : ℕ) → Has s n → with (without s n) n ≡ s
-with-without s n h = same_members _ _ (λ m. has-with (without s n) n m ∙ ap (λ b. b || m == n) (has-without s n m) ∙ back m) where
-  back : (m : ℕ) → ((has s m && not (m == n)) || m == n) ≡ has s m
-  back m = elim (cases_eq m n) [
-    | inl same ↦ rw (same, h, eq-eqb n n refl) refl
-    | inr other ↦ rw (ne_eqb m n other) (and_true_or (has s m))
-  ]
-
-pub without-has : (s n : ℕ) → has (without s n) n ≡ false
-without-has s n = has-without s n n ∙ rw (eq-eqb n n refl) (and_false (has s n))
-
-pub size-without : (s n : ℕ) → Has s n → size (without s n) + 1 ≡ size s
-size-without s n h = sym (size-with (without s n) n (without-has s n)) ∙ ap size (with-without s n h)

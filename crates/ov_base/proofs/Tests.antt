@@ -11,18 +11,9 @@ lt_is_true m n low = grind (arith, nat_tests)
 pub lt_is_false : (m n : ℕ) → n ≤ m → nat_lt m n ≡ false
 lt_is_false m n high = grind (arith, nat_tests)
 
-pub le_is_true : (m n : ℕ) → m ≤ n → nat_le m n ≡ true
-le_is_true m n low = grind (arith, nat_tests)
-
-pub le_is_false : (m n : ℕ) → n < m → nat_le m n ≡ false
-le_is_false m n high = grind (arith, nat_tests)
-
 -- a number that is below isn't refused, and one that is not below is
 pub below_passes : (m n : ℕ) → m < n → not (nat_lt m n) ≡ false
 below_passes m n low = ap not (lt_is_true m n low)
-
-pub past_fails : (m n : ℕ) → n ≤ m → not (nat_lt m n) ≡ true
-past_fails m n high = ap not (lt_is_false m n high)
 
 -- ---- what a test says of an order
 
@@ -31,9 +22,6 @@ lt_of_true m n e = grind (arith, nat_tests)
 
 pub ge_of_false : (m n : ℕ) → nat_lt m n ≡ false → n ≤ m
 ge_of_false m n e = grind (arith, nat_tests)
-
-pub le_of_true : (m n : ℕ) → nat_le m n ≡ true → m ≤ n
-le_of_true m n e = grind (arith, nat_tests)
 
 pub gt_of_false : (m n : ℕ) → nat_le m n ≡ false → n < m
 gt_of_false m n e = grind (arith, nat_tests)

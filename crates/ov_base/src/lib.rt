@@ -31,7 +31,7 @@ mod user_set;
 pub use key::Key;
 pub use memory::Memory;
 pub use mode::Mode;
-pub use name::Name;
+pub use name::{Name, is_letter_or_digit, is_name_byte};
 pub use names::Names;
 pub use octets::Octets;
 pub use refusal::Refusal;

@@ -32,13 +32,15 @@ impl Model for Name {
     ghost invariant = { λ n. (n.len ≤ MAX_NAME_BYTES) × IsName (take n.len n.bytes) };
 }
 
-fn is_letter_or_digit(byte: u8) -> bool
+/// Whether the byte is a letter `a-z` or a digit: a name begins with one.
+pub fn is_letter_or_digit(byte: u8) -> bool
     ensures { result ≡ is_letter_or_digit byte }
 {
     byte.is_ascii_lowercase() || byte.is_ascii_digit()
 }
 
-fn is_name_byte(byte: u8) -> bool
+/// Whether the byte is a letter, a digit, `.`, `_` or `-`: a name may have it anywhere but first.
+pub fn is_name_byte(byte: u8) -> bool
     ensures { result ≡ is_name_byte byte }
 {
     is_letter_or_digit(byte) || byte == b'.' || byte == b'_' || byte == b'-'

@@ -18,26 +18,7 @@ use Rattle.ov_base_layer.specs.Holders.{Access, access_of, accesses_of, holders_
 same_number : (a b : ℕ) → a ≡ b → (a == b) ≡ true
 same_number a b e = grind (arith, nat_tests)
 
-other_number : (a b : ℕ) → a ≢ b → (a == b) ≡ false
-other_number a b e = grind (arith, nat_tests)
-
 -- ---- one access after another
-
-module _ (grants : List Grant) (i : ℕ) (d grant : Grant) (node set set2 : ℕ) (inside : i < length grants) (here : get_or grants i d ≡ grant) where
-  next : accesses_of (drop i grants) ≡ access_of grant ∷ accesses_of (drop (i + 1) grants)
-  next = rw (add-one, drop-cons grants i d inside, here) refl
-
-  -- an access to the node
-  pub joined_step : grant.node ≡ node → set2 ≡ with set grant.user
-      → with_accesses (accesses_of (drop (i + 1) grants)) node set2 ≡ with_accesses (accesses_of (drop i grants)) node set
-  joined_step same more = ap (λ s. with_accesses (accesses_of (drop (i + 1) grants)) node s) (more ∙ ap (λ b. with_if b set grant.user) (sym (same_number grant.node node same)))
-      ∙ ap (λ a. with_accesses a node set) (sym next)
-
-  -- an access to another node
-  pub other_step : grant.node ≢ node → set2 ≡ set
-      → with_accesses (accesses_of (drop (i + 1) grants)) node set2 ≡ with_accesses (accesses_of (drop i grants)) node set
-  other_step other still = ap (λ s. with_accesses (accesses_of (drop (i + 1) grants)) node s) (still ∙ ap (λ b. with_if b set grant.user) (sym (other_number grant.node node other)))
-      ∙ ap (λ a. with_accesses a node set) (sym next)
 
 -- the access of a grant at a place
 pub access_at : (grants : List Grant) (i : ℕ) (d : Grant) → i < length grants

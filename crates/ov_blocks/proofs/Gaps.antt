@@ -68,31 +68,11 @@ more_behind from (x ∷ held) (suc p) (suc k) e lt le = more_behind (x.first + x
 -- ---- what is known of them
 
 module _ (held : List Extent) (gap until : ℕ) (was : IsPacked (record { gap = gap; until = until }) held) where
-  -- one extent further
-  pub further : until < length held → gap_at 0 held until ≡ 0 → IsPacked (record { gap = gap; until = until + 1 }) held
-  further lt none = record {
-    inside = omega (arith, lt);
-    tight = λ k below other. elim (cases_eq k until) [
-      | inl same ↦ ap (gap_at 0 held) same ∙ none
-      | inr differ ↦ was.tight k (omega (arith, below, differ)) other
-    ];
-  }
-
-  -- one extent further, where the first gap is the one before that
-  pub over : until < length held → AreShort 0 until 1 held → IsPacked (record { gap = until; until = until + 1 }) held
-  over lt none = record { inside = omega (arith, lt); tight = λ k below other. omega (arith, none k (omega arith) (omega (arith, below, other))) }
-
   -- a gap where nothing is known tells nothing
   pub short : (start count : ℕ) → 1 ≤ count → (gap < start) ⊎ (until ≤ gap) → AreShort start until count held
   short start count some out k ge lt =
       let differ : k ≢ gap = λ same. elim out [ inl low ↦ omega (arith, low, ge, same) | inr high ↦ omega (arith, high, lt, same) ] in
       omega (arith, was.tight k lt differ, some)
-
-  pub short_at : (start count : ℕ) → 1 ≤ count → gap_at 0 held gap < count → AreShort start until count held
-  short_at start count some fits k ge lt = elim (cases_eq k gap) [
-    | inl same ↦ omega (arith, fits, ap (gap_at 0 held) same)
-    | inr differ ↦ omega (arith, was.tight k lt differ, some)
-  ]
 
   -- ---- with one extent less
 

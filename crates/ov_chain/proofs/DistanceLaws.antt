@@ -106,10 +106,6 @@ distance_beyond sets root n ds es other inside edges right = go (least_start ds 
   go None e = λ (m, w). none m w e
   go (Some k) e = some k e
 
--- the distance of the root itself is 0
-pub distance_root : (sets : List ℕ) (root : ℕ) → IsFound sets root root (Some 0)
-distance_root sets root = (record { walk = refl; least = λ m w. omega arith }, omega arith)
-
 -- distances are unique
 same_distance : (sets : List ℕ) (root c j k : ℕ) → IsDistance sets root c j → IsDistance sets root c k → j ≡ k
 same_distance sets root c j k p q = omega (arith, p.least k q.walk, q.least j p.walk)

@@ -23,10 +23,6 @@ pub marked-keeps : (edges : List Edge) (marks : List Bool) (n : ℕ) → IsMarke
 marked-keeps [] marks n h = h
 marked-keeps (e ∷ edges) marks n h = marked-keeps edges (slice_set marks e.from true) n (set-keeps marks e.from n h)
 
-pub marked-length : (edges : List Edge) (marks : List Bool) → length (starts_marked edges marks) ≡ length marks
-marked-length [] marks = refl
-marked-length (e ∷ edges) marks = marked-length edges (slice_set marks e.from true) ∙ length-set marks e.from true
-
 -- each start is marked
 pub marked-marks : (edges : List Edge) (marks : List Bool) (from : ℕ) → Contains (starts_of edges) from
     → from < length marks → IsMarked (starts_marked edges marks) from
@@ -53,12 +49,6 @@ marked-others (e ∷ edges) marks bound n low up h =
 abbrev pub IsClosedFrom : List ℕ → ℕ → List Bool → Type 0
 IsClosedFrom sets first marks = (node from : ℕ) → first ≤ node → IsMarked marks node → Contains (starts sets node) from → IsMarked marks from
 
-pub closed_past : (sets : List ℕ) (first : ℕ) (marks : List Bool) → length marks ≤ first
-    → IsClosedFrom sets first marks
-closed_past sets first marks past node from up h c =
-    let none : get_or marks node false ≡ false = get_or_past marks node false (omega arith) in
-    absurd (true≢false (sym h ∙ none))
-
 pub closed_more : (sets : List ℕ) (n : ℕ) (edges : List Edge) (marks : List Bool)
     → starts_of edges ≡ starts sets n → n < length marks → IsClosedFrom sets (n + 1) marks
     → IsClosedFrom sets n (starts_marked edges marks)
@@ -70,13 +60,6 @@ closed_more sets n edges marks covers inside closed node from up h c = elim (cas
   | inr other ↦
       let before : IsMarked marks node = marked-others edges marks n node (λ f i. (starts-Contains sets n f (subst (λ (xs : List ℕ). Contains xs f) covers i)).0) up h in
       marked-keeps edges marks from (closed node from (omega arith) before c)
-]
-
-pub closed_same : (sets : List ℕ) (n : ℕ) (marks : List Bool) → get_or marks n false ≡ false
-    → IsClosedFrom sets (n + 1) marks → IsClosedFrom sets n marks
-closed_same sets n marks none closed node from up h c = elim (cases_eq node n) [
-  | inl same ↦ absurd (true≢false (sym h ∙ ap (λ k. get_or marks k false) same ∙ none))
-  | inr other ↦ closed node from (omega arith) h c
 ]
 
 -- whatever leads to a marked node is marked

@@ -37,15 +37,6 @@ pub record IsBack (kind : Kind) (graph : Contents) (root node far here left : �
   pub rest : (steps : List Step) → IsChosen kind graph root here left steps
       → IsChosen kind graph root node far (steps ++ reverse behind)
 
-pub back_start : (kind : Kind) (graph : Contents) (root node far : ℕ) → IsDistance graph.sets root node far
-    → IsBack kind graph root node far node far []
-back_start kind graph root node far d = record {
-  near = d;
-  leads = (0, refl);
-  low = omega arith;
-  rest = λ steps c. subst (λ (s : List Step). IsChosen kind graph root node far s) (sym (append-nil steps)) c;
-}
-
 pub back_more : (kind : Kind) (graph : Contents) (root node far here left : ℕ) (behind : List Step) (ds : List (Option ℕ)) (es : List Edge) (edge : Edge)
     → here < length graph.sets → es ≡ edges_to graph here → starts_of es ≡ starts graph.sets here
     → StartsAreFound graph.sets root ds es → first_near ds left es ≡ Some edge

@@ -5,7 +5,7 @@ ghost use Rattle.std.specs.Prelude.{◌<◌};
 mod vectors;
 
 use crate::bytes::fill;
-use ov_keyed::{MacKey, Pieces, mac, mac_of_pieces, same};
+use ov_keyed::{MacKey, Pieces, mac, same};
 use std::process::Abort;
 use vectors::ROWS;
 
@@ -99,7 +99,11 @@ fn a_message_in_pieces_of_any_length_has_one_tag(rt: HostRuntime) {
         assert_eq!(rt; tag_in_pieces(&key, message, length), JEFE);
     }
     let pieces: [&[u8]; 4] = [b"what do ya", b"", b" want for", b" nothing?"];
-    assert_eq!(rt; mac_of_pieces(&key, &pieces), JEFE);
+    let mut held = Pieces::new(&key);
+    for piece in pieces {
+        held.add(piece);
+    }
+    assert_eq!(rt; held.finish(), JEFE);
 }
 
 #[test]

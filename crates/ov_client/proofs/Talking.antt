@@ -34,10 +34,6 @@ module _ {P : Type 0} (peer : PeerTells P) (r : Reader) (file : List ℕ) where
   goes_both stage mid last (a ∷ asks) more (next, one, goes) then =
       (next, one, goes_both next mid last asks more goes then)
 
-  -- nothing was asked
-  pub stays : (p : P) (stage : Stage) → Reaches peer p p r file stage stage
-  stays p stage = ([], refl, refl)
-
   pub then_reaches : (p m q : P) (stage mid last : Stage) → Reaches peer p m r file stage mid
       → Reaches peer m q r file mid last → Reaches peer p q r file stage last
   then_reaches p m q stage mid last (asks, leads, goes) (more, leads_on, goes_further) = (
@@ -68,16 +64,6 @@ module _ {P : Type 0} (peer : PeerTells P) (r : Reader) (file : List ℕ) where
   -- memory runs out between two asks
   pub forgot : (p : P) (stage : Stage) → ReadsFrom peer p p r file stage (Err client.Memory)
   forgot p stage = ([], None, (p, refl, refl), (stage, refl, inr refl))
-
-  -- memory runs out after a read that is done
-  pub forgot_bytes : (p q : P) (stage : Stage) (bytes : List ℕ)
-      → ReadsFrom peer p q r file stage (Ok bytes)
-      → ReadsFrom peer p q r file stage (Err client.Memory)
-  forgot_bytes p q stage bytes (asks, None, leads, (last, goes, closes)) =
-      (asks, None, leads, (last, goes, inr refl))
-  forgot_bytes p q stage bytes (asks, Some frame, leads, (last, goes, (is, inl link))) = absurd (cc)
-  forgot_bytes p q stage bytes (asks, Some frame, leads, (last, goes, (is, inr memory))) = absurd
-      (cc)
 
   -- ---- one ask
 

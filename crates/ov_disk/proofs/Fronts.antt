@@ -28,12 +28,6 @@ torn_in_longer : (area : Area) (at n m : ℕ) (i j : Image) → n ≤ m → Torn
 torn_in_longer Book at n m i j le torn = (torn_longer at n m i.book j.book le torn.0, torn.1)
 torn_in_longer Blobs at n m i j le torn = (torn_longer at n m i.blobs j.blobs le torn.0, torn.1)
 
--- the first bytes of a write, put alone, are one of the ways in which a crash cuts it short
-pub torn_in_front : (area : Area) (at keep : ℕ) (bytes : List ℕ) (i : Image)
-    → at ≤ length (bytes_of area i) → TornIn area at (length bytes) i (written area at (take keep bytes) i)
-torn_in_front area at keep bytes i le =
-    torn_in_longer area at (length (take keep bytes)) (length bytes) i (written area at (take keep bytes) i) (omega (arith, length-take keep bytes)) (torn_in_done area at (take keep bytes) i le)
-
 -- what a disk tells after a write of n bytes, whether it was done or failed
 pub record WriteTells (area : Area) (at n : ℕ) (old new : Tape) : Type 0 where
   pub told : StaysTold (reads_of old) (reads_of new)

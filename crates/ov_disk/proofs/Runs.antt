@@ -63,21 +63,6 @@ module _ {D : Type 0} (tells : DiskTells D) where
   pub untouched : (old : D) → IsUntouched tells old old
   untouched old = record { reads_same = refl; no_more = λ c left. left; any_moment = started old (tells.may_leave old) (λ c left. left) }
 
-  -- one call more that writes nothing
-  pub looks_on : (old mid new : D) → IsUntouched tells old mid → tells.reads new ≡ tells.reads mid → Narrows (tells.may_leave mid) (tells.may_leave new)
-      → Elapses tells mid new → IsUntouched tells old new
-  looks_on old mid new so_far same crash time = record {
-    reads_same = same ∙ so_far.reads_same;
-    no_more = λ c left. so_far.no_more c (crash c left);
-    any_moment = goes_on old mid new (tells.may_leave old) so_far.any_moment time (λ c left. so_far.no_more c (crash c left));
-  }
-
-  -- the moments of a run that writes nothing, after one call more that may have failed to tell what
-  -- it reads, as a sync that failed
-  pub looked_moments : (old mid new : D) → IsUntouched tells old mid → Narrows (tells.may_leave mid) (tells.may_leave new)
-      → Elapses tells mid new → LeavesOnly tells old new (tells.may_leave old)
-  looked_moments old mid new so_far crash time = goes_on old mid new (tells.may_leave old) so_far.any_moment time (λ c left. so_far.no_more c (crash c left))
-
   -- one such run after another
   pub looks_then : (d0 d1 d2 : D) → IsUntouched tells d0 d1 → IsUntouched tells d1 d2
       → IsUntouched tells d0 d2

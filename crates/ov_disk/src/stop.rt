@@ -1,6 +1,6 @@
 //! What a stop leaves of a disk in memory.
 ghost use Rattle.std.specs.Prelude.{◌≡◌, ltb, IfOk, OnOk};
-ghost use Rattle.ov_disk.specs.Tape.{stop, stepped, torn_write, torn, before, number_of};
+ghost use Rattle.ov_disk.specs.Tape.{stop, stepped, stepped_all, torn_write, torn, before, number_of};
 
 use crate::Tear;
 use crate::areas::Areas;
@@ -54,6 +54,27 @@ fn step(
     }
 }
 
+// Does to both what the changes before this call do, each write to the second as a tear leaves it.
+fn step_all(
+    alloc: Global,
+    tear: Tear,
+    changes: &[Change],
+    call: u64,
+    now: &mut Areas,
+    left: &mut Areas,
+) -> Result<(), Memory>
+    ensures { OnOk result (stop now.new.current left.new.current ≡ stepped_all tear
+        (before call changes.now) (stop now.old.current left.old.current)) }
+{
+    'changes: for change in changes {
+        if !is_before(change, call) {
+            break;
+        }
+        step(alloc, tear, change, now, left)?;
+    }
+    Ok(())
+}
+
 /// What is left of these areas after the calls before this one, each write since the last sync
 /// torn.
 pub fn torn_areas(
@@ -68,11 +89,6 @@ pub fn torn_areas(
 {
     let mut now = areas.started(alloc)?;
     let mut left = areas.started(alloc)?;
-    'changes: for change in changes {
-        if !is_before(change, call) {
-            break;
-        }
-        step(alloc, tear, change, &mut now, &mut left)?;
-    }
+    step_all(alloc, tear, changes, call, &mut now, &mut left)?;
     Ok(left)
 }

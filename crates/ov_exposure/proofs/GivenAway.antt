@@ -21,7 +21,8 @@ use Rattle.ov_history.specs.Closure.{IsRootOf, IsRootOfSome, Reaches, ReachesAll
 use Rattle.ov_history.specs.Closure.{protecting, surface_label}
 use Rattle.ov_history.specs.Sealed.{IsSealed, SealedHistory, catalogue_of, outer_of}
 use Rattle.ov_history.specs.Sound.{IsPlaced, IsSound}
-use Rattle.ov_exposure.specs.Exposure.{AreUsers, CoalitionReadsAsOne, FullReadsWhatWasListed}
+use Rattle.ov_exposure.specs.Exposure.{AccessKeysAreOfHolders, AreUsers, CoalitionReadsAsOne}
+use Rattle.ov_exposure.specs.Exposure.{FullReadsWhatWasListed}
 use Rattle.ov_exposure.specs.Exposure.{HoldsBaseNode, IsGiven, IsListedAt, IsMoment}
 use Rattle.ov_exposure.specs.Exposure.{NoneIsBareInFull, ReadsWhatWasListedOrBare}
 use Rattle.ov_exposure.specs.Exposure.{ServerReadsWhatIsHeld, StoodSo, WasBare, WasListedIn, as_of}
@@ -155,9 +156,6 @@ surface_given c users (Some over) = (given (label_of Surface over) (inr refl), t
 
 module _ (master : List ℕ) (g : SealedHistory) (fit : IsSealed g) (users : List ℕ) (file : ℕ)
     (are : AreUsers g users) where
-  c_now : Catalogue
-  c_now = catalogue_of master g
-
   low : (user : ℕ) → Contains users user → user < length (catalogue_of master g).users
   low user among =
       subst (λ n. user < n) (sym (ap length (users-shown master g fit))) (are user among)
@@ -340,6 +338,27 @@ server_reads_what_is_held master g users file fit are = (
         ),
       ),
 )
+
+pub access_keys_are_of_holders : AccessKeysAreOfHolders
+access_keys_are_of_holders master g users before file f fit are moment stood =
+    let c : Catalogue = catalogue_of master (as_of g before) in
+    let next : Catalogue = catalogue_of master g in
+    let stay = stays master g fit users file are before moment f stood in
+    let base = placed master g fit users file are before moment f stood in
+    let there = low master g fit users file are in
+    let shown = (history_is_shown master next g (fit, refl)).layers in (
+      λ held.
+          let (user, among, holds) =
+          one_holds c next stay (shown_is_sound master g fit) f base users there f.node
+          (no_surface next users (label_of Access f.node) held (not_surface f.node)) in
+          (user, among, subst (λ (y : Layers). Has (holders y f.node) user) shown holds),
+      λ (user, among, holds).
+          with_server next users (label_of Access f.node)
+          (all_reach next users user (label_of Access f.node) among
+          (access_held c next stay (shown_is_sound master g fit) f base user (there user among) f.node
+          base.base
+          (subst (λ (y : Layers). Has (holders y f.node) user) (sym shown) holds))),
+    )
 
 -- ---- several users
 

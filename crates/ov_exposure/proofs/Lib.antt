@@ -7,4 +7,5 @@ pub mod Following
 pub mod Meeting
 pub mod Finding
 pub mod GivenBytes
+pub mod Publishing
 mod Rows

@@ -4,8 +4,9 @@ use Rattle.std.specs.Prelude.{◌≡◌, ◌⊎◌, ◌↔◌, ℕ, ◌+◌, ◌
 use Rattle.std.specs.Prelude.{length, Contains, Some, None}
 use Rattle.ov_base.specs.Sets.{Has}
 use Rattle.ov_base.specs.declared.mode.Mode.TheVariants.{Full}
-use Rattle.ov_tokens.specs.declared.label.Kind.TheVariants.{Surface}
+use Rattle.ov_tokens.specs.declared.label.Kind.TheVariants.{Access, Surface}
 use Rattle.ov_tokens.specs.declared.label.Label.{Label}
+use Rattle.ov_tokens.specs.Labels.{label_of}
 use Rattle.ov_history.specs.Sent.{SealedUpdate}
 use Rattle.ov_history.specs.History.{History, matrix_of}
 use Rattle.ov_history.specs.Places.{living_at}
@@ -13,7 +14,7 @@ use Rattle.ov_history.specs.Lists.{file_at, is_listed}
 use Rattle.ov_history.specs.Layers.{holders, layers_of}
 use Rattle.ov_history.specs.Words.{HasFile, place_in}
 use Rattle.ov_history.specs.Catalogue.{Catalogue, Filed}
-use Rattle.ov_history.specs.Closure.{IsRootOfSome, ReachesAll, protecting}
+use Rattle.ov_history.specs.Closure.{IsRootOfSome, Reaches, ReachesAll, protecting}
 use Rattle.ov_history.specs.Sealed.{SealedHistory, IsSealed, catalogue_of, outer_of}
 
 -- ---- moments
@@ -153,6 +154,17 @@ ServerReadsWhatIsHeld =
     (master : List ℕ) (g : SealedHistory) (users : List ℕ) (file : ℕ)
     → IsSealed g → AreUsers g users
     → CanRead true master g users file ↔ HoldsBaseNode g users file
+
+-- with the keys of all surface nodes besides, a coalition's closure has the access key that a file had
+-- at a moment exactly where one of the coalition is a holder now of the file's base node
+abbrev pub AccessKeysAreOfHolders : Type 0
+AccessKeysAreOfHolders =
+    (master : List ℕ) (g : SealedHistory) (users : List ℕ) (before : List SealedUpdate) (file : ℕ)
+    (f : Filed)
+    → IsSealed g → AreUsers g users → IsMoment g before → StoodSo master g before file f
+    → Reaches (catalogue_of master g) (IsGiven true (catalogue_of master g) users)
+    (label_of Access f.node)
+    ↔ ((user : ℕ) × Contains users user × Has (holders (layers_of (outer_of g)) f.node) user)
 
 -- in Full no file is ever bare
 abbrev pub NoneIsBareInFull : Type 0

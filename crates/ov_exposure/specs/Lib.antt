@@ -1,3 +1,4 @@
 pub mod Exposure
 pub mod Auditing
 pub mod Hoarding
+pub mod Staying

@@ -24,16 +24,18 @@
 //! | `Exposure` | moments, who can read, the causes by which a file is exposed |
 //! | `Auditing` | what an audit notes, one look at a state, and findings |
 //! | `Hoarding` | that what is read by labels comes out as bytes |
+//! | `Staying` | that nodes, edges and tokens stay, once they are published |
 //!
 //! A law is a public function with an empty body, whose contract is the law.
 //!
 //! | law | function |
 //! |---|---|
 //! | who can read was listed, or the file was bare; several users read what one of them does | [`what_was_shown_can_be_read`] |
-//! | with the server, who can read holds the file's base node | [`what_is_held_can_be_read_with_the_server`] |
+//! | with the server, who can read holds the file's base node, and so does who has its access key | [`what_is_held_can_be_read_with_the_server`] |
 //! | exposed files are those that can be read, each by one cause since one epoch | [`what_is_exposed_can_be_read`] |
 //! | an audit of all states so far tells of their history, and its findings are exact | [`audits_go_on`] |
 //! | who can read a file gets its bytes | [`readers_were_given_bytes`] |
+//! | nodes, edges and tokens stay, once they are published | [`what_was_published_stays`] |
 //!
 //! The laws of the first two rows have no premise but that the history is a sealed one and the users
 //! are users at its end. They speak of labels: that two labels have different keys isn't claimed,
@@ -44,5 +46,5 @@ mod exposure;
 
 pub use exposure::{
     audits_go_on, readers_were_given_bytes, what_is_exposed_can_be_read,
-    what_is_held_can_be_read_with_the_server, what_was_shown_can_be_read,
+    what_is_held_can_be_read_with_the_server, what_was_published_stays, what_was_shown_can_be_read,
 };

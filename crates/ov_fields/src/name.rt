@@ -8,20 +8,8 @@ ghost use Rattle.ov_fields.specs.Reading.{byte_at, many_at, name_at, text_at};
 
 use crate::FieldFault;
 use crate::reading::take_byte;
-use ov_base::Name;
 use ov_base::limits::MAX_NAME_BYTES;
-
-fn is_letter_or_digit(byte: u8) -> bool
-    ensures { result ≡ is_letter_or_digit byte }
-{
-    byte.is_ascii_lowercase() || byte.is_ascii_digit()
-}
-
-fn is_name_byte(byte: u8) -> bool
-    ensures { result ≡ is_name_byte byte }
-{
-    is_letter_or_digit(byte) || byte == b'.' || byte == b'_' || byte == b'-'
-}
+use ov_base::{Name, is_letter_or_digit, is_name_byte};
 
 #[tactic(auto, unfolding(crate::specs::Reading::byte_at))]
 fn take_first(bytes: &[u8]) -> Result<(u8, &[u8]), FieldFault>

@@ -43,10 +43,6 @@ empty_is_none set earlier h = rw (eq-eqb _ _ (size_none earlier h)) refl
 pub outside_is_none : (set earlier : ℕ) → within earlier set ≡ false → is_candidate set earlier ≡ false
 outside_is_none set earlier h = elim (earlier == empty) as (λ b. (not b && within earlier set && not (earlier == set)) ≡ false) [ true ↦ refl | false ↦ rw h refl ]
 
-pub inside_is : (set earlier : ℕ) → size earlier ≢ 0 → within earlier set ≡ true
-    → is_candidate set earlier ≡ not (earlier == set)
-inside_is set earlier some h = rw (ne_eqb earlier empty (λ none. some (ap size none ∙ size-empty)), h) refl
-
 -- a candidate has fewer users than the set
 pub candidate-size : (set earlier : ℕ) → is_candidate set earlier ≡ true → size earlier < size set
 candidate-size set earlier h = let c = candidate-is set earlier h in size-strict earlier set c.inside c.strict

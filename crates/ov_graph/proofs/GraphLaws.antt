@@ -61,10 +61,6 @@ fresh_plan sets set cover is fresh =
 pub plan-few : (sets : List ℕ) (set : ℕ) → length (plan_of sets set).from ≤ size set
 plan-few sets set = elim (node_of sets set) as (λ o. length (planned o sets set).from ≤ size set) [ Some node ↦ omega arith | None ↦ cover-few sets set ]
 
--- a set of one user or none has no starts
-pub plan-none : (sets : List ℕ) (set : ℕ) → size set ≤ 1 → (plan_of sets set).from ≡ []
-plan-none sets set small = elim (node_of sets set) as (λ o. (planned o sets set).from ≡ []) [ Some node ↦ refl | None ↦ cover-none sets set small ]
-
 -- ---- the edges into a node
 
 module _ (sets : List ℕ) (edges : List (List Edge)) (graph : IsGraph sets edges) where

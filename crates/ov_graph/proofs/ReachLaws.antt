@@ -72,9 +72,3 @@ leads_by_membership sets grown root n u there inside alone = (
   λ w. Walk-Has sets root n w.0 u w.1 (subst (λ s. Has s u) (sym alone) (single-Has u)),
   λ one. Has-Leads (suc n) sets root n u (omega arith) grown there alone inside one,
 )
-
--- a relation that holds of a node and itself, and is closed under edges, holds wherever the edges lead
-pub Leads-least : (sets : List ℕ) (P : ℕ → Type 0) (from to : ℕ) → P from
-    → ((near next : ℕ) → P near → IsEdge sets near next → P next) → Leads sets from to → P to
-Leads-least sets P from to here further (zero, w) = subst P w here
-Leads-least sets P from to here further (suc edges, (near, w, edge)) = further near to (Leads-least sets P from near here further (edges, w)) edge

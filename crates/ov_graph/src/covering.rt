@@ -29,7 +29,8 @@ pub fn is_candidate<const W: usize>(earlier: &UserSet<W>, set: &UserSet<W>) -> b
     earlier.count() > 0 && earlier.within(set) && earlier != set
 }
 
-fn set_at<'a, const W: usize>(
+/// The set of a node, by number: those of the second list come after those of the first.
+pub fn set_at<'a, const W: usize>(
     sets: &'a [UserSet<W>],
     before: &'a [UserSet<W>],
     node: usize,

@@ -2,12 +2,14 @@
 ghost use Rattle.std.specs.Prelude.{◌<◌, ◌≤◌};
 ghost use Rattle.ov_base.specs.declared.limits.TheConstants.{MAX_SET_WORDS};
 
+use crate::asking::{Answers, NodeAnswers, ask_all};
+use crate::calls::{Call, call_both};
 use crate::few::four_users;
 use crate::sets::{expect_edges, expect_full, fill, put, set_of_bits};
 use ov_base::UserSet;
 use ov_base::limits::MAX_SET_WORDS;
 use ov_graph::{Graph, ListGraph};
-use ov_index::*;
+use ov_index::IndexGraph;
 use ov_tokens::{Base, Layer, Surface, Token, Tokens};
 use std::alloc::Global;
 use std::process::Abort;

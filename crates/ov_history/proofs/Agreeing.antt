@@ -223,14 +223,6 @@ agreement_goes_on g h u agree =
 
 -- ---- histories that are right
 
--- with an update as its owner seals it a history is right by the longer plain one
-pub right_goes_on : (k : Masters) (p : PlainHistory) (u : PlainUpdate) (g : SealedHistory)
-    → IsSealedAs k p g
-    → IsSealedAs k (with_plain p u) (with_sealed g (sealed_update k (layers_of (history_of p)) u))
-right_goes_on k p u g right =
-    agreement_goes_on g (sealed k p) (sealed_update k (layers_of (history_of p)) u) right
-    ∙ ap (λ (it : SealedHistory). faded_of it) (sym (sealing_goes_on k p u))
-
 -- a history that is right is a sealed one
 pub right_is_sealed : (k : Masters) (p : PlainHistory) (g : SealedHistory)
     → IsLegal (history_of p) → IsSealedAs k p g → IsSealed g

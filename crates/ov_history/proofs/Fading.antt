@@ -84,11 +84,6 @@ module _ (is_out : ℕ → Bool) where
       ap (λ (files : List (Option Place)). record (outline c) { files = files })
       (places_dim 0 c.files)
 
-  length-dim_all : (number : ℕ) (files : List (Option Filed))
-      → length (dim_all number files) ≡ length files
-  length-dim_all number [] = refl
-  length-dim_all number (f ∷ files) = ap suc (length-dim_all (number + 1) files)
-
   -- ---- surfaces
 
   settled_dimmed : (b : Bool) (epoch : ℕ) (surface : Option ℕ) (f : Filed)

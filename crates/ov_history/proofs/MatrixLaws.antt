@@ -128,20 +128,3 @@ epoch_of-layers_of =
     (λ h u same.
     ap (λ (y : Layers). y.epoch) (layers_of-push h u) ∙ epoch_after (layers_of h) u
     ∙ ap (λ epoch. epoch + 1) same ∙ sym (epoch_of-push h u))
-
-users_after : (y : Layers) (m : Matrix) (u : Update) → y.users ≡ length m.users
-    → (layers_after y u).users ≡ length (changed m u).users
-users_after y m (Enrolled user) same = omega (arith, length-append m.users (user ∷ []))
-users_after y m (Created file list size) same = same
-users_after y m (Granted user file) same = same
-users_after y m (Revoked user file) same = same
-users_after y m (Removed file) same = same
-users_after y m (Replaced file size) same = same
-
-pub users_of-layers_of : (h : History) → (layers_of h).users ≡ length (matrix_of h).users
-users_of-layers_of =
-    each_history (λ (h : History). (layers_of h).users ≡ length (matrix_of h).users) (λ h. refl)
-    (λ h u same.
-    ap (λ (y : Layers). y.users) (layers_of-push h u)
-    ∙ users_after (layers_of h) (matrix_of h) u same
-    ∙ ap (λ (m : Matrix). length m.users) (sym (matrix_of-push h u)))

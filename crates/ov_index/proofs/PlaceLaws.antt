@@ -56,23 +56,6 @@ module _ (sets order : List ℕ) (set middle : ℕ) (ascends : Ascends (IsBefore
     ] refl
   ]
 
--- ---- halves by sizes
-
-module _ (sets order : List ℕ) (users middle : ℕ) (ascends : Ascends (IsLarger sets) order) (there : middle < length order) where
-  pub larger_middle : users ≤ size (get_or sets (get_or order middle 0) 0)
-      → (k : ℕ) → k < middle + 1 → users ≤ size (get_or sets (get_or order k 0) 0)
-  larger_middle is k h = elim (cases_eq k middle) [
-    | inl here ↦ rw here is
-    | inr other ↦ omega (arith, (ascends k middle (omega arith) there).0)
-  ]
-
-  pub smaller_middle : size (get_or sets (get_or order middle 0) 0) < users
-      → (k : ℕ) → middle ≤ k → k < length order → size (get_or sets (get_or order k 0) 0) < users
-  smaller_middle is k h below = elim (cases_eq k middle) [
-    | inl here ↦ rw here is
-    | inr other ↦ omega (arith, (ascends middle k (omega arith) below).0)
-  ]
-
 -- ---- a node goes to its place
 
 pub inserted_by_set : (sets order : List ℕ) (node place : ℕ) → IsOrder (IsBefore sets) node order

@@ -1,6 +1,6 @@
 //! Nodes in the order in which the candidates of a cover are gone through: by falling size of their
 //! sets, and by rising number among sets of one size.
-ghost use Rattle.std.specs.Prelude.{◌≡◌, ◌<◌, ◌≤◌, ◌+◌, ◌++◌, All, IfOk, length, slice_index};
+ghost use Rattle.std.specs.Prelude.{◌≡◌, ◌<◌, ◌≤◌, ◌+◌, ◌++◌, All, IfOk, length};
 ghost use Rattle.std.specs.Prelude.{vec_len, vec_capacity};
 ghost use Rattle.ov_base.specs.Sets.{size};
 ghost use Rattle.ov_base.specs.declared.limits.TheConstants.{MAX_LAYER_NODES, MAX_SET_WORDS};
@@ -9,23 +9,9 @@ ghost use Rattle.ov_index.specs.Orders.{Ascends, IsLarger, IsOrder, IsOrderBelow
 
 use crate::insertion::insert_within;
 use ov_base::{Memory, UserSet};
+use ov_graph::covering::set_at;
 use ov_tokens::Numbers;
 use std::alloc::Global;
-
-fn set_at<'a, const W: usize>(
-    sets: &'a [UserSet<W>],
-    before: &'a [UserSet<W>],
-    node: usize,
-) -> &'a UserSet<W>
-    requires { node < length sets.now + length before.now }
-    ensures { result.now ≡ slice_index (sets.now ++ before.now) node }
-{
-    if node < sets.len() {
-        &sets[node]
-    } else {
-        &before[node - sets.len()]
-    }
-}
 
 /// The place of the first node whose set has fewer users.
 fn place<const W: usize>(

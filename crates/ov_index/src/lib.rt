@@ -5,19 +5,15 @@
 //! of their sets, the larger first, in which the candidates of a cover are gone through. So a plan
 //! sorts nothing, passes over the sets that are too large, and ends where its cover is whole.
 //!
-//! Whoever knows [`Graph`](ov_graph::Graph) alone can't tell the two graphs apart:
-//! [`graphs_answer_alike`] and [`call_both`] say so of any two.
+//! Nothing that [`Graph`](ov_graph::Graph) tells can tell the two graphs apart:
+//! [`graphs_answer_alike`] says so of any two.
 #![tactic(auto)]
 
 mod agreement;
-mod asking;
 mod by_set;
 mod by_size;
-mod calls;
 mod index;
 mod insertion;
 
 pub use agreement::graphs_answer_alike;
-pub use asking::{Answers, NodeAnswers, ask_all};
-pub use calls::{Call, call_both, call_each};
 pub use index::IndexGraph;

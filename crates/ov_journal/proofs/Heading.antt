@@ -83,13 +83,6 @@ front_read x l n k is long =
     let size : min n (length l) ≡ min k (length l) = omega (arith, sym (length-take n l), ap length is, long) in
     is ∙ sym (take_long n l) ∙ ap (λ (m : ℕ). take m l) size ∙ take_long k l
 
--- an open gate with a length that can't be
-pub bad_length : (bytes : List ℕ) → get_or bytes 0 0 ≡ 1 → (Fits (drop 1 bytes) → ⊥) → run_after 0 bytes ≡ record { bodies = []; bad = true }
-bad_length [] gate unfit = refl
-bad_length (g ∷ rest) gate unfit =
-    let none : is_length rest ≡ false = false_from_ne_true (is_length rest) (λ is. unfit (fits rest is)) in
-    ap (λ (x : ℕ). run_after 0 (x ∷ rest)) gate ∙ (λ i. past_gate true (none i) (body_in rest) (run_after (length_in rest + 4) rest))
-
 -- ---- whether it is a step record
 
 step_body_is : (body : List ℕ) (count byte : ℕ) → length body ≡ count → get_or body 0 0 ≡ byte → is_step body ≡ (count == 1 && byte == 5)

@@ -111,24 +111,6 @@ ends_of log book is whole =
     let none : None ≡ bad_place run = ap (λ (b : Bool). place_if b log.end) (sym whole) ∙ is.bad ∙ records_bad (is_first (take 78 book)) run in
     record { whole = no_place run.bad (end_from 78 run.bodies) none; end_is = end_stands log book is }
 
--- a Book that ends at a place has no bad length
-pub whole_of : (book : List ℕ) (end : ℕ) → EndsAt end book → (contents_of book).records.bad ≡ None
-whole_of book end ends =
-    let run = run_after 78 book in
-    records_bad (is_first (take 78 book)) run ∙ ap (λ (b : Bool). place_if b (end_from 78 run.bodies)) ends.whole
-
--- journals with the same records stand for the same Books
-pub log_same : (old new : Log) (book : List ℕ) → HasSameRecords old new → IsLogOf old book → IsLogOf new book
-log_same old new book same is =
-    let made_same : made new ≡ made old = λ k. cond (same.due k) None (same.step k) in
-    record {
-      offsets = same.offsets ∙ is.offsets ∙ ap (λ (o : Option ℕ). gates_of o (contents_of book).records.bodies) (sym same.step);
-      end = same.end ∙ is.end ∙ ap (λ (o : Option ℕ). gate_behind o (contents_of book).records.bodies) (sym made_same);
-      bad = (λ k. place_if (same.bad k) (same.end k)) ∙ is.bad;
-      step = same.step ∙ is.step;
-      due = same.due ∙ is.due;
-    }
-
 -- ---- one record more
 
 pub log_appended : (log : Log) (book more : List ℕ) (body : List ℕ) → IsLogOf log book → log.bad ≡ false → contents_of more ≡ with_body body (contents_of book) → is_due more ≡ false

@@ -21,10 +21,6 @@ item_is [] n body lt is = absurd (omega (arith, lt))
 item_is (x ∷ bodies) zero body lt is = sym is
 item_is (x ∷ bodies) (suc n) body lt is = item_is bodies n body (omega (arith, lt)) is
 
--- no body more
-pub with_none : (c : Contents) → with_bodies [] c ≡ c
-with_none c = λ i. record { head = c.head; records = record { bodies = append-nil c.records.bodies i; step = c.records.step; bad = c.records.bad } }
-
 -- one more of a list of bodies
 pub one_more : (bodies : List (List ℕ)) (n : ℕ) (body : List ℕ) (c k : Contents) → n < length bodies → get_or bodies n [] ≡ body → k ≡ with_bodies (take n bodies) c → with_body body k ≡ with_bodies (take (n + 1) bodies) c
 one_more bodies n body c k lt item is =
@@ -38,9 +34,6 @@ front_of may_leave i k bodies n body lt item is c (inl same) = (n, omega (arith,
 front_of may_leave i k bodies n body lt item is c (inr more) = (n + 1, omega (arith, lt), more.0 ∙ one_more bodies n body (contents_of i.book) (contents_of k.book) lt item is)
 
 module _ {D : Type 0} (tells : DiskTells D) where
-  pub no_front : (d0 : D) → (i : Image) (bodies : List (List ℕ)) → OnlyBook i.book (tells.may_leave d0) → LeavesOnly tells d0 d0 (HasFront i bodies)
-  no_front d0 i bodies settled = started tells d0 (HasFront i bodies) (λ c left. (0, omega arith, ap contents_of (settled c left) ∙ sym (with_none (contents_of i.book))))
-
   pub longer_front : (d0 d1 d2 : D) (m : Image → Type 0) (i k : Image) (bodies : List (List ℕ)) (n : ℕ) (body : List ℕ) → n < length bodies → get_or bodies n [] ≡ body
       → contents_of k.book ≡ with_bodies (take n bodies) (contents_of i.book) → LeavesOnly tells d0 d1 (HasFront i bodies) → LeavesOnly tells d1 d2 (IsBeforeOrAfter m k body)
       → LeavesOnly tells d0 d2 (HasFront i bodies)

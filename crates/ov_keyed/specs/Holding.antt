@@ -1,7 +1,5 @@
 -- The message that a value of pieces holds under a key.
 use Rattle.std.specs.Prelude.{ℕ, List, ◌++◌}
-use Rattle.std.specs.Borrow.{Bor}
-use Rattle.std.specs.List.{flat_map}
 use Rattle.sha2.specs.Hashers.{Holds256}
 use Rattle.ov_keyed.specs.Hmac.{pad}
 use Rattle.ov_keyed.specs.declared.pieces.Pieces.{Pieces}
@@ -10,7 +8,3 @@ use Rattle.ov_keyed.specs.declared.pieces.Pieces.{Pieces}
 -- message, and the other the outer block (RFC 2104, section 2)
 abbrev pub Holds : Pieces → List ℕ → List ℕ → Type 0
 Holds p key message = Holds256 p.inner (pad 0x36 key ++ message) × Holds256 p.outer (pad 0x5c key)
-
--- the message that pieces make, one after another
-abbrev pub joined : List (Bor (List ℕ)) → List ℕ
-joined pieces = flat_map (λ piece. piece.now) pieces

@@ -2,10 +2,8 @@
 
 ghost use Rattle.std.specs.Prelude.{◌≡◌, ◌+◌, ◌^◌, ◌<◌, ◌++◌, length};
 ghost use Rattle.ov_keyed.specs.Hmac.{hmac};
-ghost use Rattle.ov_keyed.specs.Holding.{joined};
 
 use crate::key_block::{INNER, OUTER, padded};
-use crate::pieces::Pieces;
 use sha2::{Digest, Sha256};
 
 /// The HMAC-SHA256 tag of `first` followed by `second`: 32 bytes that depend on the two parts only
@@ -25,16 +23,4 @@ pub fn mac(key: &[u8; 32], first: &[u8], second: &[u8]) -> [u8; 32]
     outer.update(padded(key, OUTER));
     outer.update(inner.finalize());
     outer.finalize()
-}
-
-/// The HMAC-SHA256 tag of a message in any number of pieces: that of [`mac`] of the pieces joined.
-pub fn mac_of_pieces(key: &[u8; 32], pieces: &[&[u8]]) -> [u8; 32]
-    requires { length (joined pieces.now) < 2 ^ 32 }
-    ensures { result ≡ hmac key.now (joined pieces.now) }
-{
-    let mut held = Pieces::new(key);
-    for piece in pieces {
-        held.add(piece);
-    }
-    held.finish()
 }

@@ -151,13 +151,6 @@ module _ (alone : Bool) (v : Service) (Mid Then : Service → Type 0) (files : L
       (λ w mid. of_one alone w Then (IsListAt file) None (told w mid)))
       (λ (first, none). (file, among, none))
 
-  pub all_listed : n ≡ length files → Meanwhile alone v Mid (lists ≡ map (listed (matrix_at v)) files)
-  all_listed all =
-      also alone v Mid (AreListed files n lists v) (lists ≡ map (listed (matrix_at v)) files) so_far
-      (λ first.
-      first ∙ ap (λ (k : ℕ). map (listed (matrix_at v)) (take k files)) all
-      ∙ ap (map (listed (matrix_at v))) (take-length files))
-
 -- ---- the files that are wanted
 
 pub files_told : (alone : Bool) (v : Service) (Mid Then : Service → Type 0) (wanted : Wanted)

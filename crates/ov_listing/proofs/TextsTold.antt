@@ -42,29 +42,3 @@ module _ (alone : Bool) (v : Service) (Then : Service → Type 0) (question : Qu
       ap Some (is ∙ ap (λ (x : Mode). epoch_text x welcome.epoch) mode ∙ ap (epoch_text h.mode) epoch)
       ∙ ap (λ (q : Question). text_of q h) (sym asked))
       told
-
-  pub users_told : question ≡ questions.Users → (listing : Listing) (made : Result (List ℕ) Memory)
-      → IfOk made (λ text. text ≡ users_text listing.users.items)
-      → Told alone v Then (IsListingAt Users) (Ok listing)
-      → Told alone v Then (IsTextAt question) (given_text made)
-  users_told asked listing (Err refused) is told = tt
-  users_told asked listing (Ok text) is told =
-      given (IsListingAt Users) listing (Some text)
-      (λ w lists fits.
-      ap Some (is ∙ ap users_text (lists fits).users)
-      ∙ ap (λ (q : Question). text_of q (outer_of w.history)) (sym asked))
-      told
-
-  pub files_told : (user : Option (List ℕ)) → question ≡ questions.Files user → (listing : Listing)
-      (text : Option (List ℕ)) → text ≡ files_answer user listing.users.items listing.files.items
-      → Told alone v Then (IsListingAt Files) (Ok listing)
-      → Told alone v Then (IsTextAt question) (Ok text)
-  files_told user asked listing text is told =
-      given (IsListingAt Files) listing text
-      (λ w lists fits.
-      let m = matrix_of (outer_of w.history) in
-      is
-      ∙ ap (λ (us : List (List ℕ)). files_answer user us listing.files.items) (lists fits).users
-      ∙ ap (files_answer user m.users) (lists fits).files
-      ∙ ap (λ (q : Question). text_of q (outer_of w.history)) (sym asked))
-      told

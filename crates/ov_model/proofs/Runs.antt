@@ -17,8 +17,3 @@ lines-more h [] command = append-nil (reply_line (reply_to h command))
 lines-more h (first ∷ commands) command =
     ap (λ t. reply_line (reply_to h first) ++ t) (lines-more (after h first) commands command)
     ∙ sym (append_assoc (reply_line (reply_to h first)) (lines (after h first) commands) (reply_line (reply_to (after_all (after h first) commands) command)))
-
--- the first epoch stays
-pub first-after_all : (h : PlainHistory) (commands : List Command) → (after_all h commands).first ≡ h.first
-first-after_all h [] = refl
-first-after_all h (command ∷ commands) = first-after_all (after h command) commands ∙ first-after h command

@@ -30,19 +30,6 @@ use Rattle.ov_owner.specs.Clients.{HasUser, IsReaderAt, IsReaderOf, reader_in, r
 use Rattle.ov_owner.specs.Errands.{known_of}
 use Rattle.ov_owner.proofs.Questioning.{none_made}
 
--- ---- numbers that are told are those of nodes
-
-pub roots_fit : (user : List ℕ) (a : Answer) (known : Known)
-    → IsAnswer (requests.Ask (questions.Key user)) a → known_of a ≡ Ok known
-    → (known.base_root < MAX_LAYER_NODES) × (known.surface_root < MAX_LAYER_NODES)
-roots_fit user (answers.Known told) known is e =
-    let same : told ≡ known = cc in
-    subst (λ (x : Known). (x.base_root < MAX_LAYER_NODES) × (x.surface_root < MAX_LAYER_NODES)) same
-    (is.2, is.3)
-roots_fit user (answers.Refused why) known is e = absurd cc
-roots_fit user answers.NoMemory known is e = absurd cc
-roots_fit user a known is e = absurd is
-
 -- ---- the test for a user
 
 no_refusal : (b : Bool) → first_of_tests ((NoUser, not b) ∷ []) ≡ None → b ≡ true

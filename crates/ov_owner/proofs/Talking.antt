@@ -53,10 +53,6 @@ module _ {P : Type 0} (peer : PeerTells P) (surface : List ℕ) (e : Errand) whe
         talks = (last, goes_on from mid last one.asks other.asks one.goes goes, closes);
       }
 
-  -- no ask leads nowhere
-  pub stays : (from : Stage) (p : P) → Passes peer surface e from p from p
-  stays from p = record { asks = []; leads = refl; goes = refl }
-
   -- the stage says how the call ends
   pub ends_so : (from : Stage) (p q : P) (result : Result ℕ OwnerFault)
       → Passes peer surface e from p (Ends result) q → Concludes peer surface e from p q result

@@ -44,31 +44,43 @@ fn name(text: &[u8]) -> Result<Name, Fail> {
 /// Enrols `alice`.
 fn enrol<P: Peer>(alloc: Global, peer: &mut P) -> Result<Result<u32, OwnerFault>, Fail> {
     let user = name(b"alice")?;
-    Ok(owner().enrol(alloc, peer, &user))
+    Ok(owner().change(alloc, peer, &Change::Enrol { user: &user }))
 }
 
 /// Grants `f1` to c.
 fn grant<P: Peer>(alloc: Global, peer: &mut P) -> Result<Result<u32, OwnerFault>, Fail> {
     let (user, file) = (name(b"c")?, name(b"f1")?);
-    Ok(owner().grant(alloc, peer, &user, &file))
+    let change = Change::Grant {
+        user: &user,
+        file: &file,
+    };
+    Ok(owner().change(alloc, peer, &change))
 }
 
 /// Revokes `f1` from c.
 fn revoke<P: Peer>(alloc: Global, peer: &mut P) -> Result<Result<u32, OwnerFault>, Fail> {
     let (user, file) = (name(b"c")?, name(b"f1")?);
-    Ok(owner().revoke(alloc, peer, &user, &file))
+    let change = Change::Revoke {
+        user: &user,
+        file: &file,
+    };
+    Ok(owner().change(alloc, peer, &change))
 }
 
 /// Removes `f1`.
 fn remove<P: Peer>(alloc: Global, peer: &mut P) -> Result<Result<u32, OwnerFault>, Fail> {
     let file = name(b"f1")?;
-    Ok(owner().remove(alloc, peer, &file))
+    Ok(owner().change(alloc, peer, &Change::Remove { file: &file }))
 }
 
 /// Replaces `f2` with the text `abc`.
 fn replace<P: Peer>(alloc: Global, peer: &mut P) -> Result<Result<u32, OwnerFault>, Fail> {
     let file = name(b"f2")?;
-    Ok(owner().replace(alloc, peer, &file, b"abc"))
+    let change = Change::Replace {
+        file: &file,
+        bytes: b"abc",
+    };
+    Ok(owner().change(alloc, peer, &change))
 }
 
 /// Asks for the list of `f1`.
@@ -208,7 +220,12 @@ fn a_creation_is_sent_as_another_program_does(rt: HostRuntime) -> Result<(), Fai
     let mut list = Names::new(rt.alloc());
     list.insert(Name::read(b"a").ok_or("a name")?)?;
     list.insert(Name::read(b"b").ok_or("a name")?)?;
-    let epoch = owner().create(rt.alloc(), &mut peer, &file, &list, b"x1");
+    let change = Change::Create {
+        file: &file,
+        list: &list,
+        bytes: b"x1",
+    };
+    let epoch = owner().change(rt.alloc(), &mut peer, &change);
     assert_eq!(rt; epoch, Ok(4));
     assert_eq!(rt; peer.sink.written(), CREATION);
     Ok(())

@@ -157,13 +157,6 @@ whole_read form room bytes b text size front rest fits is many there none =
 
 -- ---- what all of the bytes are, and the place of an error
 
-placed_ok : {A : Type 0} (count : ℕ) (read : Result A ℕ) (a : A) → placed count read ≡ Ok a → read ≡ Ok a
-placed_ok count (Ok b) a e = cc
-placed_ok count (Err left) a e = absurd cc
-
-pub whole_found : (form : Form) → HasRoom form → (bytes : List ℕ) (u : SealedUpdate) → AreBytes bytes → update_of form bytes ≡ Ok u → HasForm form u × (bytes ≡ spelling form u)
-whole_found form room bytes u fits e = all_takes (update_reads form room) bytes u fits (placed_ok (length bytes) (all_of (update_at form bytes)) u e)
-
 pub whole_again : (form : Form) → HasRoom form → (bytes : List ℕ) (u : SealedUpdate) → HasForm form u → bytes ≡ spelling form u → update_of form bytes ≡ Ok u
 whole_again form room bytes u fits is = ap (update_of form) is ∙ ap (placed (length (spelling form u))) (all_again (update_reads form room) u fits)
 

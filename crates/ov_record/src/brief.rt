@@ -121,7 +121,7 @@ impl<const W: usize> Brief<W> {
     }
 
     /// The update with these bytes of its file, where it creates or replaces one.
-    pub(crate) fn into_update(self, text: Octets) -> Update<W>
+    pub fn into_update(self, text: Octets) -> Update<W>
         ensures { sealed_update result ≡ with_text (plain_brief self.entry) text }
     {
         match self {

@@ -7,11 +7,11 @@
 //! which the second form alone has. Frames and new records are in the form of the second format,
 //! [`Form::SECOND`], and records of older stores in that of the first, [`Form::FIRST`]; both have
 //! room in their fields, and the records of both fit ([`forms_have_room`]). In each form an update
-//! has one spelling (`spelling` in `specs/Spelling`), [`write`] appends it, and [`read`] gives the
-//! update exactly where the bytes are its spelling. [`into_spelling`] and [`read_whole`] do the same
-//! with a file's bytes where they stand, so that no second list of them is made. Elsewhere `read`
-//! names the place of the first field that no spelling continues, or the end, as `specs/Reading`
-//! says: what stands before the place goes on to a spelling, and with the field at it none does
+//! has one spelling (`spelling` in `specs/Spelling`): [`into_spelling`] gives it, and [`read_whole`]
+//! gives the update exactly where the bytes are its spelling. Both leave a file's bytes in the list
+//! in which they came, so that no second one is made. Elsewhere `read_whole` names the place of the
+//! first field that no spelling continues, or the end, as `specs/Reading` says: what stands before
+//! the place goes on to a spelling, and with the field at it none does
 //! ([`bad_updates_are_placed`]). No spelling is the front of another's
 //! ([`updates_are_spelled_apart`]), and each fits a record where the longest of its form does, as
 //! that of the first ([`spellings_fit_records`]).
@@ -60,9 +60,9 @@ pub use laws::{
     records_are_read, records_are_spelled_apart, records_fit, spellings_are_read,
     spellings_fit_records, updates_are_spelled_apart, wider_forms_have_all,
 };
-pub use reading::{read, read_whole};
+pub use reading::read_whole;
 pub use stored::Stored;
 pub use stored_reading::{read_brief, read_stored};
 pub use stored_writing::write_stored;
 pub use update::Update;
-pub use writing::{into_spelling, write};
+pub use writing::into_spelling;

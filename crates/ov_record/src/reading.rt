@@ -13,7 +13,7 @@ ghost use Rattle.ov_record.specs.Updates.{SealedUpdate, sealed_update};
 
 use crate::stored_reading::take_brief;
 use crate::{Brief, Form, RecordFault, Update};
-use ov_base::{Memory, Octets};
+use ov_base::Octets;
 use ov_fields::{FieldFault, take_bytes, take_token, take_u16_at_most};
 use ov_tokens::Tokens;
 use std::alloc::Global;
@@ -93,37 +93,9 @@ fn read_head<const W: usize>(
     }
 }
 
-/// The update that the bytes spell in this form, all of them, for a W from 1 to `MAX_SET_WORDS`,
-/// and where the places of the longest spelling are numbers of 32 bits.
-pub fn read<const W: usize>(
-    alloc: Global,
-    form: Form<W>,
-    bytes: &[u8],
-) -> Result<Update<W>, RecordFault>
-    requires width { (1 ≤ W) × (W ≤ MAX_SET_WORDS) }
-    requires places { longest_spelling (form_of form) < 2 ^ 32 }
-    // What is read is spelled so.
-    ensures found { IfOk result (λ u. HasForm (form_of form.entry) (sealed_update u)
-        × (bytes.now ≡ spelling (form_of form.entry) (sealed_update u))) }
-    // What is read can be written again.
-    ensures limits { IfOk result (λ u. IsWithinLimits (form_of form.entry) (sealed_update u)) }
-    // What is spelled so is read, unless memory runs out.
-    ensures only { (u : SealedUpdate) → HasForm (form_of form.entry) u
-        → bytes.now ≡ spelling (form_of form.entry) u
-        → Gives place_of sealed_update result (Ok u) }
-    // The place that an error names.
-    ensures exact { Gives place_of sealed_update result (update_of (form_of form.entry) bytes.now) }
-{
-    let (brief, count) = read_head(alloc, form, bytes)?;
-    let (_, text) = bytes.split_at(count);
-    match Octets::copy(alloc, text) {
-        Ok(text) => Ok(brief.into_update(text)),
-        Err(Memory) => Err(RecordFault::Memory),
-    }
-}
-
-/// The update that the bytes spell in this form, as [`read`] reads it. The bytes of its file stay in
-/// the allocation of the spelling.
+/// The update that the bytes spell in this form, all of them, for a W from 1 to `MAX_SET_WORDS`, and
+/// where the places of the longest spelling are numbers of 32 bits. The bytes of its file stay in the
+/// allocation of the spelling.
 pub fn read_whole<const W: usize>(
     alloc: Global,
     form: Form<W>,

@@ -1,6 +1,6 @@
 //! Writing updates.
 
-ghost use Rattle.std.specs.Prelude.{◌≡◌, ◌≤◌, ◌*◌, ◌++◌, length, IfOk, OnErr, OnOk};
+ghost use Rattle.std.specs.Prelude.{◌≡◌, ◌≤◌, ◌*◌, ◌++◌, length, IfOk, OnOk};
 ghost use Rattle.ov_base.specs.declared.limits.TheConstants.{MAX_SET_WORDS};
 ghost use Rattle.ov_record.specs.Spelling.{spelling, body_of, HasForm, IsWithinLimits};
 ghost use Rattle.ov_record.specs.Forms.{form_of};
@@ -10,19 +10,8 @@ use crate::pieces::{put_creation, put_grant, put_removal, put_replacement, put_r
 use crate::within::known_form;
 use crate::{Form, Update};
 use ov_base::{Memory, Octets};
-use ov_fields::{append, put_name};
+use ov_fields::put_name;
 use std::alloc::Global;
-
-/// The bytes of the file that is created or replaced.
-fn body<const W: usize>(update: &Update<W>) -> &[u8]
-    ensures { result.now ≡ body_of (sealed_update update.now) }
-{
-    match update {
-        Update::Create { bytes, .. } => bytes.as_slice(),
-        Update::Replace { bytes, .. } => bytes.as_slice(),
-        _ => &[],
-    }
-}
 
 /// Appends the spelling without the bytes of the file that is created or replaced.
 fn put_front<const W: usize>(
@@ -63,26 +52,6 @@ fn put_front<const W: usize>(
             put_replacement(name, tokens.as_slice(), tag, size, out)
         }
     }
-}
-
-/// Appends the one spelling of the update in this form, for a W from 1 to `MAX_SET_WORDS`.
-pub fn write<const W: usize>(
-    form: Form<W>,
-    update: &Update<W>,
-    out: &mut Vec<u8>,
-) -> Result<(), Memory>
-    requires width { (1 ≤ W) × (W ≤ MAX_SET_WORDS) }
-    requires limits { IsWithinLimits (form_of form) (sealed_update update.now) }
-    ensures ok { OnOk result (out.new.items
-        ≡ out.old.items ++ spelling (form_of form.entry) (sealed_update update.now)) }
-    ensures err { OnErr result (out.new.items ≡ out.old.items) }
-    // What is written can be read again.
-    ensures form { HasForm (form_of form.entry) (sealed_update update.now) }
-{
-    known_form(form, update);
-    let mut front = Vec::new(*out.allocator());
-    put_front(form, update, &mut front)?;
-    append(&front, body(update), &[], out)
 }
 
 /// The bytes of the file that is created or replaced, in their allocation.

@@ -1,10 +1,11 @@
 //! Spellings that another program gives, and the places of wrong bytes.
 
-ghost use Rattle.std.specs.Prelude.{◌≡◌};
-ghost use Rattle.ov_record.specs.Forms.{first_form, form_of, second_form};
+ghost use Rattle.std.specs.Prelude.{◌≡◌, ◌≤◌, ◌<◌, ◌^◌};
+ghost use Rattle.ov_base.specs.declared.limits.TheConstants.{MAX_SET_WORDS};
+ghost use Rattle.ov_record.specs.Forms.{first_form, form_of, longest_spelling, second_form};
 
 use ov_base::limits::{MAX_FILE_BYTES, MAX_USERS, SET_WORDS};
-use ov_base::{Name, Octets, UserSet};
+use ov_base::{Memory, Name, Octets, UserSet};
 use ov_record::*;
 use ov_tokens::{Edge, Token};
 use std::alloc::Global;
@@ -45,28 +46,40 @@ const SPELLINGS: [&[u8]; 5] = [
     b"\x04\0\0\0\x07\0\x01\0\x09",
 ];
 
-#[test]
-fn spellings_are_read_and_written_again(rt: HostRuntime) -> Result<(), Fail> {
-    let mut out = Vec::new(rt.alloc());
-    for bytes in SPELLINGS {
-        out.clear();
-        match read(rt.alloc(), Form::FIRST, bytes) {
-            Ok(update) => write(Form::FIRST, &update, &mut out)?,
-            Err(_) => {}
-        }
-        assert_eq!(rt; out.as_slice(), bytes);
+/// The update that the bytes spell in this form, read off a copy of them.
+fn read<const W: usize>(
+    alloc: Global,
+    form: Form<W>,
+    bytes: &[u8],
+) -> Result<Update<W>, RecordFault>
+    requires width { (1 ≤ W) × (W ≤ MAX_SET_WORDS) }
+    requires places { longest_spelling (form_of form) < 2 ^ 32 }
+{
+    match Octets::copy(alloc, bytes) {
+        Ok(bytes) => read_whole(alloc, form, bytes),
+        Err(Memory) => Err(RecordFault::Memory),
     }
-    Ok(())
+}
+
+/// The spelling of the update that these bytes spell in this form, or none where they spell none.
+fn read_and_written<const W: usize>(
+    alloc: Global,
+    form: Form<W>,
+    bytes: &[u8],
+) -> Result<Octets, Fail>
+    requires width { (1 ≤ W) × (W ≤ MAX_SET_WORDS) }
+    requires places { longest_spelling (form_of form) < 2 ^ 32 }
+{
+    match read_whole(alloc, form, Octets::copy(alloc, bytes)?) {
+        Ok(update) => Ok(into_spelling(alloc, form, update)?),
+        Err(_) => Ok(Octets::new(alloc)),
+    }
 }
 
 #[test]
-fn spellings_are_read_and_written_in_their_own_list(rt: HostRuntime) -> Result<(), Fail> {
+fn spellings_are_read_and_written_again(rt: HostRuntime) -> Result<(), Fail> {
     for bytes in SPELLINGS {
-        let spelling = Octets::copy(rt.alloc(), bytes)?;
-        let again = match read_whole(rt.alloc(), Form::FIRST, spelling) {
-            Ok(update) => into_spelling(rt.alloc(), Form::FIRST, update)?,
-            Err(_) => Octets::new(rt.alloc()),
-        };
+        let again = read_and_written(rt.alloc(), Form::FIRST, bytes)?;
         assert_eq!(rt; again.as_slice(), bytes);
     }
     Ok(())
@@ -192,11 +205,9 @@ fn removals_are_of_the_second_form(rt: HostRuntime) -> Result<(), Fail> {
         RecordFault::Memory => 0,
     };
     let spelled = b"\x06\0\0\x01\x02".as_slice();
-    let removal = read(rt.alloc(), Form::SECOND, spelled)?;
-    let mut out = Vec::new(rt.alloc());
-    write(Form::SECOND, &removal, &mut out)?;
-    assert_eq!(rt; out.as_slice(), spelled);
-    let file = match removal {
+    let again = read_and_written(rt.alloc(), Form::SECOND, spelled)?;
+    assert_eq!(rt; again.as_slice(), spelled);
+    let file = match read(rt.alloc(), Form::SECOND, spelled)? {
         Update::Remove { file } => Some(file),
         _ => None,
     };
@@ -224,15 +235,7 @@ fn replacements_are_of_the_second_form(rt: HostRuntime) -> Result<(), Fail> {
         RecordFault::BadRecord { at } => at,
         RecordFault::Memory => 0,
     };
-    let replacement = read(rt.alloc(), Form::SECOND, REPLACEMENT)?;
-    let mut out = Vec::new(rt.alloc());
-    write(Form::SECOND, &replacement, &mut out)?;
-    assert_eq!(rt; out.as_slice(), REPLACEMENT);
-    let spelling = Octets::copy(rt.alloc(), REPLACEMENT)?;
-    let again = match read_whole(rt.alloc(), Form::SECOND, spelling) {
-        Ok(update) => into_spelling(rt.alloc(), Form::SECOND, update)?,
-        Err(_) => Octets::new(rt.alloc()),
-    };
+    let again = read_and_written(rt.alloc(), Form::SECOND, REPLACEMENT)?;
     assert_eq!(rt; again.as_slice(), REPLACEMENT);
     assert_eq!(rt;
         read(rt.alloc(), Form::FIRST, REPLACEMENT).err().map(at),

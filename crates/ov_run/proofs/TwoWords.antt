@@ -20,10 +20,6 @@ two_texts words a b x y two xa yb = ap (map string_bytes) two ∙ ap (λ t. t �
 pub is_run : (mode : Mode) (words : List (String Global)) (x y : List ℕ) → map string_bytes words ≡ x ∷ y ∷ [] → x ≡ codes "run" → y ≡ mode_word mode → IsRun mode words
 is_run mode words x y texts run second = texts ∙ ap (λ t. t ∷ y ∷ []) run ∙ ap (λ t. codes "run" ∷ t ∷ []) second
 
-pub run_is : (mode : Mode) (words : List (String Global)) (x y : List ℕ) → map string_bytes words ≡ x ∷ y ∷ [] → IsRun mode words
-    → (x ≡ codes "run") × (y ≡ mode_word mode)
-run_is mode words x y texts is = let same : x ∷ y ∷ [] ≡ codes "run" ∷ mode_word mode ∷ [] = sym texts ∙ is in (cc, cc)
-
 -- what holds of a mode that may be there
 pub told_mode : (r : Option Mode) (P Q : Mode → Type 0) → IfSome r P → ((mode : Mode) → P mode → Q mode) → IfSome r Q
 told_mode None P Q p f = tt

@@ -1,5 +1,4 @@
--- Laws of the lists and bodies of `create` and `replace`: the names are names, none comes twice,
--- and they are few.
+-- Laws of the lists and bodies of `create` and `replace`: the names are names, and they are few.
 use Rattle.std.proofs.Common.{◌≡◌, ℕ, suc, ◌+◌, ◌*◌, ◌<◌, ◌≤◌, Bool, true, false, List, [], ◌∷◌, ◌++◌, length, refl, sym, ap, subst, length-append, arith}
 use Rattle.std.specs.Prelude.{codes}
 use Rattle.std.specs.Fmt.{decimal}
@@ -29,40 +28,6 @@ with_names_named names (name ∷ others) are more = with_names_named (with_name 
 
 pub list_names : (text : List ℕ) (names : List (List ℕ)) → IsList text names → AreNames names
 list_names text names (said, are, e, once) = subst AreNames (sym once) (with_names_named [] said tt are)
-
--- ---- none comes twice
-
-flipped : (a b : List ℕ) (test : Bool) → bytes_eq b a ≡ test → bytes_eq a b ≡ false → bytes_eq b a ≡ false
-flipped a b false e p = e
-flipped a b true e p =
-    let same : b ≡ a = (bytes_eq-Decides b a).0 e in
-    let again : bytes_eq a b ≡ true = (bytes_eq-Decides a b).1 (sym same) in
-    absurd (cc)
-
-all_differ : (n name : List ℕ) (names : List (List ℕ)) → AllByRecursion (λ y. bytes_eq n y ≡ false) names → bytes_eq n name ≡ false → AllByRecursion (λ y. bytes_eq n y ≡ false) (names ++ name ∷ [])
-all_differ n name [] all differs = (differs, tt)
-all_differ n name (m ∷ names) all differs = (all.0, all_differ n name names all.1 differs)
-
-none_distinct : AreDistinct []
-none_distinct = IsDistinct-from_AllPairs bytes_eq-Decides [] (λ i j d before none. absurd (omega arith))
-
-pub distinct_last : (names : List (List ℕ)) (name : List ℕ) → AreDistinct names → is_among name names ≡ false → AreDistinct (names ++ name ∷ [])
-distinct_last [] name d none = IsDistinct-cons bytes_eq name [] tt none_distinct
-distinct_last (n ∷ names) name d none =
-    let both = or_parts (bytes_eq name n) (list_any (bytes_eq name) names) none in
-    let differs = all_differ n name names (IsDistinct-head bytes_eq n names d) (flipped name n (bytes_eq n name) refl both.0) in
-    IsDistinct-cons bytes_eq n (names ++ name ∷ []) differs (distinct_last names name (IsDistinct-tail bytes_eq n names d) both.1)
-
-appended_distinct : (among : Bool) (names : List (List ℕ)) (name : List ℕ) → is_among name names ≡ among → AreDistinct names → AreDistinct (appended among names name)
-appended_distinct true names name e d = d
-appended_distinct false names name e d = distinct_last names name d e
-
-with_names_distinct : (names others : List (List ℕ)) → AreDistinct names → AreDistinct (with_names names others)
-with_names_distinct names [] d = d
-with_names_distinct names (name ∷ others) d = with_names_distinct (with_name names name) others (appended_distinct (is_among name names) names name refl d)
-
-pub list_distinct : (text : List ℕ) (names : List (List ℕ)) → IsList text names → AreDistinct names
-list_distinct text names (said, are, e, once) = subst AreDistinct (sym once) (with_names_distinct [] said none_distinct)
 
 -- ---- few and short
 
@@ -136,9 +101,6 @@ list_in_line file list size =
 
 pub create_names : (item file body : List ℕ) (names : List (List ℕ)) → IsItem item (Create file names body) → AreNames names
 create_names item file body names (list, named, is, low, short, e) = list_names list names is
-
-pub create_distinct : (item file body : List ℕ) (names : List (List ℕ)) → IsItem item (Create file names body) → AreDistinct names
-create_distinct item file body names (list, named, is, low, short, e) = list_distinct list names is
 
 -- the names of a list have fewer bytes than a line, each with a comma
 pub create_short_names : (item file body : List ℕ) (names : List (List ℕ)) → IsItem item (Create file names body) → length (with_commas names) ≤ MAX_LINE_BYTES

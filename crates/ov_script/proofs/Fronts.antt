@@ -72,12 +72,6 @@ settled_front room bytes fresh front count seen within no_lf e f is =
 
 -- ---- a whole line
 
-pub finds_line : (room end : ℕ) (bytes line rest : List ℕ) (said : FirstLine) (left : Option (List ℕ))
-    → NoLf line → length line ≡ end → bytes ≡ line ++ 10 ∷ rest → end < room → SaysLine (take end bytes) said → Finds room bytes left (Ok (record { said = said; size = end + 1 }))
-finds_line room end bytes line rest said left no_lf count whole within says =
-    let front : take end bytes ≡ line = ap (take end) whole ∙ take_at line (10 ∷ rest) end count in
-    (line, rest, no_lf, subst (λ t. SaysLine t said) front says, ap (λ n. n + 1) count, omega arith, whole)
-
 pub finds_no_line : (room end : ℕ) (bytes line rest : List ℕ) (left : Option (List ℕ))
     → NoLf line → length line ≡ end → bytes ≡ line ++ 10 ∷ rest → end < room → ((said : FirstLine) → SaysLine (take end bytes) said → ⊥) → IsWhyNone room (prepend_known bytes left) Bad
 finds_no_line room end bytes line rest None no_lf count whole within none = tt

@@ -20,9 +20,6 @@ pub record ReadSo (text : List ℕ) (names : List (List ℕ)) (rest : List ℕ) 
   pub once : names ≡ without_repeats said
   pub whole : text ≡ before_commas said ++ rest
 
-pub nothing_read : (text : List ℕ) → ReadSo text [] text
-nothing_read text = record { said = []; are = tt; once = refl; whole = refl }
-
 -- ---- one more name
 
 before_commas-last : (names : List (List ℕ)) (name rest : List ℕ) → before_commas (names ++ name ∷ []) ++ rest ≡ before_commas names ++ (name ++ 44 ∷ rest)
@@ -97,9 +94,3 @@ pub no_name_last : (text rest : List ℕ) (names : List (List ℕ)) → ReadSo t
 no_name_last text rest names r lacks none name others are w =
     let b = rest_of r.said rest name others r.are are.0 are.1 (sym r.whole ∙ w) in
     none (last_is_named rest b.name b.names lacks b.named b.whole)
-
--- where `-` isn't it, and no names with commas are
-pub no_list : (text : List ℕ) → (text ≡ 45 ∷ [] → ⊥) → ((name : List ℕ) (names : List (List ℕ)) → AreNames (name ∷ names) → text ≡ list_text (name ∷ names) → ⊥)
-    → (names : List (List ℕ)) → IsList text names → ⊥
-no_list text dash none names ([], are, e, once) = dash e
-no_list text dash none names (name ∷ said, are, e, once) = none name said are e

@@ -18,13 +18,6 @@ Takes-trans tells a b c xs ys p q = record {
   source = Consumes-trans (tells.left a.source) (tells.left b.source) (tells.left c.source) xs ys p.source q.source;
 }
 
--- a take that gives nothing
-pub Takes-none : {S : Type 0} (tells : SourceTells S) (a b : Fed S) → b.pending ≡ a.pending → Keeps (tells.left a.source) (tells.left b.source) → Takes tells a b []
-Takes-none tells a b same kept = record {
-  pending = same ∙ sym (append-nil a.pending);
-  source = Consumes-kept (tells.left a.source) (tells.left a.source) (tells.left b.source) [] (Consumes-nil (tells.left a.source)) kept;
-}
-
 -- what had no LF is a front of what is pending after a take
 pub seen_behind : (old new more : List ℕ) → new ≡ old ++ more → NoLf old → (length old ≤ length new) × NoLf (take (length old) new)
 seen_behind old new more e none =

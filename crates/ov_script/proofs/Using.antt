@@ -6,10 +6,6 @@ use Rattle.std.proofs.KnownBytes.{Consumes-trans}
 use Rattle.ov_io.specs.Tells.{SourceTells}
 use Rattle.ov_script.specs.Feed.{Fed, Uses, text_of}
 
--- bytes behind a longer front
-behind_front : (a b c d : List ℕ) → (a ++ b) ++ c ≡ a ++ (b ++ c)
-behind_front a b c d = append_assoc a b c
-
 -- one use after another
 pub uses_trans : {S : Type 0} (tells : SourceTells S) (a b c : Fed S) (xs ys : List ℕ) → Uses tells a b xs → Uses tells b c ys → Uses tells a c (xs ++ ys)
 uses_trans tells a b c xs ys p q = record {
@@ -32,10 +28,3 @@ pub fact_behind : (P Q : List ℕ → Type 0) (x y : Option (List ℕ)) (used : 
 fact_behind P Q None y used f c q = tt
 fact_behind P Q (Some xs) None used f c q = absurd c
 fact_behind P Q (Some xs) (Some ys) used f c q = subst P (sym c) (f ys q)
-
--- the text has ended
-pub nothing_left : {S : Type 0} (tells : SourceTells S) (feed : Fed S) → feed.pending ≡ [] → IsAtEnd (tells.left feed.source) → IfSome (text_of tells feed) (λ text. text ≡ [])
-nothing_left tells feed none end = at_end (tells.left feed.source) end where
-  at_end : (x : Option (List ℕ)) → IsAtEnd x → IfSome (prepend_known feed.pending x) (λ text. text ≡ [])
-  at_end None e = tt
-  at_end (Some xs) e = ap (λ l. l ++ xs) none ∙ e

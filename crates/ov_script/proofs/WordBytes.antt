@@ -73,8 +73,5 @@ decimal_lacks c n low small = decimal_by_steps (λ m ds. Lacks c ds) (λ m l. (�
 pub size_no_lf : (n : ℕ) → n ≤ MAX_FILE_BYTES → NoLf (decimal n)
 size_no_lf n h = decimal_lacks 10 n (omega arith) (omega arith)
 
-pub size_no_space : (n : ℕ) → n ≤ MAX_FILE_BYTES → Lacks 32 (decimal n)
-size_no_space n h = decimal_lacks 32 n (omega arith) (omega arith)
-
 pub size_short : (n : ℕ) → n ≤ MAX_FILE_BYTES → length (decimal n) ≤ 8
 size_short n h = length-decimal-le 8 n (omega arith) (omega arith) (omega arith)

@@ -5,6 +5,7 @@ ghost use Rattle.ov_script.specs.LineFronts.{spelling, behind, after_name, after
 ghost use Rattle.ov_script.specs.LineEnds.{fewest_after, fewest_behind, fewest_more, may_go_on};
 
 use ov_base::limits::MAX_FILE_BYTES;
+use ov_base::{is_letter_or_digit, is_name_byte};
 
 /// The word that begins a line.
 #[derive(Clone, Copy)]
@@ -186,21 +187,14 @@ fn end_of_name(next: Then, byte: u8) -> Front
     }
 }
 
-fn is_letter_or_digit(byte: u8) -> bool
-    ensures { result ≡ is_letter_or_digit byte }
-{
-    byte.is_ascii_lowercase() || byte.is_ascii_digit()
-}
-
 // Whether a name of which this many bytes came goes on with this byte.
 fn is_named(count: usize, byte: u8) -> bool
     ensures { result ≡ is_named count byte }
 {
-    let begins = is_letter_or_digit(byte);
     if count == 0 {
-        begins
+        is_letter_or_digit(byte)
     } else {
-        count < 64 && (begins || byte == b'.' || byte == b'_' || byte == b'-')
+        count < 64 && is_name_byte(byte)
     }
 }
 

@@ -244,20 +244,6 @@ module _ {L V G : Type 0} (one : OneSession (PassState V) L)
       least_within served (length passes) after.most (length after.started) so.stands.within
       (so.busy.full quiet)
 
-  pub all_came : (free : List (PassState V)) (new : Doorway L) (after : SpawnerState L V G)
-      (wanted served alone : ℕ) → Goes free new after served alone → served ≡ wanted
-      → Has free new after wanted served alone false
-  all_came free new after wanted served alone so all = record {
-    stands = so.stands;
-    bounded = so.busy.bounded;
-    at_once = λ quiet. once free new after served alone so quiet;
-    counted = so.busy.counted;
-    refuses = so.busy.refuses;
-    most = omega (arith, all);
-    fewer = λ less. absurd (omega (arith, all, less));
-    says = so.calm;
-  }
-
   pub door_closed : (free : List (PassState V)) (new newer : Doorway L)
       (after : SpawnerState L V G) (wanted served alone : ℕ) → Goes free new after served alone
       → served < wanted → newer ≡ record new { closed = true }

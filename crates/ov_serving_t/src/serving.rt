@@ -47,17 +47,19 @@ impl Answerer for Parrot {
     }
 }
 
-/// Holds the first session before its request until another one has come to one.
+/// Holds one session before its request until another one has come to one.
 #[derive(Drop)]
-struct FirstWaits {
+struct OneWaits {
+    one: u32,
     other: u32,
     came: AtomicBool,
     held: AtomicBool,
 }
 
-impl FirstWaits {
-    fn of(other: u32) -> FirstWaits {
-        FirstWaits {
+impl OneWaits {
+    fn new(one: u32, other: u32) -> OneWaits {
+        OneWaits {
+            one,
             other,
             came: AtomicBool::new(false),
             held: AtomicBool::new(false),
@@ -65,7 +67,7 @@ impl FirstWaits {
     }
 }
 
-impl Gate for FirstWaits {
+impl Gate for OneWaits {
     ghost was_told = { λ _ _ _ _ _. Unit {0} };
 
     fn pause<A>(&self, session: u32, request: u32, asker: &A) {
@@ -74,7 +76,7 @@ impl Gate for FirstWaits {
         if session == self.other {
             self.came.store(true, Ordering::SeqCst);
         }
-        if session == 0 {
+        if session == self.one {
             for _ in 0..10_000_000u32 {
                 if self.came.load(Ordering::SeqCst) {
                     self.held.store(true, Ordering::SeqCst);
@@ -106,12 +108,16 @@ fn door(alloc: Global, inputs: &[&[u8]]) -> Result<MemDoor, Fail>
     Ok(MemDoor::new(alloc, streams, Octets::copy(alloc, &[])?))
 }
 
-/// A parrot that is shared by two passes.
-fn share(alloc: Global) -> Result<(Arc<Shared<Parrot>, Global>, Vec<Pass<Parrot>>), Fail>
+/// A parrot that is shared by so many passes.
+fn share(
+    alloc: Global,
+    passes: u32,
+) -> Result<(Arc<Shared<Parrot>, Global>, Vec<Pass<Parrot>>), Fail>
+    requires { (0 < passes) × (passes ≤ 65536) }
     ensures own { IfOk result (λ r. All (IsPassOf (arc_value r.0)) r.1.items) }
-    ensures two { IfOk result (λ r. length r.1.items ≡ 2) }
+    ensures all { IfOk result (λ r. length r.1.items ≡ passes) }
 {
-    let Ok((shared, passes)) = Shared::new(alloc, Parrot { epoch: 3 }, 2) else {
+    let Ok((shared, passes)) = Shared::new(alloc, Parrot { epoch: 3 }, passes) else {
         return Err(Fail::from("memory"));
     };
     match Arc::new(alloc, shared) {
@@ -146,15 +152,20 @@ const WRITTEN: [&[u8]; 3] = [
     &[0, 0, 0, 1, 0x8e],
 ];
 
-/// Serves three streams by two passes, while the first session waits for this other one.
+/// Serves three streams by so many passes, while one session waits for another.
 fn serve_three<R: Threads + Wait + Abort + Copy + Send + 'static>(
     rt: &R,
     alloc: Global,
+    passes: u32,
+    one: u32,
     other: u32,
-) -> Result<(), Fail> {
+) -> Result<(), Fail>
+    requires { (0 < passes) × (passes ≤ 3) }
+{
+    let count = passes as usize;
     let mut door = door(alloc, &INPUTS)?;
-    let (shared, passes) = share(alloc)?;
-    let gate = Arc::new(alloc, FirstWaits::of(other))?;
+    let (shared, passes) = share(alloc, passes)?;
+    let gate = Arc::new(alloc, OneWaits::new(one, other))?;
     let mut spawner = Spawner::new(alloc);
     let end = serve(
         rt,
@@ -169,27 +180,39 @@ fn serve_three<R: Threads + Wait + Abort + Copy + Send + 'static>(
     assert_eq!(rt; end.served, 3);
     assert!(rt; !end.door_failed);
     assert_eq!(rt; end.alone, 0);
-    assert_eq!(rt; end.passes.len(), 2);
-    assert_eq!(rt; spawner.most(), 2);
+    assert_eq!(rt; end.passes.len(), count);
+    assert_eq!(rt; spawner.most(), count);
     assert!(rt; gate.held.load(Ordering::SeqCst));
     expect_all(rt, &door)
 }
 
 #[test]
 fn the_first_session_waits_for_the_second(rt: HostRuntime) -> Result<(), Fail> {
-    serve_three(&rt, rt.alloc(), 1)
+    serve_three(&rt, rt.alloc(), 2, 0, 1)
 }
 
 #[test]
 fn a_session_that_stands_still_holds_up_no_other(rt: HostRuntime) -> Result<(), Fail> {
-    serve_three(&rt, rt.alloc(), 2)
+    serve_three(&rt, rt.alloc(), 2, 0, 2)
+}
+
+#[test]
+fn each_session_runs_beside_each_other_one(rt: HostRuntime) -> Result<(), Fail> {
+    for one in 0..3 {
+        for other in 0..3 {
+            if one != other {
+                serve_three(&rt, rt.alloc(), 3, one, other)?;
+            }
+        }
+    }
+    Ok(())
 }
 
 #[test]
 fn a_caller_serves_what_cannot_be_started(rt: HostRuntime) -> Result<(), Fail> {
     let alloc = rt.alloc();
     let mut door = door(alloc, &INPUTS)?;
-    let (shared, passes) = share(alloc)?;
+    let (shared, passes) = share(alloc, 2)?;
     let gate = Arc::new(alloc, OpenGate)?;
     let mut spawner = Spawner::refusing(alloc);
     let end = serve(

@@ -72,19 +72,6 @@ module _ {A : Type 0} (tells : AskerTells A) where
   leads_on a b c es request reply leads one =
       leads_both a b c es (record { request = request; reply = reply } ∷ []) leads (c, one, refl)
 
-  -- nothing was asked yet
-  pub none_answered : (a : A) (l : Link) → AnswersThem tells a a l l []
-  none_answered a l = record {
-    exchanges = [];
-    same = refl;
-    asked = refl;
-    answered = record {
-      bytes = [];
-      cut = record { parts = refl; each = tt };
-      written = Appends-nil l.written;
-    };
-  }
-
 pub answered_both : (old mid new : Link) (es fs : List Exchange) → Answered old mid es
     → Answered mid new fs → Answered old new (es ++ fs)
 answered_both old mid new es fs one two = record {

@@ -11,29 +11,10 @@ use Rattle.ov_session.specs.Serving.{Follows, OneSession, Session, and_all, entr
 use Rattle.ov_session.specs.Turns.{IsAt, ServesIt, ServesSome, TellsMany}
 
 module _ {S : Type 0} where
-  get_last : (l : List (Given S)) (g : Given S) → slice_get (l ++ g ∷ []) (length l) ≡ Some g
-  get_last [] g = refl
-  get_last (x ∷ l) g = get_last l g
-
   back_last : (l : List (Given S)) (g : Given S) (b : Back S)
       → back_at (l ++ g ∷ []) (length l) b ≡ l ++ record g { back = Some b } ∷ []
   back_last [] g b = refl
   back_last (x ∷ l) g b = ap (λ (m : List (Given S)). x ∷ m) (back_last l g b)
-
-  out_among : (told : Option (List (Given S))) (number : ℕ) (stream : S) → TellsMany told number
-      → IsOutAmong (and_one told stream) number
-  out_among None number stream many = tt
-  out_among (Some l) number stream many =
-      let g : Given S = record { stream = stream; back = None } in
-      (stream, subst (λ (n : ℕ). slice_get (l ++ g ∷ []) n ≡ Some g) many (get_last l g))
-
-  -- the stream that was just given is out
-  pub is_out : (old new : Doorway S) (number : ℕ) (stream : S) → IsAt old number
-      → new ≡ record old { told = and_one old.told stream; given = old.given + 1 } → IsOut new number
-  is_out old new number stream at_it same = subst (λ (d : Doorway S). IsOut d number) (sym same) (record {
-    given = omega (arith, at_it.given);
-    out = out_among old.told number stream at_it.told;
-  })
 
   told_then : (told : Option (List (Given S))) (number : ℕ) (s : Session S) → TellsMany told number
       → told_back (and_one told s.given) number (record { stream = s.left; ending = s.ending })

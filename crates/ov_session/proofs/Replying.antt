@@ -82,23 +82,6 @@ fails_after old mid new front reply first f = record {
 
 -- ---- the pieces of a body
 
--- the input ended inside a piece
-pub lacks_some : (old new : Link) (left count : ℕ) (buf : List ℕ) → length buf ≤ left
-    → count < length buf → Fills old new buf count → LacksPiece old new left
-lacks_some old new left count buf fits short f =
-    let len : length (take count buf) ≡ count = length-take-le count buf f.within in
-    record {
-      taken = take count buf;
-      reads = f.reads;
-      reason = inr (omega (arith, len, fits, short), f.ends short);
-    }
-
--- a piece behind what was taken
-pub piece_read : (old mid new : Link) (left : ℕ) (front after : List ℕ) → Reads old mid front
-    → AppendsPiece mid new left front after → Reads old new after
-piece_read old mid new left front after first a =
-    subst (Reads old new) (sym a.appended) (reads_on old mid new front a.piece first a.reads)
-
 -- no more of a body came than is before its end
 cut_short : (old mid new : Link) (wanted left : ℕ) (front more : List ℕ) → IsFrameLength wanted
     → length front + left ≡ wanted → old.read_faults ≤ mid.read_faults

@@ -3,11 +3,13 @@ ghost use Rattle.std.specs.Prelude.{◌≡◌, None};
 
 use crate::{Dismiss, SessionEnd};
 use ov_io::{Fault, Sink, Source, Stream};
+use ov_retry::read_retrying;
 use std::io::{Read, Write};
 use std::net::{OpenStream, Shutdown};
 
-/// A connection, which tells nothing of its bytes. It is shut once its session is over, so that its
-/// client sees the end though the door takes it back later.
+/// A connection, which tells nothing of its bytes. A signal that interrupts a call is no fault: the
+/// call is made again. It is shut once its session is over, so that its client sees the end though
+/// the door takes it back later.
 #[derive(Drop)]
 pub struct Connection<S: Read + Write + OpenStream + Drop> {
     stream: S,
@@ -42,7 +44,7 @@ impl<S: Read + Write + OpenStream + Drop> Source for Connection<S> {
     } };
 
     fn take(&mut self, buf: &mut [u8]) -> Result<usize, Fault> {
-        match self.stream.read(buf) {
+        match read_retrying(&mut self.stream, buf) {
             Ok(count) => Ok(count),
             Err(_) => {
                 self.read_faults = self.read_faults.saturating_add(1);

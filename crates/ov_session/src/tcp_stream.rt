@@ -4,12 +4,14 @@ ghost use Rattle.std.specs.Io.{ReadsAtMost};
 
 use ov_base::Memory;
 use ov_io::{Fault, Sink, Source, Stream};
+use ov_retry::read_retrying;
 use std::io;
 use std::io::{ErrorKind, Read, Write};
 use std::net::{Net, OpenStream, TcpStream};
 
 /// A connection to an address, a host and a port, which is made at the first call. It tells nothing
-/// of its bytes. Where it can't be made that call fails, and the next one tries again.
+/// of its bytes. Where it can't be made that call fails, and the next one tries again. A signal that
+/// interrupts a read or a write is no fault: the call is made again.
 #[derive(Drop)]
 pub struct TcpLink<R: Net + AllocGlobal + Drop> {
     rt: R,
@@ -59,7 +61,7 @@ impl<R: Net + AllocGlobal + Drop> TcpLink<R> {
     {
         self.connect()?;
         match &mut self.stream {
-            Some(stream) => stream.read(buf),
+            Some(stream) => read_retrying(stream, buf),
             None => Err(io::Error::from(ErrorKind::NotConnected)),
         }
     }

@@ -1,5 +1,6 @@
 //! Tests of `ov_session` and `ov_settings`: sessions in memory and over a port of this machine,
-//! with each fault of a stream, and settings files with each key left out or out of form. The bytes
+//! with each fault of a stream, over a socket that signals interrupt, and settings files with each
+//! key left out or out of form. The bytes
 //! of the sessions were written by hand.
 //!
 //! Code and definition could be wrong together. So `rows` has functions with empty bodies, whose
@@ -8,6 +9,8 @@
 //! turned definition would give.
 #![tactic(auto)]
 
+#[cfg(test)]
+mod dripping;
 #[cfg(test)]
 mod memory;
 #[cfg(test)]
@@ -19,6 +22,8 @@ mod rows;
 mod session;
 #[cfg(test)]
 mod settings;
+#[cfg(test)]
+mod signals;
 
 pub use rows::{
     no_memory_is_answered_as_such, the_longest_settings_file_is_one, workers_are_four_or_given,

@@ -27,9 +27,6 @@ readable : (m : Matrix) (user file : ℕ) → is_user m user ≡ true → is_fil
     → read_refusal m user file ≡ None
 readable m user file there found listed = rw (there, found, listed) refl
 
-without_user : (m : Matrix) (user file : ℕ) → is_user m user ≡ false → read_refusal m user file ≡ Some NoUser
-without_user m user file none = rw none refl
-
 without_file : (m : Matrix) (user file : ℕ) → is_user m user ≡ true → is_file m file ≡ false
     → read_refusal m user file ≡ Some NoFile
 without_file m user file there none = rw (there, none) refl
@@ -67,9 +64,6 @@ module _ (s : Catalogue) where
 
   pub not_listing : (name : List ℕ) → IsNumber (file_names (matrix_shown s).files) name None → AnswersList s name (Err NoFile)
   not_listing name none = not_given (matrix_shown s) (file_named s name) (no_file_there s name none)
-
-  pub unknown_user : (user file : List ℕ) → IsNumber s.users user None → AnswersReader s user file (Err NoUser)
-  unknown_user user file none = without_user (matrix_shown s) (user_named s user) (file_named s file) (no_user s user none)
 
   module _ (user file : List ℕ) (reader : ℕ) (is : IsNumber s.users user (Some reader)) where
     known_user : is_user (matrix_shown s) (user_named s user) ≡ true

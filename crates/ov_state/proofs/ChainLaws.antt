@@ -30,7 +30,7 @@ use Rattle.ov_history.specs.Layers.{root_of}
 use Rattle.ov_history.specs.Catalogue.{Nodes, Catalogue}
 use Rattle.ov_state.specs.Contents.{nodes_of}
 use Rattle.ov_history.specs.Chains.{graph_of, IsAccessChain, IsBaseChain, IsBaseChainIf, IsEdgeChain, IsSurfaceChain}
-use Rattle.ov_state.specs.Chains.{LeadsToAccess, LeadsToSurface}
+use Rattle.ov_state.specs.Chains.{LeadsToSurface}
 
 -- ---- chains over edges
 
@@ -139,11 +139,6 @@ base_chain_leads k s user node chain tokens is = by_set (has (slice_index s.base
       → access_along (node_key Derive k.base chain.root) chain ≡ access_key k.base node
   by_set true edges = access_by_edges k s user node chain tokens edges
   by_set false access = access_by_token k s user node chain tokens access
-
-pub access_leads_by : (root_key : List ℕ) (chain : Chain) (key : List ℕ) → key ≡ access_along root_key chain
-    → LeadsToAccess root_key chain key
-access_leads_by root_key chain key same k s user node tokens is root =
-    same ∙ ap (λ r. access_along r chain) root ∙ base_chain_leads k s user node chain tokens is
 
 -- over true tokens every surface chain leads to the key of its node
 pub surface_chain_leads : (k : Masters) (s : Catalogue) (user : ℕ) (surface : Option ℕ) (chain : Option Chain)

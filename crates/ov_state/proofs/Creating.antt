@@ -194,6 +194,3 @@ users_there s name list size none user one =
     not_false : (b : Bool) → not b ≡ false → b ≡ true
     not_false true e = refl
     not_false false e = absurd (true≢false e)
-
-pub epoch_left : (epoch : ℕ) → is_last epoch ≡ false → epoch < LAST_EPOCH
-epoch_left epoch e = grind (arith, nat_tests)

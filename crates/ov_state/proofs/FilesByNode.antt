@@ -164,14 +164,6 @@ node-got files file r is =
 
 -- ---- numbers by node
 
--- no files
-pub by_node-none : AreByNode [] []
-by_node-none = record {
-  there = λ i low. absurd (omega arith);
-  all = λ file there. absurd (true≢false (sym there));
-  ordered = λ i j less low. absurd (omega arith);
-}
-
 before-alike : (files others : List (Option Filed)) (one other : ℕ) → node_of others one ≡ node_of files one → node_of others other ≡ node_of files other
     → ComesBefore files one other → ComesBefore others one other
 before-alike files others one other first second (low, less) =

@@ -28,10 +28,6 @@ pub file_number_by : (s : Catalogue) (name : List ℕ) (r : Option ℕ) → IsNu
 file_number_by s name r number =
     subst (λ (ns : List (List ℕ)). IsNumber ns name r) (sym (names_shown (outline s) s.files)) number
 
-length-files_shown : (y : Layers) (files : List (Option Filed)) → length (files_shown y files) ≡ length files
-length-files_shown y [] = refl
-length-files_shown y (f ∷ files) = ap suc (length-files_shown y files)
-
 pub length-names : (y : Layers) (files : List (Option Filed)) → length (file_names (files_shown y files)) ≡ length files
 length-names y [] = refl
 length-names y (f ∷ files) = ap suc (length-names y files)

@@ -4,7 +4,6 @@ use Rattle.ov_tokens.specs.declared.chain.Chain.{Chain}
 use Rattle.ov_tokens.specs.declared.label.Kind.TheVariants.{Derive, Surface}
 use Rattle.ov_tokens.specs.Keys.{node_key}
 use Rattle.ov_chain.specs.Walk.{access_along, walked}
-use Rattle.ov_history.specs.Keys.{AreTrueTokens}
 use Rattle.ov_history.specs.Refusals.{read_refusal}
 use Rattle.ov_history.specs.Masters.{Masters, access_key}
 use Rattle.ov_history.specs.Catalogue.{Filed, Catalogue, filed_at, matrix_shown}
@@ -47,12 +46,3 @@ LeadsToSurface master (Some node) (Some chain) =
 pub record LeadsToKeys (k : Masters) (f : Filed) (c : Chained) : Type 0 where
   pub base : access_along (node_key Derive k.base c.base.root) c.base ≡ access_key k.base f.node
   pub surface : LeadsToSurface k.surface f.surface c.surface
-
--- Where the tokens are true and the one key is that of the root, the other is the access key of the
--- node that the chain is a base chain to.
-abbrev pub LeadsToAccess : List ℕ → Chain → List ℕ → Type 0
-LeadsToAccess root_key chain key =
-    (k : Masters) (s : Catalogue) (user node : ℕ)
-    → AreTrueTokens k s → IsBaseChain s.base s.grants user node chain
-    → root_key ≡ node_key Derive k.base chain.root
-    → key ≡ access_key k.base node

@@ -8,15 +8,13 @@ ghost use Rattle.ov_tokens.specs.Labels.{label_of};
 ghost use Rattle.ov_tokens.specs.declared.label.Kind.TheVariants.{Derive};
 ghost use Rattle.ov_base_layer.specs.BaseContents.{holders_of};
 ghost use Rattle.ov_base_layer.specs.Holders.{accesses_of};
-ghost use Rattle.ov_chain.specs.Walk.{access_along};
 ghost use Rattle.ov_history.specs.Layers.{root_of};
 ghost use Rattle.ov_state.specs.Contents.{nodes_of};
-ghost use Rattle.ov_state.specs.Chains.{LeadsToAccess};
 ghost use Rattle.ov_history.specs.Chains.{IsAccessChain, IsBaseChain, IsEdgeChain, IsSurfaceChain};
 
-use ov_base::{Key, Memory, UserSet};
+use ov_base::{Memory, UserSet};
 use ov_base_layer::{BaseLayer, Grant};
-use ov_chain::{shortest, walk_to_access};
+use ov_chain::shortest;
 use ov_graph::Graph;
 use ov_tokens::{Base, Chain, Kind, Label, Layer, Step, Steps, Surface, Token};
 use std::alloc::Global;
@@ -145,13 +143,4 @@ pub fn surface_chain<S: Graph<Surface, W>, const W: usize>(
         }
         None => Ok(None),
     }
-}
-
-/// The access key to which a base chain leads from the derivation key of its root: where its tokens
-/// are true, that of the node whose chain it is. It takes no memory.
-pub fn access_key_by(root_key: &Key, chain: &Chain) -> Key
-    ensures key { result.bytes ≡ access_along root_key.now.bytes chain.now }
-    ensures leads { LeadsToAccess root_key.now.bytes chain.now result.bytes }
-{
-    walk_to_access(root_key, chain)
 }

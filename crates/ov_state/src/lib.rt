@@ -69,7 +69,7 @@
 //!   by [`State::remember`], so that the creation or the replacement needn't plan it again.
 //! * [`State::chain`] is refused exactly where a read is, unless memory is. It gives a reader of a
 //!   file the chains from the reader's two roots to the file's keys ([`Chained`]); over true tokens
-//!   they lead to these keys, and [`access_key_by`] walks the one of the base layer.
+//!   they lead to these keys.
 //!
 //! | file in `specs/` | says |
 //! |---|---|
@@ -134,7 +134,6 @@ mod state;
 pub use asking::Asked;
 pub use brief::Brief;
 pub use chained::Chained;
-pub use chains::access_key_by;
 pub use change::{Change, Rewrite};
 pub use closures::closures_are_the_matrix;
 pub use covering::Planned;

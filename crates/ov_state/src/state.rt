@@ -82,4 +82,14 @@ impl<B: Graph<Base, W>, S: Graph<Surface, W>, const W: usize> State<B, S, W> {
             remembered: None,
         })
     }
+
+    /// The same in a box. A function that owns a catalogue lets go of each of its lists wherever it
+    /// may end, and all of them are in its proof; of a box it lets go at once.
+    pub fn boxed(alloc: Global, mode: Mode, first: u32) -> Result<Box<Self>, Memory>
+        requires { (MAX_USERS ≤ 64 * W) × (W ≤ MAX_SET_WORDS) }
+        ensures { IfOk result (λ state. state.value.catalogue ≡ empty_catalogue mode first) }
+    {
+        let state = State::new(alloc, mode, first)?;
+        Ok(Box::new(alloc, state)?)
+    }
 }

@@ -8,6 +8,7 @@ mod team;
 
 use ov_base::limits::{LAST_EPOCH, MAX_USERS};
 use ov_base::{Key, Mode, Name, Octets, Refusal, UserSet};
+use ov_chain::walk_to_access;
 use ov_graph::Graph;
 use ov_record::Update;
 use ov_state::*;
@@ -260,7 +261,10 @@ fn expect_reading(rt: &impl Abort, alloc: Global, catalogue: &Catalogue, row: &R
     assert_eq!(rt; stands, (row.number, row.generation, LENGTH));
     assert_eq!(rt; (chained.epoch, chained.base.root), (11, row.root));
     assert_eq!(rt; chained.surface.is_some(), row.has_surface);
-    assert_eq!(rt; access_key_by(&MASTER, &chained.base).bytes, row.access_key);
+    assert_eq!(rt;
+        walk_to_access(&MASTER, &chained.base).bytes,
+        row.access_key
+    );
 }
 
 #[test]

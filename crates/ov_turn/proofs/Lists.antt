@@ -90,11 +90,6 @@ at_inside [] i v e = absurd (some-ne-none v (sym e))
 at_inside (x ∷ xs) zero v e = omega arith
 at_inside (x ∷ xs) (suc i) v e = let p = at_inside xs i v e in omega arith
 
--- what holds of each element holds of each at the front
-pub all_first : {X : Type 0} (P : X → Type 0) (xs ys : List X) → All P (xs ++ ys) → All P xs
-all_first P xs ys h k d lt =
-    subst P (get_or_append_left xs ys d k lt) (h k d (omega (arith, length-append xs ys)))
-
 -- ---- a pass's own updates
 
 -- an update of another pass is none of its own

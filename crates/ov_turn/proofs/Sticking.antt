@@ -8,14 +8,6 @@ use Rattle.ov_turn.specs.Steps.{failed_after}
 
 module _ {A : Type 0} (tells : AnswererTells A) (old new : A) (stuck : Bool)
     (request reply : List ℕ) (before : stuck ≡ true → tells.stuck old) where
-  -- a value that accepted an update wasn't stuck
-  pub accepts_sound : Sticks tells old new request reply → says_accepted reply ≡ true
-      → stuck ≡ false
-  accepts_sound s so = by_test stuck refl where
-    by_test : (b : Bool) → stuck ≡ b → stuck ≡ false
-    by_test false is = is
-    by_test true is = absurd (true≢false (sym so ∙ s.refuses (before is)))
-
   -- a value is stuck after a failed update, and where it was before
   pub left_stuck : (r : Result ℕ Memory) → StaysStuck tells old new request reply r
       → (failed_after r request reply || stuck) ≡ true → tells.stuck new

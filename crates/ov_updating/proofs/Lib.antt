@@ -5,7 +5,6 @@ pub mod HeldAfter
 pub mod Holding
 pub mod Keeping
 pub mod Listing
-pub mod Lists
 pub mod Ordering
 pub mod Origins
 pub mod Removing

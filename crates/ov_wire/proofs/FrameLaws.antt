@@ -11,14 +11,6 @@ use Rattle.ov_wire.specs.declared.state.State.TheVariants as states
 use Rattle.ov_wire.specs.Frames.{framed, IsFrame, IsFrameLength, IsCut, in_length, in_frame, Decoding, Feeds, state_rest, is_bad, verdict}
 use Rattle.ov_wire.specs.Cutting.{StateCut, IsCutting, CutsOff, Advances}
 
--- one frame more
-all_more : (frames : List (List ℕ)) (frame : List ℕ) → AllByRecursion IsFrame frames → IsFrame frame → AllByRecursion IsFrame (frames ++ frame ∷ [])
-all_more [] frame all is = (is, tt)
-all_more (f ∷ frames) frame all is = (all.0, all_more frames frame all.1 is)
-
-joined_more : (frames : List (List ℕ)) (frame : List ℕ) → flat_map framed (frames ++ frame ∷ []) ≡ flat_map framed frames ++ framed frame
-joined_more frames frame = flat_map-append framed frames (frame ∷ []) ∙ ap (λ (l : List ℕ). flat_map framed frames ++ l) (append-nil (framed frame))
-
 -- what is kept while bytes are cut: before stood in the list at first, and after stands there now
 pub record CutsOn (bytes : List ℕ) (before after : List (List ℕ)) (count filled : ℕ) (head rest : List ℕ) : Type 0 where
   pub frames : List (List ℕ)
@@ -27,25 +19,6 @@ pub record CutsOn (bytes : List ℕ) (before after : List (List ℕ)) (count fil
   pub counted : count ≡ length (flat_map framed frames)
   pub little : filled < 4
   pub room : count + filled + length rest ≡ length bytes
-
-pub cuts_on : (bytes : List ℕ) (before now : List (List ℕ)) (count filled : ℕ) (head rest frame after head' : List ℕ)
-    → take filled head ++ rest ≡ framed frame ++ after → IsFrame frame → CutsOn bytes before now count filled head rest
-    → CutsOn bytes before (now ++ frame ∷ []) (count + (4 + length frame)) 0 head' after
-cuts_on bytes before now count filled head rest frame after head' here is c =
-    let frames = c.frames in
-    let more = joined_more frames frame in
-    let parts : bytes ≡ flat_map framed (frames ++ frame ∷ []) ++ after =
-    c.cut.parts ∙ ap (λ (l : List ℕ). flat_map framed frames ++ l) here ∙ sym (append_assoc (flat_map framed frames) (framed frame) after) ∙ ap (λ (l : List ℕ). l ++ after) (sym more) in
-    let sum : length (flat_map framed (frames ++ frame ∷ [])) ≡ length (flat_map framed frames) + (4 + length frame) =
-    ap length more ∙ length-append (flat_map framed frames) (framed frame) ∙ ap (λ (n : ℕ). length (flat_map framed frames) + n) (omega arith) in
-    record {
-      frames = frames ++ frame ∷ [];
-      appended = ap (λ (l : List (List ℕ)). l ++ frame ∷ []) c.appended ∙ append_assoc before frames (frame ∷ []);
-      cut = record { parts = parts; each = all_more frames frame c.cut.each is };
-      counted = omega (arith, c.counted, sum);
-      little = omega arith;
-      room = omega (arith, ap length parts, length-append (flat_map framed (frames ++ frame ∷ [])) after, sum, c.counted);
-    }
 
 -- bytes and frames that were cut, behind one frame more
 cut_behind : (frame bytes : List ℕ) (frames : List (List ℕ)) (rest : List ℕ) → IsFrame frame → IsCut bytes frames rest → IsCut (framed frame ++ bytes) (frame ∷ frames) rest

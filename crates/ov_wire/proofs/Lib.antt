@@ -15,7 +15,6 @@ pub mod NamePlaces
 pub mod NamesLaws
 pub mod NumberLaws
 pub mod NumberPlaces
-pub mod Putting
 pub mod QuestionLaws
 pub mod RequestLaws
 pub mod RequestPlaces

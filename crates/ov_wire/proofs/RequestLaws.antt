@@ -126,20 +126,6 @@ request_limits (requests.Page part number) form = tt
 request_limits (requests.List file) form = tt
 request_limits (requests.Replan file len) form = form.is_request.1
 
--- a frame has room for a request within the limits
-pub request_fits : (request : Request) → IsRequest request → HasRequestLimits request → length (request_bytes request) ≤ MAX_FRAME_BYTES
-request_fits requests.Hello is within = omega arith
-request_fits (requests.Ask question) is within = omega (arith, question_reads.short question is)
-request_fits (requests.Cover file len names) is within = within.2
-request_fits (requests.Update epoch spelling tag) is within =
-    let k = update_reads.short ((epoch, spelling), tag) ((is.0, is.1), is.2) in omega (arith, k)
-request_fits (requests.Chain user file) is within = let k = two_names_read.short (user, file) is in omega (arith, k)
-request_fits (requests.Chunk file generation start count) is within = omega arith
-request_fits (requests.Page part number) is within = omega arith
-request_fits (requests.List file) is within = omega (arith, name_reads.short file is)
-request_fits (requests.Replan file len) is within =
-    let k = replan_reads.short (file, len) (replan_fits file len is) in omega (arith, k)
-
 -- a request has a byte at least
 some_bytes : (request : Request) → 1 ≤ length (request_bytes request)
 some_bytes requests.Hello = omega arith

@@ -26,9 +26,6 @@ use Rattle.ov_wire.proofs.QuestionLaws as questions_read
 pub two_names_places : {Once Limited : Type 0} → HasPlaces Once Limited (name_at >> name_at) questions_read.two_names questions_read.AreTwoNames
 two_names_places = then_places name_reads name_places name_places
 
-a_name : IsFront name_field IsName []
-a_name = let P = name_places {Once = ⊥} {Limited = ⊥} in none_before P.value P.form P.bytes
-
 -- ---- questions
 
 no_question : IsFront question_bytes HasQuestionForm []

@@ -27,12 +27,12 @@ mod texts;
 mod usage;
 
 use ov_acts::read_job;
-use ov_files::{held_places, words_of};
+use ov_files::{hold_places, words_of};
 use real::run_job;
 use std::io::ErrorKind;
 use std::process::ExitCode;
 use texts::WrongWords;
-use usage::{ask_or_explain, say_out_of_memory, say_wrong};
+use usage::{ask_or_explain, say_no_places, say_out_of_memory, say_wrong};
 
 /// Does what the words ask for, and gives the status.
 fn answer_words(rt: &HostRuntime, words: &[String]) -> u8 {
@@ -44,7 +44,9 @@ fn answer_words(rt: &HostRuntime, words: &[String]) -> u8 {
 }
 
 fn main(rt: HostRuntime) -> ExitCode {
-    let _held = held_places(&rt);
+    let Ok(_held) = hold_places(&rt) else {
+        return ExitCode::from(say_no_places(&rt));
+    };
     let code = match words_of(&rt) {
         Ok(words) => answer_words(&rt, &words),
         Err(error) if error.kind() == ErrorKind::OutOfMemory => say_out_of_memory(&rt),

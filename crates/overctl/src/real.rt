@@ -13,10 +13,11 @@ use ov_files::is_open_to_others;
 use ov_io::{FileSource, Source, StdSink, StdSource};
 use ov_listing::answer;
 use ov_peer::FixedPeer;
+use ov_retry::{Retrying, read_retrying};
 use ov_session::{NetPeer, TcpLink};
 use std::fs;
 use std::fs::File;
-use std::io::{ErrorKind, Read};
+use std::io::ErrorKind;
 use std::net::ToSocketAddrs;
 
 // The path that stands for standard input, and what texts call it.
@@ -41,7 +42,7 @@ fn warn_of_mode(rt: &HostRuntime, path: &str) {
 fn read_fault(rt: &HostRuntime, path: &str) -> Option<ErrorKind> {
     let mut one = [0; 1];
     match File::open(rt, path) {
-        Ok(mut file) => match file.read(&mut one) {
+        Ok(mut file) => match read_retrying(&mut file, &mut one) {
             Ok(_) => None,
             Err(error) => Some(error.kind()),
         },
@@ -145,7 +146,7 @@ fn do_with<B: Source>(rt: &HostRuntime, job: &Job, body: &mut B) -> Result<Outco
 {
     let alloc = rt.alloc();
     let mut keys = FileSource::new(*rt, text_of(&job.keys))?;
-    let mut out = Heard::new(StdSink::new(rt.stdout()));
+    let mut out = Heard::new(StdSink::new(Retrying::new(rt.stdout())));
     let (code, link, leaked) = if matches!(&job.act, Act::Check) {
         let mut peer = FixedPeer::new(Vec::new(alloc), Octets::new(alloc));
         let code = act(alloc, job, &mut keys, body, &mut out, &mut peer);
@@ -171,7 +172,7 @@ fn do_job(rt: &HostRuntime, job: &Job) -> Result<Outcome, Memory>
     requires list { HasListLimits job.now.act }
 {
     match text_of(&job.path) {
-        STANDARD_INPUT => do_with(rt, job, &mut StdSource::new(rt.stdin())),
+        STANDARD_INPUT => do_with(rt, job, &mut StdSource::new(Retrying::new(rt.stdin()))),
         path => do_with(rt, job, &mut FileSource::new(*rt, path)?),
     }
 }
@@ -205,7 +206,7 @@ pub fn run_job(rt: &HostRuntime, job: &Job) -> u8
 // Asks over the real stream, and prints the answer.
 fn do_ask(rt: &HostRuntime, asked: &Asked<'_>) -> Result<Outcome, Memory> {
     let alloc = rt.alloc();
-    let mut out = Heard::new(StdSink::new(rt.stdout()));
+    let mut out = Heard::new(StdSink::new(Retrying::new(rt.stdout())));
     let mut peer = NetPeer::new(TcpLink::new(*rt, asked.address)?)?;
     let found = match answer(alloc, &mut peer, &asked.question) {
         Ok(Some(text)) => Ok(text),

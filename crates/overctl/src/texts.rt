@@ -1,6 +1,6 @@
 //! What is said of words that are no line of a command, and where memory or output is missing.
 
-use ov_acts::line_of;
+use ov_acts::{MAX_WRITTEN_LIST, line_of};
 use std::fmt;
 use std::fmt::{Display, Formatter, Write};
 
@@ -15,6 +15,13 @@ pub const UNWRITTEN: &str = "cannot write standard output";
 
 /// What to do where standard output can't be written.
 pub const WRITABLE: &str = "see that it is open, and that there is room";
+
+/// What is said where the places of standard streams can't be held.
+pub const NO_PLACES: &str =
+    "/dev/null cannot be opened, and without it another file might be taken for standard output";
+
+/// What to do where the places of standard streams can't be held.
+pub const THERE: &str = "see that it is there, and that you may open files";
 
 /// Why the words are no line of a command.
 #[derive(Drop)]
@@ -49,7 +56,7 @@ impl Display for WrongWords<'_> {
             ),
             WrongWords::List(word) => write!(
                 f,
-                "`{word}` is no list: names with commas between, or `-`, in 70000 bytes at most"
+                "`{word}` is no list: names with commas between, or `-`, in {MAX_WRITTEN_LIST} bytes at most"
             ),
         }
     }

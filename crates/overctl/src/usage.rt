@@ -2,7 +2,9 @@
 
 use crate::question::question_of;
 use crate::real::run_ask;
-use crate::texts::{FREE_SOME, OUT_OF_MEMORY, UNWRITTEN, WRITABLE, WrongWords, usage_of};
+use crate::texts::{
+    FREE_SOME, NO_PLACES, OUT_OF_MEMORY, THERE, UNWRITTEN, WRITABLE, WrongWords, usage_of,
+};
 use clap::Error;
 use clap::error::ErrorKind;
 use ov_acts::{Status, judge, line_of, names_of};
@@ -81,6 +83,12 @@ fn say_of_line(rt: &HostRuntime, words: &[String], error: Error) -> u8 {
             Status::WriteFault.code()
         }
     }
+}
+
+/// Says that the places of standard streams can't be held.
+pub fn say_no_places(rt: &HostRuntime) -> u8 {
+    say(rt, &NO_PLACES, &THERE);
+    Status::WriteFault.code()
 }
 
 /// Says that memory was refused.

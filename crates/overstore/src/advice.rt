@@ -1,6 +1,7 @@
 //! What is wrong and what to do, for standard error.
 use crate::lacks::Lack;
 use ov_answering::Status;
+use ov_base::limits::MAX_LINE_BYTES;
 use ov_files::FileFault;
 
 /// Where the program was when it ended.
@@ -67,6 +68,16 @@ const NOT_MADE: &str = "it can't be made in this folder; see that you may write 
 
 const NO_FILE: &str = "it is no regular file; take it away, and run again";
 
+const LINK: &str =
+    "it is a symbolic link, and nothing is written through one; put the file itself in \
+    its place, and run again";
+
+const TWO_NAMES: &str =
+    "it is one file with another that the program uses; put a file of its own in \
+    its place, and run again";
+
+const IN_USE: &str = "another program has it in use; end that, and run again";
+
 const NOT_YOURS: &str = "you may not read and write it; run as its owner";
 
 const NO_KEYS: &str = "there is no keys.hex in this folder; no command was read and nothing was \
@@ -96,6 +107,12 @@ const READER_IS_GONE: &str = "whoever read the replies closed their end; what wa
 
 const LOAD_READER_IS_GONE: &str = "whoever read the lines closed their end; what the load did \
     lasts";
+
+/// What is wrong where the places of standard streams can't be held.
+pub const NO_PLACES: &str =
+    "/dev/null can't be opened, and without it a file of the store might be \
+    taken for standard output; nothing was read and nothing was written; see that it is there, and \
+    that you may open files";
 
 /// What to do where a store was begun and the keys may have had one before.
 pub const TWO_STORES: &str =
@@ -184,6 +201,9 @@ fn by_work(
     }
 }
 
+// The number that `on_lack` has in a text.
+const _: () = prove!(MAX_LINE_BYTES == 70_000);
+
 /// What a bad line lacks.
 pub fn on_lack(lack: Lack) -> &'static str {
     match lack {
@@ -215,7 +235,10 @@ pub fn on_file(fault: FileFault) -> &'static str {
     match fault {
         FileFault::NoFolder | FileFault::NotMade => NOT_MADE,
         FileFault::NoFile => NO_FILE,
+        FileFault::Link => LINK,
         FileFault::NotOurs => NOT_YOURS,
+        FileFault::TwoNames => TWO_NAMES,
+        FileFault::InUse => IN_USE,
     }
 }
 

@@ -35,10 +35,11 @@ use ov_answering::Status;
 use ov_auditing::audit;
 use ov_base::Memory;
 use ov_disk::FileDisk;
-use ov_files::{begins, held_places, words_of};
+use ov_files::{OwnFiles, begins, hold_places, words_of};
 use ov_io::{FileSink, FileSource, Source, StdSink, StdSource};
 use ov_load::load;
 use ov_report::put_memory;
+use ov_retry::Retrying;
 use ov_run::{Tried, Watched, run};
 use progress::Counted;
 use recent::Recent;
@@ -49,7 +50,7 @@ use std::process::ExitCode;
 use texts::{HELP, VERSION};
 use told::{
     BLOBS_FILE, BOOK_FILE, KEY_FILE, TRACE_FILE, explain, explain_line, is_older_store, new_store,
-    open_keys,
+    no_places, open_keys,
 };
 
 // The word that a run without a count of replies begins with.
@@ -108,20 +109,19 @@ fn stage_by_keys(rt: &HostRuntime) -> Stage {
     }
 }
 
+// A disk, and a sink, over files that the program writes.
+type StoreDisk = FileDisk<OwnFiles<HostRuntime>>;
+
+type TraceSink = FileSink<OwnFiles<HostRuntime>>;
+
 // The files of the folder: the key file, the store's two, and the trace.
 fn files_of(
     rt: HostRuntime,
-) -> Result<
-    (
-        Tried<FileSource<HostRuntime>>,
-        FileDisk<HostRuntime>,
-        FileSink<HostRuntime>,
-    ),
-    Memory,
-> {
+) -> Result<(Tried<FileSource<HostRuntime>>, StoreDisk, TraceSink), Memory> {
     let keys = Tried::new(FileSource::new(rt, KEY_FILE)?);
-    let disk = FileDisk::new(rt, BOOK_FILE, BLOBS_FILE)?;
-    let trace = FileSink::new(rt, TRACE_FILE)?;
+    let own = OwnFiles::beside(rt, KEY_FILE);
+    let disk = FileDisk::new(own, BOOK_FILE, BLOBS_FILE)?;
+    let trace = FileSink::new(own, TRACE_FILE)?;
     Ok((keys, disk, trace))
 }
 
@@ -162,7 +162,7 @@ fn bad_line_of<S: Source>(
 }
 
 // Whether these words may ask for the store, and it is of an older format.
-fn asks_for_older(rt: &HostRuntime, words: &[String], disk: &mut FileDisk<HostRuntime>) -> bool {
+fn asks_for_older(rt: &HostRuntime, words: &[String], disk: &mut StoreDisk) -> bool {
     (is_first("run", words) || is_first("load", words)) && is_older_store(rt, disk)
 }
 
@@ -173,8 +173,8 @@ fn answer<W: Write>(
     words: &[String],
     keys: &mut Tried<FileSource<HostRuntime>>,
     out: &mut Counted<StdSink<&mut Watched<W>>>,
-    trace: &mut Frames<FileSink<HostRuntime>>,
-    disk: &mut FileDisk<HostRuntime>,
+    trace: &mut Frames<TraceSink>,
+    disk: &mut StoreDisk,
 ) -> (u8, Option<(u64, Lack)>) {
     let alloc = rt.alloc();
     if is_first("load", words) {
@@ -183,7 +183,7 @@ fn answer<W: Write>(
     if is_first("audit", words) {
         return (audit(alloc, words, keys, out, disk), None);
     }
-    let mut script = Recent::new(alloc, StdSource::new(rt.stdin()));
+    let mut script = Recent::new(alloc, StdSource::new(Retrying::new(rt.stdin())));
     let code = run(alloc, words, keys, &mut script, out, trace, disk);
     (code, bad_line_of(alloc, &script, out.bad_line()))
 }
@@ -237,8 +237,11 @@ fn answer_words<W: Write>(rt: &HostRuntime, words: &[String], replies: &mut Watc
 }
 
 fn main(rt: HostRuntime) -> ExitCode {
-    let _held = held_places(&rt);
-    let mut replies = Watched::new(rt.stdout());
+    let Ok(_held) = hold_places(&rt) else {
+        no_places(&rt);
+        return ExitCode::from(Status::WriteFault.code());
+    };
+    let mut replies = Watched::new(Retrying::new(rt.stdout()));
     let end = match words_of(&rt) {
         Ok(words) => answer_words(&rt, &words, &mut replies),
         Err(error) if error.kind() == ErrorKind::OutOfMemory => {

@@ -2,12 +2,13 @@
 //! do.
 use crate::End;
 use crate::advice::{
-    AFTER_BAD_LINE, KEEP_A_COPY, OLDER, Stage, TWO_STORES, advice_on, on_file, on_lack, what_lasts,
+    AFTER_BAD_LINE, KEEP_A_COPY, NO_PLACES, OLDER, Stage, TWO_STORES, advice_on, on_file, on_lack,
+    what_lasts,
 };
 use crate::lacks::Lack;
 use ov_answering::Status;
 use ov_disk::Disk;
-use ov_files::{begins, fault_of, is_of_first_format, is_open_to_others};
+use ov_files::{FileFault, begins, fault_of, is_of_first_format, is_open_to_others};
 use ov_store::is_to_be_carried_over;
 
 /// The file of the two masters, in the folder where the program runs.
@@ -21,15 +22,29 @@ pub const BLOBS_FILE: &str = "store.blobs";
 /// The frames between the parties, of the last run.
 pub const TRACE_FILE: &str = "trace.bin";
 
+// All files that the program uses.
+const FILES: [&str; 4] = [KEY_FILE, BOOK_FILE, BLOBS_FILE, TRACE_FILE];
+
 // Says what is wrong.
 fn say(rt: &HostRuntime, error: &str) {
     let _ = eprintln!(rt; "overstore: error: {error}");
 }
 
+// Why this file can't be used, where the system says so.
+fn fault_beside(rt: &HostRuntime, path: &str) -> Option<FileFault> {
+    let mut others = FILES;
+    for other in &mut others {
+        if *other == path {
+            *other = KEY_FILE;
+        }
+    }
+    fault_of(rt, path, &others)
+}
+
 // Says which of these files can't be used, and why, where the system says so of one.
 fn say_of_files(rt: &HostRuntime, paths: &[&str], stage: Stage) -> bool {
     for path in paths {
-        match fault_of(rt, path) {
+        match fault_beside(rt, path) {
             Some(fault) => {
                 let (why, lasts) = (on_file(fault), what_lasts(stage));
                 let _ = eprintln!(rt; "overstore: error: {path}: {why}; {lasts}");
@@ -71,6 +86,11 @@ pub fn explain(rt: &HostRuntime, end: &End, reader_is_gone: bool) {
         Some(said) => say(rt, said),
         None => {}
     }
+}
+
+/// Says that the places of standard streams can't be held.
+pub fn no_places(rt: &HostRuntime) {
+    say(rt, NO_PLACES);
 }
 
 /// Says so where others than their owner may read the masters.

@@ -1,6 +1,7 @@
 //! What a server says on standard error of the updates that it accepts and of the sessions that it
-//! ends, where it is asked to. A line is one print, and comes behind the reply that it tells of: so
-//! lines of sessions that run at once don't mix, and may stand in another order than their epochs.
+//! ends, where it is asked to. A line is one print, so lines of sessions that run at once don't mix,
+//! and may stand in another order than their epochs. That of an update comes before the reply, which
+//! may never arrive: no update that was accepted has no line.
 
 use crate::heads::{Head, Heads};
 use crate::texts::on_end;
@@ -117,8 +118,8 @@ impl<R: Eprint + Clock + AllocGlobal> Log<R> {
         }
     }
 
-    /// These bytes go to the client.
-    pub fn put(&mut self, bytes: &[u8]) {
+    /// These bytes go to the client next, if it is still there.
+    pub fn puts(&mut self, bytes: &[u8]) {
         for byte in bytes {
             if let Some(reply) = self.answered.pass(*byte) {
                 self.answer(reply);

@@ -29,9 +29,10 @@ use disk::SpokenDisk;
 use door::{News, SpokenDoor};
 use ov_base::Memory;
 use ov_disk::{Disk, FileDisk};
-use ov_files::{FileFault, begins, fault_of, held_places, is_of_first_format, words_of};
+use ov_files::{FileFault, OwnFiles, begins, fault_of, hold_places, is_of_first_format, words_of};
 use ov_host::host;
 use ov_io::{FileSource, Source, StdSink};
+use ov_retry::Retrying;
 use ov_serving::Spawner;
 use ov_session::{OpenGate, SILENCE_SECONDS, TcpDoor};
 use ov_settings::{Settings, read_settings};
@@ -97,7 +98,7 @@ fn begun_by(
     book: &str,
     blobs: &str,
 ) -> Result<Option<News>, Memory> {
-    let may_begin = matches!(fault_of(rt, blobs), None | Some(FileFault::NotMade));
+    let may_begin = matches!(fault_of(rt, blobs, &[]), None | Some(FileFault::NotMade));
     if !may_begin || !begins(rt, book) {
         return Ok(None);
     }
@@ -128,14 +129,16 @@ fn news_of<D: Disk>(
     }
 }
 
-// The disk over these files, which knows by the flag whether the server listens.
+// The disk over these files, none of which is the settings file at this path, which has a key. It
+// knows by the flag whether the server listens.
 fn disk_over(
     rt: &HostRuntime,
+    path: &str,
     book: &str,
     blobs: &str,
     listens: Arc<AtomicBool, Global>,
-) -> Result<SpokenDisk<FileDisk<HostRuntime>, HostRuntime>, Memory> {
-    let disk = FileDisk::new(*rt, book, blobs)?;
+) -> Result<SpokenDisk<FileDisk<OwnFiles<HostRuntime>>, HostRuntime>, Memory> {
+    let disk = FileDisk::new(OwnFiles::beside(*rt, path), book, blobs)?;
     let name = String::from_str(rt.alloc(), book)?;
     Ok(SpokenDisk::new(disk, name, *rt, listens))
 }
@@ -151,11 +154,12 @@ fn flags(alloc: Global) -> Result<(Arc<AtomicBool, Global>, Arc<AtomicBool, Glob
     }
 }
 
-// Serves by these settings, or has no memory to begin. The net is the runtime with the leave to open
-// sockets, to start threads and to wait, which it has in `main` alone.
+// Serves by these settings, which are those of this file, or has no memory to begin. The net is the
+// runtime with the leave to open sockets, to start threads and to wait, which it has in `main` alone.
 fn try_serve<N: Net + Threads + Wait + AllocGlobal + Copy + Send + Drop + 'static>(
     net: &N,
     rt: &HostRuntime,
+    path: &str,
     settings: &Settings,
     logs: bool,
 ) -> Result<u8, Memory>
@@ -167,12 +171,12 @@ where
     let blobs = text_of(settings.blobs.as_slice());
     let address = text_of(settings.address.as_slice());
     let (listens, known) = flags(rt.alloc())?;
-    let mut disk = disk_over(rt, book, blobs, known)?;
+    let mut disk = disk_over(rt, path, book, blobs, known)?;
     let door = TcpDoor::new(*net, address, SILENCE_SECONDS)?;
     let news = news_of(rt, settings, book, blobs, &mut disk)?;
     let mut door = SpokenDoor::new(door, *rt, listens, logs, news);
     let mut spawner = Spawner::new(rt.alloc());
-    let mut out = StdSink::new(rt.stdout());
+    let mut out = StdSink::new(Retrying::new(rt.stdout()));
     let status = host(
         net,
         rt.alloc(),
@@ -184,15 +188,16 @@ where
         &mut out,
     )
     .status;
-    told::end(rt, status, book, blobs);
+    told::end(rt, status, path, book, blobs);
     told::door(rt, status, address, door.has_listened(), door.door.reason());
     Ok(status)
 }
 
-// Serves by these settings.
+// Serves by these settings, which are those of this file.
 fn serve<N: Net + Threads + Wait + AllocGlobal + Copy + Send + Drop + 'static>(
     net: &N,
     rt: &HostRuntime,
+    path: &str,
     settings: &Settings,
     logs: bool,
 ) -> u8
@@ -200,7 +205,7 @@ where
     N::Stream: Send + 'static,
     requires { (1 ≤ settings.now.workers) × (settings.now.workers ≤ 65536) }
 {
-    match try_serve(net, rt, settings, logs) {
+    match try_serve(net, rt, path, settings, logs) {
         Ok(status) => status,
         Err(Memory) => print(rt, NO_MEMORY, out_of_memory(rt)),
     }
@@ -237,7 +242,7 @@ where
         Ok(settings) => {
             told::open_settings(rt, path);
             told::other_keys(rt, path);
-            serve(net, rt, &settings, logs)
+            serve(net, rt, path, &settings, logs)
         }
         Err(status) => {
             told::no_settings(rt, path, status);
@@ -274,7 +279,10 @@ where
 }
 
 fn main(rt: HostRuntime) -> ExitCode {
-    let _held = held_places(&rt);
+    let Ok(_held) = hold_places(&rt) else {
+        told::no_places(&rt);
+        return ExitCode::from(WRITE_FAULT);
+    };
     let status = match words_of(&rt) {
         Ok(words) => answer_words(&rt, &rt, &words),
         Err(error) if error.kind() == ErrorKind::OutOfMemory => out_of_memory(&rt),

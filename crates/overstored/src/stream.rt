@@ -12,7 +12,8 @@ use std::time::Clock;
 
 /// The stream in it, the address of its client, where that is known, and the log of its session,
 /// where one is kept. It tells what the stream tells. In the thread of its session it says, by one
-/// print a line, what is logged and how the session ended, where it didn't end between two frames.
+/// print a line, what is logged and how the session ended, where it didn't end between two frames. An
+/// update is logged before its reply is put, since it was made whether or not the reply arrives.
 #[derive(Drop)]
 pub struct LoggedStream<S, R> {
     pub stream: S,
@@ -47,11 +48,10 @@ impl<S: Sink, R: Eprint + Clock + AllocGlobal> Sink for LoggedStream<S, R> {
     } };
 
     fn put(&mut self, bytes: &[u8]) -> Result<(), Fault> {
-        let put = self.stream.put(bytes);
-        if let (Ok(()), Some(log)) = (put, &mut self.log) {
-            log.put(bytes);
+        if let Some(log) = &mut self.log {
+            log.puts(bytes);
         }
-        put
+        self.stream.put(bytes)
     }
 }
 

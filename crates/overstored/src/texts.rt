@@ -102,6 +102,12 @@ pub const NO_LINE: (&str, &str) = (
     "see that it is open, and that there is room",
 );
 
+/// What is wrong where the places of standard streams can't be held, and what to do.
+pub const NO_PLACES: (&str, &str) = (
+    "it can't be opened, and without it a file of the store might be taken for standard output",
+    "see that it is there, and that the server may open files",
+);
+
 /// What is wrong where there is no file of that name.
 pub const NO_FILE: &str = "there is no such file";
 
@@ -145,23 +151,29 @@ pub fn on_file(fault: FileFault) -> (&'static str, &'static str) {
             "it is no regular file",
             "take it away, or correct `book` and `blobs` in the settings",
         ),
+        FileFault::Link => (
+            "it is a symbolic link, and nothing is written through one",
+            "name the file itself in `book` or `blobs`",
+        ),
         FileFault::NotOurs => (
             "the server may not read and write it",
             "give it to the server's user by `chown`",
+        ),
+        FileFault::TwoNames => (
+            "it is one file with the store's other file or with the settings",
+            "name another file in `book` or `blobs`",
+        ),
+        FileFault::InUse => (
+            "another process has it",
+            "stop that process, which may be another server of this store",
         ),
     }
 }
 
 /// What is wrong with a book where both files of the store may be used, and what to do.
-pub const IN_USE: (&str, &str) = (
-    "another process has it or the store's blobs, or one of them failed",
+pub const FAILED: (&str, &str) = (
+    "another process had it or the store's blobs, or one of them failed",
     "stop that process, or see that there is room and that the disk is well",
-);
-
-/// What is wrong with a book that is the store's blobs too, and what to do.
-pub const ONE_FILE: (&str, &str) = (
-    "`book` and `blobs` name one file",
-    "name another file for one of them in the settings",
 );
 
 /// What to do where a store was begun and the keys may have had one before.

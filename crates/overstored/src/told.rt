@@ -1,11 +1,11 @@
 //! What is wrong and what to do, on standard error. Where that can't be written the status has to
 //! do.
 use crate::texts::{
-    ACCEPTING, CHANGED, IN_USE, LISTENING, NO_ADDRESS, NO_FILE, NO_LINE, NO_ROOM, OLDER, ONE_FILE,
+    ACCEPTING, CHANGED, FAILED, LISTENING, NO_ADDRESS, NO_FILE, NO_LINE, NO_PLACES, NO_ROOM, OLDER,
     OTHER_KEY, TWO_STORES, WRONG_WORDS, error_in, hint_on, hint_on_door, on_file, on_store,
 };
 use ov_base::Mode;
-use ov_files::{FileFault, fault_of, folder_of, is_open_to_others};
+use ov_files::{FileFault, NOTHING, fault_of, folder_of, is_open_to_others};
 use ov_host::DOOR_FAULT;
 use ov_report::word_of;
 use ov_settings::{SettingsFault, settings_in};
@@ -61,6 +61,12 @@ pub fn no_connection<R: Eprint>(rt: &R, why: Option<ErrorKind>) {
             let _ = eprintln!(rt; "overstored: warning: can't accept, trying again");
         }
     }
+}
+
+/// Says that the places of standard streams can't be held.
+pub fn no_places(rt: &HostRuntime) {
+    say_of(rt, NOTHING, NO_PLACES.0);
+    advise(rt, NO_PLACES.1);
 }
 
 /// Says that standard output can't be written.
@@ -190,28 +196,28 @@ fn file_fault(rt: &HostRuntime, path: &str, fault: FileFault) {
     let (error, hint) = on_file(fault);
     match fault {
         FileFault::NoFolder | FileFault::NotMade => say_of(rt, folder_of(path), error),
-        FileFault::NoFile | FileFault::NotOurs => say_of(rt, path, error),
+        _ => say_of(rt, path, error),
     }
     advise(rt, hint);
 }
 
-// Says why a store in these files can't be used.
-fn disk_fault(rt: &HostRuntime, book: &str, blobs: &str) {
-    match (fault_of(rt, book), fault_of(rt, blobs)) {
+// Says why a store in these files can't be used by the settings in a file.
+fn disk_fault(rt: &HostRuntime, settings: &str, book: &str, blobs: &str) {
+    let of_book = fault_of(rt, book, &[settings, blobs]);
+    match (of_book, fault_of(rt, blobs, &[settings, book])) {
         (Some(fault), _) => file_fault(rt, book, fault),
         (None, Some(fault)) => file_fault(rt, blobs, fault),
         (None, None) => {
-            let (error, hint) = if book == blobs { ONE_FILE } else { IN_USE };
-            say_of(rt, book, error);
-            advise(rt, hint);
+            say_of(rt, book, FAILED.0);
+            advise(rt, FAILED.1);
         }
     }
 }
 
-/// Says how a server over a store in these files ended.
-pub fn end(rt: &HostRuntime, status: u8, book: &str, blobs: &str) {
+/// Says how a server ended over a store in these files, by the settings in this one.
+pub fn end(rt: &HostRuntime, status: u8, settings: &str, book: &str, blobs: &str) {
     match status {
-        4 => disk_fault(rt, book, blobs),
+        4 => disk_fault(rt, settings, book, blobs),
         6 => no_line(rt),
         7 => no_memory(rt),
         _ => match on_store(status) {

@@ -18,10 +18,10 @@ use Rattle.ov_auditing.proofs.replaying.findings_of.Goals as goal
 pub updates-init : goal.updates-init
 updates-init g c = record {
   any = begins_any c.args.surface.now.bytes c.mode.result (c.epoch.result - c.updates-updates.result)
-      c.in_ok-state.state.catalogue c.new-audit.result (search rules)
+      c.in_ok-state.state.value.catalogue c.new-audit.result (search rules)
       c.new-audit.ensures.epoch c.new-audit.ensures.notes;
   followed = begins_each g.D.Disk.tells c.args.store.now c.mode.result
-      (c.epoch.result - c.updates-updates.result) c.in_ok-state.state.catalogue c.new-audit.result
+      (c.epoch.result - c.updates-updates.result) c.in_ok-state.state.value.catalogue c.new-audit.result
       (search rules) c.new-audit.ensures.epoch c.new-audit.ensures.notes
       (search rules)
       (λ h serves i read. let many = c.updates-updates.ensures.count h serves i read in search rules);
@@ -42,18 +42,24 @@ look_at_next-requires-clause-members g c = (
       c.requires.members.1,
 )
 
+pub look_at_next-requires-clause-any : goal.look_at_next-requires-clause-any
+look_at_next-requires-clause-any g c =
+    rw (sym c.deref_mut.ensures.value) at c.updates.invariant.any
+
 pub look_at_next-requires-clause-followed : goal.look_at_next-requires-clause-followed
 look_at_next-requires-clause-followed g c =
-    one_followed g.D.Disk.tells c.args.store.now c.updates.store c.updates.invariant.stays c.updates.i
-    c.updates.state.catalogue c.updates.audit c.updates.invariant.followed c.known.ensures.0
-    c.known.ensures.1
+    rw (sym c.deref_mut.ensures.value) at
+    (one_followed g.D.Disk.tells c.args.store.now c.updates.store c.updates.invariant.stays c.updates.i
+    c.updates.state.value.catalogue c.updates.audit c.updates.invariant.followed c.known.ensures.0
+    c.known.ensures.1)
 
 pub updates-preserved : goal.updates-preserved
 updates-preserved g c = record {
   any = c.in_ok-look_at_next.ensures.any;
   followed = each_followed g.D.Disk.tells c.args.store.now c.updates.store c.updates.invariant.stays
-      c.updates.i c.updates.state.catalogue c.look_at_next.new.state.catalogue c.updates.audit
-      c.look_at_next.new.audit c.updates.invariant.followed c.in_ok-look_at_next.ensures.followed;
+      c.updates.i c.updates.state.value.catalogue c.look_at_next.new.state.catalogue c.updates.audit
+      c.look_at_next.new.audit c.updates.invariant.followed
+      (rw c.deref_mut.ensures.value at c.in_ok-look_at_next.ensures.followed);
   stays = stays_on g.D.Disk.tells c.args.store.now c.updates.store c.updates.invariant.stays
       c.look_at_next.new.store _ (λ none. absurd none) c.look_at_next.ensures.stays;
   users = c.look_at_next.ensures.same.0 ∙ c.updates.invariant.users;
@@ -63,15 +69,15 @@ updates-preserved g c = record {
 pub returns-clause-found : goal.returns-clause-found
 returns-clause-found g c h serves i read users are there =
     let followed = c.updates.invariant.followed h serves i read in
-    let whole : HasFollowed c.args.store.now.keys.surface h c.updates.state.catalogue
+    let whole : HasFollowed c.args.store.now.keys.surface h c.updates.state.value.catalogue
     c.updates.audit =
     subst (λ (us : List SealedUpdate). HasFollowed c.args.store.now.keys.surface (with_first h us)
-    c.updates.state.catalogue c.updates.audit)
+    c.updates.state.value.catalogue c.updates.audit)
     (take_all c.updates.i h.updates
     (omega (arith, c.updates-updates.ensures.count h serves i read))) followed in
     let found : AreFindings c.updates.audit.server c.args.store.now.keys.surface h users
     (findings_from c.updates.audit.server 0 c.updates.audit.notes) =
-    findings_are c.updates.audit.server c.args.store.now.keys.surface h c.updates.state.catalogue
+    findings_are c.updates.audit.server c.args.store.now.keys.surface h c.updates.state.value.catalogue
     c.updates.audit users whole
     (subst (λ set. AreMembers users set) (sym c.updates.invariant.users) are) there in
     subst (λ (findings : List Finding). AreFindings c.args.server c.args.store.now.keys.surface h

@@ -5,8 +5,8 @@ use Rattle.ov_auditing.proofs.replaying.findings_of.Given as goal
 -- so many updates were followed, and nothing was written
 abbrev pub invariant-updates : goal.invariant-updates
 invariant-updates g l = record {
-  any : FollowsAny l.fn.surface.bytes l.state.catalogue l.audit;
-  followed : FollowsEach g.D.Disk.tells l.fn.store l.i l.state.catalogue l.audit;
+  any : FollowsAny l.fn.surface.bytes l.state.value.catalogue l.audit;
+  followed : FollowsEach g.D.Disk.tells l.fn.store l.i l.state.value.catalogue l.audit;
   stays : StaysAsItWas g.D.Disk.tells l.fn.store l.store ⊥;
   users : l.audit.users ≡ l.fn.users;
   server : l.audit.server ≡ l.fn.server;

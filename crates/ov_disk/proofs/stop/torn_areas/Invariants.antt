@@ -1,9 +1,0 @@
-use Rattle.std.proofs.Common.{◌≡◌, drop}
-use Rattle.ov_disk.specs.Tape.{stop, stepped_all, before}
-use Rattle.ov_disk.proofs.stop.torn_areas.Given as goal
-
--- the changes that are left make of both what all of them make of the start
-abbrev pub invariant-changes : goal.invariant-changes
-invariant-changes l =
-    stepped_all l.fn.tear (before l.fn.call (drop l.change-index l.fn.changes)) (stop l.now.current l.left.current)
-    ≡ stepped_all l.fn.tear (before l.fn.call l.fn.changes) (stop l.fn.areas.start l.fn.areas.start)

@@ -1,0 +1,115 @@
+#!/usr/bin/env python3
+"""Makes the script of the updates in a store.book, so that a store that was lost can be made again as it was.
+
+Run: python3 tools/script_of_book.py KEYS BOOK FILES [FROM] > SCRIPT
+
+KEYS is the store's key file, BOOK a copy of its store.book, in either format, and FILES a folder with the bytes of
+each file that was created or replaced, under whatever names. With FROM the script begins behind that epoch, for an
+older copy of both store files, and bytes that were sent before aren't needed. Bytes are taken where they have the
+tag of the record, and so are those that were sent; NAME.EPOCH and NAME are looked at first. Where those of an update
+aren't in FILES there is no script, and standard error names each such update.
+
+Run over a new folder, or over a copy of the epoch FROM, the script makes the same store again: `cmp` finds its
+store.book equal to BOOK, if BOOK is of the newer format. `make -C dist install` installs it as
+overstore-script-of-book.
+"""
+import hashlib
+import hmac
+import pathlib
+import re
+import sys
+
+from all_files import BAD_INPUT, BAD_WORDS, end, words
+from store_layers import updates
+
+MISSING = 5
+KEY_FILE = re.compile(rb"([0-9a-fA-F]{64})\n[0-9a-fA-F]{64}\n?")
+# Where a book has the check value of the base master.
+CHECK = slice(14, 46)
+FORM = "KEYS BOOK FILES [FROM] > SCRIPT"
+
+
+def keyed(key, message):
+    return hmac.digest(key, message, "sha256")
+
+
+def label(kind, number):
+    return kind + number.to_bytes(4, "big")
+
+
+def tag_of(base, file, data):
+    """The tag of a file with these bytes, as its owner makes it."""
+    access = hashlib.sha256(keyed(base, label(b"B", file.base))).digest()
+    return keyed(keyed(access, label(b"T", file.number)), len(data).to_bytes(8, "big") + data)
+
+
+class Folder:
+    """The files of a folder and of those in it, by their lengths."""
+
+    def __init__(self, root):
+        if not root.is_dir():
+            end(BAD_INPUT, f"{root} is no folder")
+        self.root, self.by_length = root, {}
+        for path in sorted(path for path in root.rglob("*") if path.is_file()):
+            self.by_length.setdefault(path.stat().st_size, []).append(path)
+
+    def path_of(self, base, file, epoch):
+        """Which of them has the bytes that this update sent, or None."""
+        first = (self.root / f"{file.name}.{epoch}", self.root / file.name)
+        alike = sorted(self.by_length.get(file.length, []), key=lambda path: path not in first)
+        return next((path for path in alike if tag_of(base, file, read(path)) == file.tag), None)
+
+
+def read(path):
+    try:
+        return pathlib.Path(path).read_bytes()
+    except OSError as fault:
+        end(BAD_INPUT, f"cannot read {path}: {fault.strerror}")
+
+
+def base_master(path, book):
+    """The base master of a key file that is the book's."""
+    found = KEY_FILE.fullmatch(read(path))
+    if not found:
+        end(BAD_INPUT, f"{path} is no key file: that has two lines of 64 hexadecimal digits")
+    base = bytes.fromhex(found[1].decode())
+    if keyed(base, label(b"C", 0)) != book[CHECK]:
+        end(BAD_INPUT, f"{path} isn't the key file of this store")
+    return base
+
+
+def items(base, book, origin, folder, first):
+    """The line of each update behind an epoch, and where the bytes behind it are, or None where it has none. How many
+    updates lack their bytes is said at the end."""
+    missing, last = 0, first
+    for store, line in updates(book, origin):
+        last = store.epoch
+        if store.epoch <= first:
+            continue
+        path = None
+        if line[0] in ("create", "replace"):
+            file = store.files[-1]
+            line = [*line, str(file.length)]
+            path = folder.path_of(base, file, store.epoch) if file.length else pathlib.Path("/dev/null")
+            if path is None:
+                missing += 1
+                sys.stderr.write(f"update {store.epoch}, `{' '.join(line)}`: no file of {folder.root} has its bytes\n")
+        yield " ".join(line), path
+    if missing:
+        end(MISSING, f"no script: the bytes of {missing} updates are missing; others in their place would be under used keys")
+    if last < first:
+        end(BAD_INPUT, f"{origin} ends at epoch {last}, before {first}")
+
+
+def main():
+    keys, origin, root, *rest = words(3, 4, FORM)
+    if rest and not rest[0].isdecimal():
+        end(BAD_WORDS, f"{rest[0]} is no epoch: FROM is a decimal number")
+    book, folder = read(origin), Folder(pathlib.Path(root))
+    found = list(items(base_master(keys, book), book, origin, folder, int(rest[0]) if rest else 0))
+    for line, path in found:
+        sys.stdout.buffer.write(line.encode() + b"\n" + (read(path) + b"\n" if path else b""))
+
+
+if __name__ == "__main__":
+    main()
