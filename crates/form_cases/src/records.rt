@@ -6,7 +6,7 @@ ghost use Rattle.ov_record.specs.Forms.{form_of, longest_spelling};
 use crate::texts::put_number;
 use crate::updates::put_update;
 use ov_base::Octets;
-use ov_record::{Form, RecordFault, into_spelling, read, read_whole, write};
+use ov_record::{Form, RecordFault, into_spelling, read_whole};
 use std::alloc::Global;
 use std::test::Fail;
 
@@ -30,30 +30,17 @@ pub fn expect_same(bytes: &[u8], written: &[u8]) -> Result<(), Fail> {
     Err(Fail::from("a record is written otherwise"))
 }
 
-// The spelling of the update that the bytes spell, written in their own list.
-fn in_its_list<const W: usize>(alloc: Global, form: Form<W>, bytes: &[u8]) -> Result<Octets, Fail>
-    requires width { (1 ≤ W) × (W ≤ MAX_SET_WORDS) }
-    requires places { longest_spelling (form_of form) < 2 ^ 32 }
-{
-    match read_whole(alloc, form, Octets::copy(alloc, bytes)?) {
-        Ok(update) => Ok(into_spelling(alloc, form, update)?),
-        Err(_) => Err(Fail::from("an update isn't read in its own list")),
-    }
-}
-
 // The update that the bytes spell, or the place of the first wrong one.
 fn told<const W: usize>(alloc: Global, form: Form<W>, bytes: &[u8]) -> Result<String, Fail>
     requires width { (1 ≤ W) × (W ≤ MAX_SET_WORDS) }
     requires places { longest_spelling (form_of form) < 2 ^ 32 }
 {
     let mut line = String::new(alloc);
-    match read(alloc, form, bytes) {
+    match read_whole(alloc, form, Octets::copy(alloc, bytes)?) {
         Ok(update) => {
-            let mut out = Vec::new(alloc);
-            write(form, &update, &mut out)?;
-            expect_same(bytes, &out)?;
             put_update(&mut line, &update)?;
-            expect_same(bytes, in_its_list(alloc, form, bytes)?.as_slice())?;
+            let spelling = into_spelling(alloc, form, update)?;
+            expect_same(bytes, spelling.as_slice())?;
         }
         Err(fault) => put_fault(&mut line, fault)?,
     }
