@@ -33,6 +33,7 @@
 //! | `Opened` | an open store as a value, and for which history it stands |
 //! | `Updating` | what an update answers, and what it leaves |
 //! | `Beginning` | why no store is begun, and what a crash in a beginning leaves |
+//! | `Causes` | that one cause is said of an image ([`causes_are_one`]) |
 //! | `Opening` | why no store is opened where none is to be begun |
 //! | `Briefs` | updates that are read again |
 //! | `Carrying` | stores that their next update carries over |
@@ -53,6 +54,7 @@ mod chunk;
 mod existing;
 mod fault;
 mod format;
+mod laws;
 mod owners;
 mod reopen;
 mod replay;
@@ -64,4 +66,5 @@ pub use begin::BeginRefused;
 pub use briefs::BriefFault;
 pub use carrying::is_to_be_carried_over;
 pub use fault::{BeginFault, ChunkFault, StoreFault};
+pub use laws::causes_are_one;
 pub use store::Store;

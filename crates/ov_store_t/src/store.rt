@@ -7,6 +7,7 @@ ghost use Rattle.ov_state.specs.Plans.{IsFitting};
 mod callers;
 mod carried;
 mod damage;
+mod gates;
 mod removed;
 mod replaced;
 mod stored;
