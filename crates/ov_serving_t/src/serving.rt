@@ -1,5 +1,5 @@
 //! Sessions in memory, against bytes that were written by hand.
-ghost use Rattle.std.specs.Prelude.{◌≡◌, ◌<◌, ◌∷◌, [], false, length, All, IfOk};
+ghost use Rattle.std.specs.Prelude.{◌≤◌, ◌≡◌, ◌<◌, ◌∷◌, [], false, length, All, IfOk};
 ghost use Rattle.std.specs.Arc.{arc_value};
 ghost use Rattle.ov_turn.specs.Passes.{IsPassOf};
 
