@@ -22,23 +22,19 @@ pub const BLOBS_FILE: &str = "store.blobs";
 /// The frames between the parties, of the last run.
 pub const TRACE_FILE: &str = "trace.bin";
 
-// All files that the program uses.
-const FILES: [&str; 4] = [KEY_FILE, BOOK_FILE, BLOBS_FILE, TRACE_FILE];
-
 // Says what is wrong.
 fn say(rt: &HostRuntime, error: &str) {
     let _ = eprintln!(rt; "overstore: error: {error}");
 }
 
-// Why this file can't be used, where the system says so.
+// Why this file of the store, or the trace, can't be used, where the system says so. It may be none of
+// the other files that the program uses.
 fn fault_beside(rt: &HostRuntime, path: &str) -> Option<FileFault> {
-    let mut others = FILES;
-    for other in &mut others {
-        if *other == path {
-            *other = KEY_FILE;
-        }
+    match path {
+        BOOK_FILE => fault_of(rt, path, &[KEY_FILE, BLOBS_FILE, TRACE_FILE]),
+        BLOBS_FILE => fault_of(rt, path, &[KEY_FILE, BOOK_FILE, TRACE_FILE]),
+        _ => fault_of(rt, path, &[KEY_FILE, BOOK_FILE, BLOBS_FILE]),
     }
-    fault_of(rt, path, &others)
 }
 
 // Says which of these files can't be used, and why, where the system says so of one.
