@@ -1,6 +1,7 @@
 //! The headline: the store behaves as the access-matrix machine does, whatever crashes come.
 //!
-//! Two statements, both proved, and neither speaks of a format, a token or a cipher:
+//! Two statements, both proved. Neither speaks of a format, and only one law of the second, on what
+//! an image publishes, speaks of tokens:
 //!
 //! 1. **The life of a store** ([`a_store_lives_as_the_machine`]). Begin with a disk on which no store
 //!    was begun, and run scripts one after another. Stop any of them at any moment, and go on from
