@@ -7,7 +7,7 @@ processes that the gate started. Crates that were kept from an earlier run cost 
 the table stands how long such a gate takes on four and on two processors (gate_simulation.py).
 
 python3 tools/gate_minutes.py --from FILE [GB] runs no gate and simulates one by the table in FILE, which
-is what this program printed or docs/PERFORMANCE.md, with so much free memory as is here or as GB says.
+is what this program printed, with so much free memory as is here or as GB says.
 """
 import collections
 import os
