@@ -2,6 +2,7 @@ mod Called
 mod Changing
 mod Commanding
 mod Completing
+mod Enough
 mod Fronts
 mod Lines
 mod Listing

@@ -3,6 +3,7 @@ pub mod Causes
 pub mod Completeness
 pub mod Endings
 pub mod Files
+pub mod Laws
 pub mod Machine
 pub mod Printing
 pub mod Status

@@ -37,6 +37,7 @@
 //! | `Files` | what is found in the files, or why the act stops there |
 //! | `Machine` | what acts come to by the machine, over a peer that tells its history |
 //! | `Completeness` | over which servers, and with which files, an act is answered |
+//! | `Laws` | that each legal store is such a server's, and which files are such |
 //! | `Printing`, `Endings` | what is put of it, and the status |
 //! | `Words` | which words are the line of a job |
 //! | `Stops`, `Status`, `Causes` | why there is no result, and the status of each reason |
@@ -47,6 +48,7 @@ mod command;
 mod files;
 mod help;
 mod job;
+mod laws;
 mod line;
 mod outcome;
 mod status;
@@ -56,6 +58,7 @@ mod words;
 pub use acting::act;
 pub use help::{Line, line_of};
 pub use job::{Act, Job};
+pub use laws::{legal_histories_are_stores, right_files_are_enough};
 pub use line::judge;
 pub use outcome::finish;
 pub use status::Status;

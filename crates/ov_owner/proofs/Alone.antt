@@ -24,14 +24,14 @@ use Rattle.ov_protocol.specs.Replies.{AnswersRead, made_of}
 use Rattle.ov_protocol.specs.Serving.{Service, Serving, later, served}
 use Rattle.ov_protocol.proofs.Leaving.{later-nil}
 use Rattle.ov_protocol.proofs.Reading.{request_back}
-use Rattle.ov_peer.specs.Alone.{IsAlone}
+use Rattle.ov_peer.specs.Alone.{IsAlone, IsLeftAlone}
 use Rattle.ov_peer.specs.Asks.{Ask, EndsAt, Leads}
 use Rattle.ov_peer.specs.Disks.{MayNeedDisk}
 use Rattle.ov_peer.specs.Exchanges.{Answered}
 use Rattle.ov_peer.specs.Tells.{IsReplyAt, PeerTells}
 use Rattle.ov_peer.proofs.Needing.{needs_disk}
 use Rattle.ov_client.proofs.Alone.{same_left}
-use Rattle.ov_owner.specs.Alone.{AnsweredAlone, AskedAlone, IsLeftAlone}
+use Rattle.ov_owner.specs.Alone.{AnsweredAlone, AskedAlone}
 use Rattle.ov_owner.specs.Questions.{AsksOnce, taken}
 use Rattle.ov_owner.specs.declared.fault.OwnerFault.{OwnerFault}
 use Rattle.ov_owner.specs.declared.fault.OwnerFault.TheVariants as faults

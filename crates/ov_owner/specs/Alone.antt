@@ -11,7 +11,7 @@ use Rattle.ov_wire.specs.declared.answer.Answer.{Answer}
 use Rattle.ov_protocol.specs.Answers.{Answers}
 use Rattle.ov_protocol.specs.Serving.{Service, later, served}
 use Rattle.ov_protocol.specs.Replies.{MayMake}
-use Rattle.ov_peer.specs.Alone.{IsAlone}
+use Rattle.ov_peer.specs.Alone.{IsAlone, IsLeftAlone}
 use Rattle.ov_peer.specs.Asks.{Ask}
 use Rattle.ov_peer.specs.Tells.{IsReplyAt, PeerTells}
 use Rattle.ov_owner.specs.Errands.{Errand}
@@ -40,14 +40,6 @@ abbrev pub IsOneOrNone : Masters → PlainHistory → Command → SealedHistory 
 IsOneOrNone k p command now = IsSealedAs k p now ⊎ IsSealedSince k p (after p command) now
 
 -- ---- any history
-
--- Nobody else updates what this peer serves where an ask of it fails either: it then serves the
--- history that it served, or that with what the request would have made.
-abbrev pub IsLeftAlone : {P : Type 0} → PeerTells P → Type 0
-IsLeftAlone {P} peer =
-    (p q : P) (request : List ℕ) (v : Service)
-    → peer.failed p request q → peer.serves p v
-    → (made : List SealedUpdate) × MayMake request made × peer.serves q (later v made)
 
 -- The update, and the epoch at which it is made, are what the errand seals of what a server of this
 -- history answers to its first request.

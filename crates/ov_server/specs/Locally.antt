@@ -1,5 +1,5 @@
--- What a server in this process tells: nobody else updates what it serves.
-use Rattle.std.specs.Prelude.{◌≡◌, ◌⊎◌, ℕ, List, [], Option, Some, None, IsSome}
+-- What a server in this process tells, as a peer: nobody else updates what it serves.
+use Rattle.std.specs.Prelude.{◌≡◌, ◌⊎◌, ℕ, List, [], Ok, Option, Some, None, IsSome}
 use Rattle.std.proofs.Common.{inl, inr, refl, ◌∙◌, ap, subst, sym, true≢false}
 use Rattle.ov_record.specs.Updates.{SealedUpdate}
 use Rattle.ov_disk.specs.Tells.{DiskTells}
@@ -9,11 +9,10 @@ use Rattle.ov_protocol.specs.Replies.{Replies}
 use Rattle.ov_protocol.proofs.GoingOn.{servers_go_on, services_are_served}
 use Rattle.ov_protocol.proofs.Leaving.{later-nil}
 use Rattle.ov_protocol.proofs.Untold.{told_still}
-use Rattle.ov_peer.specs.Asks.{Asked}
-use Rattle.ov_peer.specs.Tells.{IsReplyAt, LeavesTold, Told}
+use Rattle.ov_peer.specs.Tells.{IsReplyAt, LeavesTold, PeerTells, Told}
 use Rattle.ov_peer.specs.Disks.{AsksBytes, NeedsDisk}
 use Rattle.ov_store.specs.Opened.{Opened}
-use Rattle.ov_server.specs.Answering.{AnswersOrFails, FailsUpdate, IsAnswered, IsFaulted, WritesNothing, serving_of}
+use Rattle.ov_server.specs.Answering.{AnswersOrFails, AsksServer, FailsUpdate, IsAnswered, IsFaulted, WritesNothing, serving_of}
 
 -- what a store serves that tells its stored bytes, as each does whose disk tells its bytes
 abbrev pub IsServedBy : {D : Type 0} → Opened D → Service → Type 0
@@ -24,13 +23,6 @@ IsServedBy s v = IsService (serving_of s) v × IsSome s.stored
 abbrev pub AnswersAlone : Service → List ℕ → List ℕ → (Service → Type 0) → Type 0
 AnswersAlone v request reply Then =
     (made : List SealedUpdate) × IsReplyAt v request reply made × Then (later v made)
-
--- Where the stored bytes are told each ask is answered by just the history that is served, and
--- nobody else updates it.
-abbrev pub AreAlone : {D : Type 0} → Asked (Opened D) → Type 0
-AreAlone {D} asked =
-    (p q : Opened D) (request reply : List ℕ) (v : Service)
-    → asked p request reply q → IsServedBy p v → AnswersAlone v request reply (IsServedBy q)
 
 -- ---- inner: no public contract needs the rest
 
@@ -123,3 +115,18 @@ same_left p q request v same serves =
       inl refl,
       nobody_else (λ w. IsServedBy q (later w [])) v (nobody_else (IsServedBy q) v still),
     )
+
+-- ---- the peer
+
+-- All that a server in this process tells. An ask of it fails for memory alone, which leaves it as
+-- it was and counts as no fault.
+abbrev pub local_tells : {D : Type 0} → DiskTells D → PeerTells (Opened D)
+local_tells tells = record {
+  asked = λ p request reply q. AsksServer tells p q request reply (Ok tt);
+  failed = λ p request q. q ≡ p;
+  serves = λ p v. IsServedBy p v;
+  faults = λ _. 0;
+  borrow = λ p. tells.borrow p.disk;
+  told = λ p q request reply v a s. answers_told tells p q request reply v a.answer s;
+  left = λ p q request v f s. same_left p q request v f s;
+}

@@ -47,19 +47,9 @@ impl<D: Disk> LocalPeer<D> {
 }
 
 impl<D: Disk> Peer for LocalPeer<D> {
-    ghost use Rattle.std.specs.Prelude.{◌≡◌, Ok};
-    ghost use Rattle.ov_server.specs.Answering.{AsksServer};
-    ghost use Rattle.ov_server.specs.Locally.{IsServedBy, answers_told, same_left};
+    ghost use Rattle.ov_server.specs.Locally.{local_tells};
 
-    ghost tells = { record {
-      asked = λ p request reply q. AsksServer D.tells p q request reply (Ok tt);
-      failed = λ p request q. q ≡ p;
-      serves = λ p v. IsServedBy p v;
-      faults = λ _. 0;
-      borrow = λ p. D.tells.borrow p.disk;
-      told = λ p q request reply v a s. answers_told D.tells p q request reply v a.answer s;
-      left = λ p q request v f s. same_left p q request v f s;
-    } };
+    ghost tells = { local_tells D.tells };
 
     fn ask(&mut self, request: &[u8], reply: &mut Vec<u8>) -> Result<(), PeerFault> {
         match self.server.answer(request, reply) {
