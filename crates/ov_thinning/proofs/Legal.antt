@@ -69,12 +69,12 @@ module _ (m n : Matrix) (bare : unlisted m ≡ unlisted n) where
   same_is_file file =
       sym (unlisted-is_file m file) ∙ ap (λ (o : Matrix). is_file o file) bare ∙ unlisted-is_file n file
 
-  same_names : file_names m.files ≡ file_names n.files
+  pub same_names : file_names m.files ≡ file_names n.files
   same_names =
       sym (unlisted-names m.files) ∙ ap (λ (files : List (Option File)). file_names files) same_files
       ∙ unlisted-names n.files
 
-  same_count : length m.files ≡ length n.files
+  pub same_count : length m.files ≡ length n.files
   same_count =
       sym (unlisted-length m.files) ∙ ap (λ (files : List (Option File)). length files) same_files
       ∙ unlisted-length n.files
