@@ -38,7 +38,7 @@ use Rattle.ov_thinning.proofs.ThinLaws.{kept_thinned, thinned_epoch, thinned_lay
 
 -- ---- lists of updates
 
-outer_take : (us : List SealedUpdate) (k : ℕ) → outer_all (take k us) ≡ take k (outer_all us)
+pub outer_take : (us : List SealedUpdate) (k : ℕ) → outer_all (take k us) ≡ take k (outer_all us)
 outer_take us zero = refl
 outer_take [] (suc k) = refl
 outer_take (u ∷ us) (suc k) = ap (λ (vs : List Update). outer (brief u) ∷ vs) (outer_take us k)
@@ -63,7 +63,7 @@ outer_kept keeps k (u ∷ us) = by_test (keeps k) (outer_kept keeps (suc k) us) 
   by_test true rest = ap (λ (vs : List Update). outer (brief u) ∷ vs) rest
   by_test false rest = rest
 
-outer_items : (us : List SealedUpdate) (kept : List ℕ) → outer_all (items_at us kept) ≡ items_at (outer_all us) kept
+pub outer_items : (us : List SealedUpdate) (kept : List ℕ) → outer_all (items_at us kept) ≡ items_at (outer_all us) kept
 outer_items us [] = refl
 outer_items us (p ∷ kept) = by_item (slice_get us p) refl (outer_items us kept) where
   none_there : (us : List SealedUpdate) (p : ℕ) → slice_get us p ≡ None → slice_get (outer_all us) p ≡ None
