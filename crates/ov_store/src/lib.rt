@@ -11,7 +11,10 @@
 //! replaces are free for later ones once its record is on the disk. [`Store::chunk`] reads stored
 //! bytes, [`Store::check`] looks whether all updates are as their owner seals them, for which it
 //! reads each file that is there once, and [`Store::close`] gives the disk back. [`Store::open`] opens a
-//! store that is there, in whichever mode, and begins none; [`Store::brief`] reads one update again.
+//! store that is there, in whichever mode, and begins none; [`Store::brief`] reads one update again,
+//! and [`Store::whole`] reads it with the bytes that its owner sent. [`Store::begin_at`] begins an
+//! empty store at any epoch, and only where there is none: a shorter copy of a store ends at the
+//! epoch of the store itself, so it begins at a later one.
 //!
 //! A store of the first format is carried over to the second by its first update that isn't
 //! refused: this writes a step record before its own, and all records behind that are in the second
@@ -36,6 +39,7 @@
 //! | `Causes` | that one cause is said of an image ([`causes_are_one`]) |
 //! | `Opening` | why no store is opened where none is to be begun |
 //! | `Briefs` | updates that are read again |
+//! | `Wholes` | updates that are read again with the bytes of their files |
 //! | `Carrying` | stores that their next update carries over |
 //! | `Chunks` | what is answered to a question for stored bytes |
 //! | `Owners` | updates that are as their owner seals them, and the first that isn't |
@@ -45,7 +49,9 @@
 //! histories it keeps. docs/CRASH.md tells the argument in words.
 #![tactic(auto)]
 
+mod as_sent;
 mod begin;
+mod begin_at;
 mod birth;
 mod briefs;
 mod carrying;
