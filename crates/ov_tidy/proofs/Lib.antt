@@ -4,3 +4,6 @@ pub mod OneByOne
 pub mod GoneSame
 pub mod Orders
 pub mod FirstCopies
+pub mod Copied
+pub mod CopiedAll
+pub mod CopyRight

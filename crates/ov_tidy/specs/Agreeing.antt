@@ -3,10 +3,14 @@ use Rattle.std.specs.Prelude.{◌≡◌, ℕ, ◌+◌, ◌-◌, Bool, List, [], 
 use Rattle.ov_history.specs.Briefs.{brief}
 use Rattle.ov_history.specs.Fading.{AgreeButGone, faded_if, is_gone_from, made_by}
 use Rattle.ov_history.specs.History.{epoch_of}
+use Rattle.ov_history.specs.Masters.{Masters}
+use Rattle.ov_history.specs.Plain.{PlainHistory, history_of}
+use Rattle.ov_history.specs.Refusals.{IsLegal}
 use Rattle.ov_history.specs.Sealed.{SealedHistory, outer_of}
+use Rattle.ov_history.specs.Sealing.{IsSealedAs}
 use Rattle.ov_history.specs.Sent.{SealedUpdate}
-use Rattle.ov_thinning.specs.SealedThin.{thinned_sealed}
-use Rattle.ov_thinning.specs.Thin.{items_at}
+use Rattle.ov_thinning.specs.SealedThin.{thinned_plain, thinned_sealed}
+use Rattle.ov_thinning.specs.Thin.{AreThinned, items_at}
 
 -- The second update has the tokens and the tag of the first; its bytes too, unless the test says that
 -- its file is gone.
@@ -37,6 +41,21 @@ pub record IsCopyOf (g : SealedHistory) (kept : List ℕ) (h : SealedHistory) : 
   pub first_is : h.first ≡ epoch_of (outer_of g) - length kept
   pub agree : let short = thinned_sealed g kept in
       AllAgree (is_gone_from short) 0 short.updates h.updates
+
+-- it differs from the shorter history in the bytes of files that are gone alone
+abbrev pub CopiesAgree : Type 0
+CopiesAgree =
+    (g h : SealedHistory) (kept : List ℕ) → IsCopyOf g kept h → AgreeButGone h (thinned_sealed g kept)
+
+-- where the longer history is right under the masters for a history with bytes, a copy is right under
+-- them for that history without what is left out
+abbrev pub CopiesAreRight : Type 0
+CopiesAreRight =
+    (k : Masters) (p : PlainHistory) (g h : SealedHistory) (kept : List ℕ)
+    → IsLegal (history_of p) → AreThinned (history_of p) kept → IsSealedAs k p g → IsCopyOf g kept h
+    → IsSealedAs k (thinned_plain p kept) h
+
+-- ---- inner: the first updates that are kept
 
 -- the history is a copy of the first so many updates that are kept
 pub record IsCopyOfFirst (g : SealedHistory) (kept : List ℕ) (n : ℕ) (h : SealedHistory) : Type 0
