@@ -1,7 +1,7 @@
 -- An update that is read again with the bytes of its file is that of each history for which a store
 -- stands.
-use Rattle.std.proofs.Common.{◌≡◌, ◌<◌, ◌≤◌, ◌+◌, ℕ, Bool, List, [], ◌∷◌, ◌++◌, length, take, sym, ◌∙◌, ap, refl, subst, arith}
-use Rattle.std.specs.Prelude.{Err, IfSome, None, Ok, Option, Result, Some, is_some, not, option_map}
+use Rattle.std.proofs.Common.{◌≡◌, ℕ, Bool, List, [], ◌∷◌, ◌++◌, length, take, sym, ◌∙◌, ap, refl, subst}
+use Rattle.std.specs.Prelude.{Err, None, Ok, Option, Result, Some, is_some, not, option_map}
 use Rattle.ov_disk.specs.Disk.{Image, Told}
 use Rattle.ov_disk.specs.Tells.{DiskTells}
 use Rattle.ov_record.specs.Briefs.{Brief as SpelledBrief, brief as brief_as_spelled, plain_brief}
@@ -9,7 +9,7 @@ use Rattle.ov_record.specs.Updates.{sealed_update}
 use Rattle.ov_record.specs.declared.brief.Brief.{Brief as Written}
 use Rattle.ov_record.specs.declared.update.Update.{Update}
 use Rattle.ov_history.specs.Briefs.{brief, numbered_brief, outer}
-use Rattle.ov_history.specs.Catalogue.{Catalogue, file_shown, outline}
+use Rattle.ov_history.specs.Catalogue.{file_shown, outline}
 use Rattle.ov_history.specs.Fading.{faded_if, is_gone_from}
 use Rattle.ov_history.specs.History.{File, History, Matrix, start_of, with_update}
 use Rattle.ov_history.specs.Lists.{is_file}
@@ -19,7 +19,6 @@ use Rattle.ov_history.specs.Sent.{SealedUpdate, numbered}
 use Rattle.ov_history.proofs.Numbering.{updates_are_numbered}
 use Rattle.ov_history.proofs.Showing.{history_is_shown}
 use Rattle.ov_history.proofs.SoundTests.{files_shown-length, is_some-map, shown_there}
-use Rattle.ov_images.specs.Damage.{BeginsWith}
 use Rattle.ov_images.specs.Images.{Keys}
 use Rattle.ov_images.specs.Records.{form_behind}
 use Rattle.ov_images.proofs.Records.{room_behind}

@@ -1,5 +1,5 @@
 -- That one cause is said of an image.
-use Rattle.std.specs.Prelude.{◌≡◌, ℕ, length, ⊤}
+use Rattle.std.specs.Prelude.{◌≡◌, length, ⊤}
 use Rattle.ov_base.specs.declared.mode.Mode.{Mode}
 use Rattle.ov_disk.specs.Disk.{Image}
 use Rattle.ov_images.specs.Images.{Keys}

@@ -64,10 +64,13 @@ fn whole_at<D: Disk>(
 }
 
 impl<D: Disk> Store<D> {
-    /// Update number `i`, counted from 0, as it was sent; None where there are no more. `file` is how
-    /// many numbers were given to files before it, which is the number of the file that it makes, if
-    /// it makes one. Of a file that is gone by now the store has no bytes: it comes with as many
-    /// zeros, under its own tag.
+    /// Update number `i`, counted from 0, as its owner sent it; None where there are no more. `file` is
+    /// how many numbers were given to files before it: the number of the file that it makes, if it
+    /// makes one. A record has no such number, and counting the creations before it would take a
+    /// second pass over Book, so the caller counts.
+    ///
+    /// Of a file that is gone by now the store has no bytes, since later files took its blocks: its
+    /// update comes with as many zeros, under the tag of its record.
     pub fn whole(
         &mut self,
         alloc: Global,

@@ -22,7 +22,8 @@ use ov_placed::CataloguePlaces;
 use ov_tokens::Master;
 use std::alloc::Global;
 
-// Why a store isn't begun where there may be none: for whatever is there.
+// Why a store isn't begun where there may be none. The caller wants an empty disk: a store, another file
+// and a damaged header are all answered as NotAStore, and none of them is looked at any further.
 fn fault_at(why: JournalFault) -> BeginFault
     ensures { result ≡ begin_at_fault_of why }
 {
@@ -62,8 +63,9 @@ fn open_at<D: Disk>(
 }
 
 impl<D: Disk> Store<D> {
-    /// Begins an empty store from this epoch on, where the disk is unborn. Whatever else is there, it
-    /// is refused as no store is, and nothing is written. The disk is handed back with a refusal.
+    /// Begins an empty store from this epoch on, where the disk is unborn. Anything else on the disk
+    /// is refused with [`BeginFault::NotAStore`], also a store that [`Store::begin`] would open, and
+    /// nothing is written. A refusal hands the disk back.
     pub fn begin_at(
         alloc: Global,
         disk: D,

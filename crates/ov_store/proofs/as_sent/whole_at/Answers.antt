@@ -1,4 +1,4 @@
-use Rattle.std.proofs.Common.{◌≡◌, ◌∙◌, Err, None, Ok, Option, Result, Some, true, subst}
+use Rattle.std.proofs.Common.{◌≡◌, ◌∙◌, None, Ok, Option, Result, Some, true, subst}
 use Rattle.std.specs.Prelude.{IfOk, IfSome}
 use Rattle.ov_journal.specs.declared.fault.CheckFault.{CheckFault}
 use Rattle.ov_record.specs.Briefs.{brief as brief_as_spelled, plain_brief}

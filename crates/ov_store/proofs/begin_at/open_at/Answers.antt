@@ -1,4 +1,4 @@
-use Rattle.std.proofs.Common.{◌≡◌, ◌∙◌, Ok, Result, subst}
+use Rattle.std.proofs.Common.{◌∙◌, Ok, Result, subst}
 use Rattle.ov_disk.specs.Disk.{Told}
 use Rattle.ov_journal.specs.Finding.{Finds}
 use Rattle.ov_journal.specs.Standing.{IsUnborn}

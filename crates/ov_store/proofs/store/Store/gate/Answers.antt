@@ -1,4 +1,4 @@
-use Rattle.std.proofs.Common.{rules, ◌≡◌, ◌≤◌, ◌<◌, length, refl, subst}
+use Rattle.std.proofs.Common.{rules, ◌≤◌, ◌<◌, length, refl, subst}
 use Rattle.ov_images.specs.Images.{Keys}
 use Rattle.ov_store.specs.Briefs.{TellsGate}
 use Rattle.ov_store.specs.Opened.{Opened}
