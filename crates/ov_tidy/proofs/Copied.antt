@@ -1,17 +1,15 @@
 -- One update that is copied.
-use Rattle.std.proofs.Common.{◌≡◌, ◌<◌, ◌≤◌, ◌+◌, inl, ℕ, zero, suc, List, [], ◌∷◌, ◌++◌, length, take, refl, sym, ◌∙◌, ap, subst, arith}
-use Rattle.std.specs.Prelude.{◌⊎◌, false, Err, Ok, OnOk, Option, Result, Some, slice_get}
-use Rattle.std.proofs.lemmas.List.{take_all}
+use Rattle.std.proofs.Common.{◌≡◌, inl, ℕ, zero, suc, List, [], ◌∷◌, ◌++◌, length, take, refl, sym, ◌∙◌, ap, subst, arith}
+use Rattle.std.specs.Prelude.{false, Err, Ok, OnOk, Option, Result, Some, slice_get}
 use Rattle.std.proofs.lemmas.Option.{slice_get_within}
-use Rattle.ov_disk.specs.Disk.{Image, StaysTold, Told}
-use Rattle.ov_disk.specs.Moments.{IsUntouched, LeavesOnly}
+use Rattle.ov_disk.specs.Disk.{Image, StaysTold}
 use Rattle.ov_disk.specs.Tells.{DiskTells}
 use Rattle.ov_disk.proofs.Runs.{started}
 use Rattle.ov_history.specs.Briefs.{Brief, brief, numbered_brief}
-use Rattle.ov_history.specs.Catalogue.{Catalogue, numbered_at, outline}
+use Rattle.ov_history.specs.Catalogue.{numbered_at, outline}
 use Rattle.ov_history.specs.Fading.{is_gone_from}
 use Rattle.ov_history.specs.History.{Matrix, matrix_of}
-use Rattle.ov_history.specs.Sealed.{SealedHistory, StandsFor, file_names_of, outer_of, with_sealed}
+use Rattle.ov_history.specs.Sealed.{SealedHistory, file_names_of, outer_of}
 use Rattle.ov_history.specs.Sent.{SealedUpdate, numbered}
 use Rattle.ov_history.proofs.Numbering.{names_are_shown, updates_are_numbered}
 use Rattle.ov_history.proofs.Showing.{history_is_shown}
@@ -23,9 +21,8 @@ use Rattle.ov_record.specs.declared.update.Update.{Update}
 use Rattle.ov_state.specs.Plans.{IsTaken}
 use Rattle.ov_state.specs.declared.state.TheConstants.{WIDTH}
 use Rattle.ov_store.specs.Opened.{Opened, Serves}
-use Rattle.ov_store.specs.Owners.{with_first}
-use Rattle.ov_store.specs.Updating.{GoesOnAfter, IsCallOf, LeavesEither, ServesMore, Updates, failed_after}
-use Rattle.ov_store.specs.Wholes.{IsWholeAt, ReadsWhole, files_before}
+use Rattle.ov_store.specs.Updating.{GoesOnAfter, IsCallOf, LeavesEither, Updates, failed_after}
+use Rattle.ov_store.specs.Wholes.{ReadsWhole, files_before}
 use Rattle.ov_store.specs.declared.fault.StoreFault.{StoreFault}
 use Rattle.ov_store.specs.declared.fault.StoreFault.TheVariants.{BadPlan, Disk as StoreDisk, Failed, Memory as StoreMemory, Refused}
 use Rattle.ov_tidy.specs.Agreeing.{Agree}

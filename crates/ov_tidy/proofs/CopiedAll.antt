@@ -1,19 +1,19 @@
 -- All updates that are copied, one after the other.
-use Rattle.std.proofs.Common.{◌≡◌, ◌⊎◌, ◌<◌, ◌≤◌, ◌+◌, ◌-◌, ℕ, zero, suc, false, List, [], ◌∷◌, ◌++◌, length, take, drop, inl, inr, ⊎_elim, refl, sym, ◌∙◌, ap, subst, arith}
-use Rattle.std.specs.Prelude.{Err, Ok, Option, Result, Some, slice_get}
+use Rattle.std.proofs.Common.{◌≡◌, ◌-◌, ℕ, zero, suc, false, List, [], ◌∷◌, ◌++◌, length, take, drop, ⊎_elim, refl, sym, ◌∙◌, ap, subst}
+use Rattle.std.specs.Prelude.{Err, Ok, Result, Some, slice_get}
 use Rattle.std.proofs.Math.Seq.{take-length}
 use Rattle.ov_disk.specs.Disk.{Image, StaysTold, Told}
-use Rattle.ov_disk.specs.Moments.{IsUntouched, LeavesOnly}
+use Rattle.ov_disk.specs.Moments.{LeavesOnly}
 use Rattle.ov_disk.specs.Tells.{DiskTells}
 use Rattle.ov_disk.proofs.Runs.{started, then_on, weaker}
 use Rattle.ov_history.specs.History.{epoch_of}
-use Rattle.ov_history.specs.Sealed.{IsSealed, SealedHistory, blank, outer_of, with_sealed}
+use Rattle.ov_history.specs.Sealed.{SealedHistory, blank, outer_of, with_sealed}
 use Rattle.ov_history.specs.Sent.{SealedUpdate}
 use Rattle.ov_images.specs.Images.{Keeps, KeepsEither, Keys}
 use Rattle.ov_store.specs.Opened.{Opened, Serves}
 use Rattle.ov_store.specs.Owners.{with_first}
 use Rattle.ov_thinning.specs.Thin.{AreThinned, items_at}
-use Rattle.ov_tidy.specs.Agreeing.{IsCopyOf, IsCopyOfFirst}
+use Rattle.ov_tidy.specs.Agreeing.{IsCopyOfFirst}
 use Rattle.ov_tidy.specs.Copies.{AnswersNext, BeginsFor, Copies, CopiesNext, ForEachThinned, HasCopied, IsNext, KeepsFirst, LeavesCopy}
 use Rattle.ov_tidy.specs.declared.copying.CopyFault.{CopyFault}
 use Rattle.ov_tidy.specs.declared.copying.CopyFault.TheVariants.{Changed, Disk as DiskFailed, Memory}

@@ -1,5 +1,5 @@
 -- A copy of what is kept is right, where the longer history was.
-use Rattle.std.proofs.Common.{◌≡◌, ℕ, List}
+use Rattle.std.proofs.Common.{ℕ, List}
 use Rattle.ov_history.specs.Fading.{AgreeButGone}
 use Rattle.ov_history.specs.Masters.{Masters}
 use Rattle.ov_history.specs.Plain.{PlainHistory, history_of}

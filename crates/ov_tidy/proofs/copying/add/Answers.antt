@@ -1,4 +1,4 @@
-use Rattle.std.proofs.Common.{◌≡◌, ◌∙◌, ℕ, Err, Ok, Result, ap, subst, sym}
+use Rattle.std.proofs.Common.{ℕ, Err, Result, subst, sym}
 use Rattle.std.specs.Prelude.{OnOk}
 use Rattle.ov_record.specs.Updates.{sealed_update}
 use Rattle.ov_store.specs.Updating.{GoesOnAfter, ServesMore, Updates}

@@ -1,4 +1,4 @@
-use Rattle.std.proofs.Common.{◌≡◌, ◌∙◌, ℕ, Err, Ok, Result, ap, inl, inr, length, subst}
+use Rattle.std.proofs.Common.{◌≡◌, ◌∙◌, Err, Ok, Result, ap, inl, inr, length, subst}
 use Rattle.ov_history.specs.Catalogue.{Catalogue}
 use Rattle.ov_record.specs.Updates.{sealed_update}
 use Rattle.ov_record.specs.declared.update.Update.{Update}

@@ -1,4 +1,4 @@
-use Rattle.std.proofs.Common.{◌≡◌, ◌∙◌, ℕ, Err, None, Ok, Option, Result, Some, subst}
+use Rattle.std.proofs.Common.{◌∙◌, ℕ, Ok, Option, Result, Some, subst}
 use Rattle.ov_record.specs.declared.update.Update.{Update}
 use Rattle.ov_state.specs.declared.state.TheConstants.{WIDTH}
 use Rattle.ov_store.specs.Wholes.{ReadsWhole}
