@@ -1,17 +1,16 @@
 -- Before the first update is looked at.
-use Rattle.std.proofs.Common.{◌≡◌, ◌-◌, ◌∙◌, ℕ, List, [], ap, arith, length, refl, subst}
+use Rattle.std.proofs.Common.{ℕ, ◌-◌, ◌∙◌, ◌≡◌, List, [], ap, arith, length, subst}
 use Rattle.ov_audit.specs.Seen.{Seen}
+use Rattle.ov_auditing.proofs.Followed.{followed_none}
+use Rattle.ov_auditing.specs.Following.{FollowsAny, FollowsEach, HasFollowed}
 use Rattle.ov_base.specs.declared.mode.Mode.{Mode}
-use Rattle.ov_disk.proofs.Runs.{untouched}
 use Rattle.ov_disk.specs.Disk.{Told}
 use Rattle.ov_disk.specs.Tells.{DiskTells}
+use Rattle.ov_history.proofs.Showing.{history_is_shown}
 use Rattle.ov_history.specs.Catalogue.{Catalogue, empty_catalogue}
 use Rattle.ov_history.specs.Sealed.{SealedHistory, blank}
-use Rattle.ov_history.proofs.Showing.{history_is_shown}
-use Rattle.ov_store.specs.Opened.{Opened, Serves}
 use Rattle.ov_store.proofs.Histories.{epoch_shown}
-use Rattle.ov_auditing.specs.Following.{FollowsAny, FollowsEach, HasFollowed, StaysAsItWas}
-use Rattle.ov_auditing.proofs.Followed.{followed_none}
+use Rattle.ov_store.specs.Opened.{Opened, Serves}
 
 pub begins_any : (master : List ℕ) (mode : Mode) (first : ℕ) (c : Catalogue) (seen : Seen)
     → c ≡ empty_catalogue mode first → seen.epoch ≡ first → seen.notes ≡ []
@@ -38,11 +37,3 @@ begins_each tells s mode first c seen is at_first none mode_is first_is g serves
     subst (λ (h : SealedHistory). HasFollowed s.keys.surface h c seen)
     (ap (λ (m : Mode). blank m first) (mode_is ∙ shown.mode) ∙ ap (λ n. blank g.mode n) same)
     (followed_none s.keys.surface mode first c seen is at_first none)
-
-pub begins_still : {D : Type 0} (tells : DiskTells D) (s : Opened D) → StaysAsItWas tells s s ⊥
-begins_still tells s = record {
-  kept = refl;
-  untouched = untouched tells s.disk;
-  served = λ g serves. serves;
-  call = (refl, refl, omega arith, λ none. absurd none);
-}

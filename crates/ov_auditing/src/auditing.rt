@@ -1,60 +1,40 @@
 //! The top call of an audit.
-ghost use Rattle.std.specs.Prelude.{◌≡◌, ◌⊎◌, IfErr, IfOk, IfSome};
+ghost use Rattle.std.specs.Prelude.{◌≡◌, ◌⊎◌, IfSome};
 ghost use Rattle.ov_answering.specs.Ending.{EndsFor, LeavesAsAtStart};
 ghost use Rattle.ov_answering.specs.Printing.{IsRefused};
 ghost use Rattle.ov_auditing.specs.AuditWords.{AreNoAudit, IsAudit};
 ghost use Rattle.ov_auditing.specs.Exposed.{AreUsersOf};
-ghost use Rattle.ov_auditing.specs.Following.{StaysAsItWas};
-ghost use Rattle.ov_auditing.specs.Promises.{AuditFails, ForAuditImage, ForEachKept};
-ghost use Rattle.ov_auditing.specs.Promises.{IsAskedStatus, IsFoundStatus, IsOpenOf, JudgesKeyFile};
-ghost use Rattle.ov_auditing.specs.Promises.{JudgesStore, RefusesOther, RefusesStore, TellsOf};
+ghost use Rattle.ov_auditing.specs.Promises.{AuditFails, ForAuditImage, ForEachKept, RefusesOther};
+ghost use Rattle.ov_auditing.specs.Promises.{TellsOf};
 ghost use Rattle.ov_auditing.specs.declared.audit_words.Asked.{Asked as AskedFor};
 ghost use Rattle.ov_base.specs.Causes.{Rose};
-ghost use Rattle.ov_disk.specs.Calls.{IsDiskCall};
 ghost use Rattle.ov_disk.specs.Disk.{Told};
-ghost use Rattle.ov_disk.specs.Moments.{LeavesOnly};
 ghost use Rattle.ov_history.specs.FadingLaws.{IsRight};
 ghost use Rattle.ov_history.specs.Masters.{Masters as PlainMasters};
 ghost use Rattle.ov_history.specs.Plain.{PlainHistory};
 ghost use Rattle.ov_history.specs.Sealed.{SealedHistory};
 ghost use Rattle.ov_images.specs.Images.{Keeps, keys_of};
 ghost use Rattle.ov_machine.specs.Machine.{AreMasters, plain_masters};
-ghost use Rattle.ov_store.specs.Beginning.{IsDiskFault, disk_left};
+ghost use Rattle.ov_replaying.specs.KeyFiles.{JudgesKeyFile};
+ghost use Rattle.ov_replaying.specs.Opening.{JudgesStore};
+ghost use Rattle.ov_replaying.specs.Reading.{StaysAsItWas};
+ghost use Rattle.ov_replaying.specs.Statuses.{IsAskedStatus, IsFoundStatus};
 ghost use Rattle.ov_store.specs.Opened.{Serves};
 
 use crate::audit_words::{Asked, audit_of};
 use crate::listing::{put_findings, put_no_user};
 use crate::naming::users_named;
 use crate::replaying::findings_of;
-use ov_answering::{Status, base_check_of, checked, put_last};
+use ov_answering::{Status, put_last};
 use ov_base::Users;
 use ov_disk::Disk;
 use ov_io::{Sink, Source};
 use ov_keyfile::{Masters, read_masters};
-use ov_report::{put_fault, put_memory, values_are_known};
-use ov_store::{BeginRefused, Store};
+use ov_replaying::open;
+use ov_report::{put_fault, put_memory};
+use ov_store::Store;
 use ov_tokens::Master;
 use std::alloc::Global;
-
-// Opens the store on this disk under the two masters, where all its records are those of their
-// owner. The disk is handed back with a refusal.
-fn open<D: Disk>(alloc: Global, disk: D, masters: &Masters) -> Result<Store<D>, BeginRefused<D>>
-    ensures opened { let k = plain_masters masters.now in
-        IfOk result (IsOpenOf D.tells k (D.tells.reads disk)) }
-    ensures fault { let k = plain_masters masters.now in IfErr result (λ refused.
-        Told (D.tells.reads disk) (λ i. RefusesStore k i refused.fault)) }
-    ensures quiet { LeavesOnly D.tells disk (disk_left result) (D.tells.may_leave disk) }
-    ensures call { IsDiskCall D.tells (IsDiskFault result) disk (disk_left result) }
-{
-    let base_check = base_check_of(&masters.base);
-    match Store::open(alloc, disk, masters.surface, base_check) {
-        Ok(store) => checked(alloc, store, &masters.base),
-        Err(refused) => {
-            values_are_known(refused.fault);
-            Err(refused)
-        }
-    }
-}
 
 // Prints what these users can read, who are those that were asked for.
 fn print_found<O: Sink, D: Disk>(

@@ -2,8 +2,9 @@
 //!
 //! The contract of [`audit`] says what it prints for each store and each list of users: exactly the
 //! files that these users can read, each by its cause and since its epoch. It looks at its words,
-//! reads the key file, opens the store and checks its updates, reads them again one by one, and
-//! looks at the catalogue after each (ov_audit). It calls nothing that writes to the disk.
+//! reads the key file, opens the store and checks its updates, reads them again one by one
+//! (ov_replaying), and looks at the catalogue after each (ov_audit). It calls nothing that writes to
+//! the disk.
 //!
 //! | module | what it does |
 //! |---|---|

@@ -8,10 +8,12 @@ use Rattle.ov_history.specs.Masters.{Masters}
 use Rattle.ov_history.specs.Plain.{PlainHistory}
 use Rattle.ov_history.specs.Sealed.{SealedHistory}
 use Rattle.ov_images.specs.Images.{Keeps, keys_of}
-use Rattle.ov_auditing.specs.Promises.{IsAuditStatus, JudgesStore, TellsOf}
+use Rattle.ov_replaying.specs.Opening.{JudgesStore}
+use Rattle.ov_auditing.specs.Promises.{IsAuditStatus, TellsOf}
 use Rattle.ov_auditing.proofs.Asking.{lent_quiet, lent_tells}
-use Rattle.ov_auditing.proofs.Endings.{asked_so, audit_seven, audit_six}
-use Rattle.ov_auditing.proofs.Endings.{file_asked, file_judged, file_unknown, judged_memory}
+use Rattle.ov_replaying.proofs.Endings.{asked_so}
+use Rattle.ov_auditing.proofs.Endings.{audit_seven, audit_six}
+use Rattle.ov_replaying.proofs.Judged.{file_asked, file_judged, file_unknown, judged_memory}
 use Rattle.ov_auditing.proofs.Endings.{known_words, memory_tells, other_words, unknown_words}
 use Rattle.ov_auditing.proofs.auditing.audit.Goals as goal
 

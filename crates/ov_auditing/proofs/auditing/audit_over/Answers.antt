@@ -4,8 +4,11 @@ use Rattle.ov_answering.specs.Ending.{EndsFor, LeavesAsAtStart}
 use Rattle.ov_images.specs.Images.{keys_of}
 use Rattle.ov_machine.specs.Machine.{plain_masters}
 use Rattle.ov_store.proofs.Opening.{both_quiet}
-use Rattle.ov_auditing.proofs.Endings.{ends_then, fault_ends, fault_line_found, fault_tells, judged_open}
-use Rattle.ov_auditing.proofs.Endings.{judged_refused, more_faults, opens_kept}
+use Rattle.ov_replaying.proofs.Endings.{ends_then, fault_ends, fault_line_found}
+use Rattle.ov_replaying.proofs.Judged.{judged_open}
+use Rattle.ov_auditing.proofs.Endings.{fault_tells}
+use Rattle.ov_replaying.proofs.Judged.{judged_refused, opens_kept}
+use Rattle.ov_auditing.proofs.Endings.{more_faults}
 use Rattle.ov_auditing.proofs.auditing.audit_over.Goals as goal
 
 pub audit_store-code-requires : goal.audit_store-code-requires

@@ -3,9 +3,10 @@ use Rattle.ov_history.specs.Catalogue.{Catalogue}
 use Rattle.ov_machine.specs.Machine.{plain_masters}
 use Rattle.ov_answering.proofs.Statuses.{not_code_or}
 use Rattle.ov_auditing.specs.Exposed.{AreUsersOf, IsMissing}
-use Rattle.ov_auditing.proofs.Beginnings.{begins_still}
-use Rattle.ov_auditing.proofs.Endings.{disk_call, line_ends, line_found, line_low, missing_tells}
-use Rattle.ov_auditing.proofs.Endings.{stays_for}
+use Rattle.ov_replaying.proofs.Stores.{begins_still}
+use Rattle.ov_replaying.proofs.Endings.{disk_call, line_ends, line_found, line_low}
+use Rattle.ov_auditing.proofs.Endings.{missing_tells}
+use Rattle.ov_replaying.proofs.Stores.{stays_for}
 use Rattle.ov_auditing.proofs.auditing.audit_store.Goals as goal
 
 pub print_found-requires-clause-named : goal.print_found-requires-clause-named

@@ -11,8 +11,12 @@ use Rattle.ov_history.specs.Plain.{PlainHistory}
 use Rattle.ov_history.specs.Sealed.{SealedHistory}
 use Rattle.ov_images.specs.Images.{Keeps, keys_of}
 use Rattle.ov_machine.specs.Machine.{plain_masters}
-use Rattle.ov_auditing.specs.Promises.{IsAskedStatus, JudgesStore, TellsOf}
-use Rattle.ov_auditing.proofs.Endings.{fault_six, file_judged, found_so, judged_unread, more_faults}
+use Rattle.ov_replaying.specs.Opening.{JudgesStore}
+use Rattle.ov_replaying.specs.Statuses.{IsAskedStatus}
+use Rattle.ov_auditing.specs.Promises.{TellsOf}
+use Rattle.ov_replaying.proofs.Endings.{fault_six, found_so}
+use Rattle.ov_replaying.proofs.Judged.{file_judged, judged_unread}
+use Rattle.ov_auditing.proofs.Endings.{more_faults}
 use Rattle.ov_auditing.proofs.Endings.{unread_tells}
 use Rattle.ov_auditing.proofs.auditing.audit_with_keys.Goals as goal
 

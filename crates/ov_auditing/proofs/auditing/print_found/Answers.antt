@@ -6,9 +6,11 @@ use Rattle.ov_machine.specs.Machine.{plain_masters}
 use Rattle.ov_answering.proofs.Beginning.{disk_said}
 use Rattle.ov_answering.proofs.Statuses.{not_code_or}
 use Rattle.ov_auditing.specs.Exposed.{numbers_in}
-use Rattle.ov_auditing.proofs.Endings.{disk_call, fault_call, fault_ends, fault_low, fault_tells, found_tells}
-use Rattle.ov_auditing.proofs.Endings.{fault_line_found, line_ends, line_found, line_low, stays_for}
-use Rattle.ov_auditing.proofs.Endings.{told_fault}
+use Rattle.ov_replaying.proofs.Endings.{disk_call, fault_call, fault_ends, fault_low}
+use Rattle.ov_auditing.proofs.Endings.{fault_tells, found_tells}
+use Rattle.ov_replaying.proofs.Endings.{fault_line_found, line_ends, line_found, line_low}
+use Rattle.ov_replaying.proofs.Stores.{stays_for}
+use Rattle.ov_replaying.proofs.Stores.{told_fault}
 use Rattle.ov_auditing.proofs.auditing.print_found.Goals as goal
 
 pub findings_of-requires-clause-master : goal.findings_of-requires-clause-master

@@ -8,11 +8,14 @@ use Rattle.ov_store.specs.Owners.{with_first}
 use Rattle.ov_auditing.specs.Exposed.{AreFindings}
 use Rattle.ov_store.specs.declared.fault.BeginFault.{BeginFault}
 use Rattle.ov_store.specs.declared.fault.BeginFault.TheVariants.{Disk as DiskFailed, Memory as NoMemory}
-use Rattle.ov_auditing.specs.Following.{HasFollowed, IsFaultOfStore}
-use Rattle.ov_auditing.proofs.Beginnings.{begins_any, begins_each, begins_still}
-use Rattle.ov_auditing.proofs.Endings.{stays_for}
+use Rattle.ov_replaying.specs.Reading.{IsFaultOfStore}
+use Rattle.ov_auditing.specs.Following.{HasFollowed}
+use Rattle.ov_replaying.proofs.Stores.{begins_still}
+use Rattle.ov_auditing.proofs.Beginnings.{begins_any, begins_each}
+use Rattle.ov_replaying.proofs.Stores.{stays_for}
 use Rattle.ov_auditing.proofs.Followed.{findings_are}
-use Rattle.ov_auditing.proofs.Steps.{each_followed, one_followed, stays_on, stays_then, surface_stays}
+use Rattle.ov_replaying.proofs.Stores.{stays_on, stays_then, surface_stays}
+use Rattle.ov_auditing.proofs.Steps.{each_followed, one_followed}
 use Rattle.ov_auditing.proofs.replaying.findings_of.Goals as goal
 
 pub updates-init : goal.updates-init

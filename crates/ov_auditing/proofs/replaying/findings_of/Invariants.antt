@@ -1,5 +1,6 @@
 use Rattle.std.proofs.Common.{◌≡◌}
-use Rattle.ov_auditing.specs.Following.{FollowsAny, FollowsEach, StaysAsItWas}
+use Rattle.ov_replaying.specs.Reading.{StaysAsItWas}
+use Rattle.ov_auditing.specs.Following.{FollowsAny, FollowsEach}
 use Rattle.ov_auditing.proofs.replaying.findings_of.Given as goal
 
 -- so many updates were followed, and nothing was written

@@ -6,10 +6,11 @@ use Rattle.ov_history.specs.Catalogue.{catalogue_after, file_names_shown}
 use Rattle.ov_record.specs.Briefs.{plain_brief}
 use Rattle.ov_store.specs.declared.fault.BeginFault.{BeginFault}
 use Rattle.ov_store.specs.declared.fault.BeginFault.TheVariants.{Disk as DiskFailed}
-use Rattle.ov_auditing.specs.Following.{IsFaultOfStore}
-use Rattle.ov_auditing.proofs.Endings.{stays_for}
+use Rattle.ov_replaying.specs.Reading.{IsFaultOfStore}
+use Rattle.ov_replaying.proofs.Stores.{stays_for}
 use Rattle.ov_auditing.proofs.Steps.{may_look_at, next_followed, none_followed, some_followed}
-use Rattle.ov_auditing.proofs.Steps.{fault_made, told_taken}
+use Rattle.ov_replaying.proofs.Updates.{fault_made}
+use Rattle.ov_auditing.proofs.Steps.{told_taken}
 use Rattle.ov_auditing.proofs.replaying.look_at_next.Goals as goal
 
 -- the state after the update is the next that the audit looks at

@@ -12,7 +12,7 @@ use Rattle.ov_images.specs.Images.{IsImageOf, Keeps, Keys, keys_of}
 use Rattle.ov_images.proofs.Keeping.{keeps_once}
 use Rattle.ov_journal.specs.Standing.{IsUnborn}
 use Rattle.ov_store.specs.Opened.{Opened}
-use Rattle.ov_auditing.specs.Promises.{IsOpenOf}
+use Rattle.ov_replaying.specs.Opening.{IsOpenOf}
 
 -- an image keeps histories of one mode
 pub mode_kept : (k : Keys) (g h : SealedHistory) (i : Image) → Keeps k g i → Keeps k h i

@@ -1,7 +1,7 @@
 use Rattle.std.proofs.Common.{◌∙◌, ap}
 use Rattle.ov_history.specs.Catalogue.{Catalogue}
 use Rattle.ov_state.specs.Changes.{applied}
-use Rattle.ov_auditing.proofs.replaying.make.Goals as goal
+use Rattle.ov_replaying.proofs.reading.make.Goals as goal
 
 pub returns-in-Ok : goal.returns-in-Ok
 returns-in-Ok c = (

@@ -22,8 +22,8 @@ use Rattle.ov_store.specs.declared.fault.BeginFault.TheVariants.{BaseDiffers, Da
 use Rattle.ov_store.specs.declared.fault.BeginFault.TheVariants.{Disk as DiskFailed, Memory as NoMemory}
 use Rattle.ov_store.specs.declared.fault.BeginFault.TheVariants.{ModeDiffers, NotAStore}
 use Rattle.ov_store.specs.declared.fault.BeginFault.TheVariants.{SurfaceDiffers}
-use Rattle.ov_auditing.specs.Promises.{IsAuditRefusal, IsOpenOf, OpensBorn, RefusesStore}
-use Rattle.ov_auditing.proofs.OpenStores.{kept_born, mode_kept, open_of}
+use Rattle.ov_replaying.specs.Opening.{IsOpenRefusal, IsOpenOf, OpensBorn, RefusesStore}
+use Rattle.ov_replaying.proofs.OpenStores.{kept_born, mode_kept, open_of}
 
 -- ---- no store is opened
 
@@ -99,7 +99,7 @@ module _ (k : Masters) (i : Image) (born : IsUnborn i.book → ⊥) (mode : Mode
       absurd (another_mode stored given
       (faulted_so (keys_of k) mode stands.0 i stands.1 (ModeDiffers stored given) tt stands.2 why))
 
-  refusal_in_any : (fault : BeginFault) → IsRefusal k mode i fault → IsAuditRefusal k i fault
+  refusal_in_any : (fault : BeginFault) → IsRefusal k mode i fault → IsOpenRefusal k i fault
   refusal_in_any fault (inl why) = inl (in_any fault why)
   refusal_in_any fault (inr (place, is, wrong)) = inr (place, is, (mode, wrong))
 

@@ -1,8 +1,8 @@
 use Rattle.std.proofs.Common.{refl, subst, sym}
 use Rattle.ov_store.specs.declared.fault.BeginFault.{BeginFault}
-use Rattle.ov_auditing.specs.Following.{IsFaultOfStore}
-use Rattle.ov_auditing.proofs.Steps.{stays_read}
-use Rattle.ov_auditing.proofs.replaying.read_update.Goals as goal
+use Rattle.ov_replaying.specs.Reading.{IsFaultOfStore}
+use Rattle.ov_replaying.proofs.Stores.{stays_read}
+use Rattle.ov_replaying.proofs.reading.read_update.Goals as goal
 
 -- a record is found changed only over a disk that tells nothing
 pub returns-in-Err-Changed-clause-update : goal.returns-in-Err-Changed-clause-update

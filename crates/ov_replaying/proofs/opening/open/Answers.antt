@@ -5,8 +5,8 @@ use Rattle.ov_images.specs.Images.{Keys, keys, keys_of}
 use Rattle.ov_machine.specs.Machine.{plain_masters}
 use Rattle.ov_answering.proofs.Judging.{call_so, looked}
 use Rattle.ov_store.proofs.Opening.{both_quiet}
-use Rattle.ov_auditing.proofs.Refusals.{check_refused, handed_on, open_refused, stands_under}
-use Rattle.ov_auditing.proofs.auditing.open.Goals as goal
+use Rattle.ov_replaying.proofs.Refusals.{check_refused, handed_on, open_refused, stands_under}
+use Rattle.ov_replaying.proofs.opening.open.Goals as goal
 
 pub returns-in-Ok-clause-opened : goal.returns-in-Ok-clause-opened
 returns-in-Ok-clause-opened g c =
