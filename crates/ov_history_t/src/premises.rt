@@ -2,7 +2,8 @@
 //! nothing; each row here builds one.
 ghost use Rattle.ov_history_t.specs.Premises.{EachCoatIsAPad, ExtentsHaveTheirBlocks};
 ghost use Rattle.ov_history_t.specs.Premises.{NamesThatAreNotEmptyName, PlacesBetweenAreWithin};
-ghost use Rattle.ov_history_t.specs.Premises.{WhatOwnersSealIsTheirs};
+ghost use Rattle.ov_history_t.specs.Premises.{ShortBytesAreAnEnd, WhatOwnersSealIsTheirs};
+ghost use Rattle.ov_history_t.specs.Premises.{WritesAtTheEndBeginInside};
 
 /// Each file that is there is padded under the access key of its base node, and under the key of its
 /// surface, where it has one.
@@ -24,4 +25,14 @@ pub fn what_owners_seal_is_theirs()
 pub fn places_in_a_range_are_its_own()
     ensures blocks { ExtentsHaveTheirBlocks }
     ensures places { PlacesBetweenAreWithin }
+{}
+
+/// A write at the end of an area begins inside it.
+pub fn writes_at_the_end_begin_inside()
+    ensures { WritesAtTheEndBeginInside }
+{}
+
+/// Fewer bytes than a length field has end a stream of frames.
+pub fn short_bytes_are_an_end()
+    ensures { ShortBytesAreAnEnd }
 {}
