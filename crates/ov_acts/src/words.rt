@@ -1,7 +1,8 @@
 //! The words of the command line, taken apart.
 //!
-//! Words of which none looks like an option are a job's line or they aren't, and nobody else is
-//! asked. Where one does, clap judges first: it may be help that is asked for.
+//! Words of which none looks like an option are a job's line or they aren't. Where one does, they are
+//! none: help may be asked for, or the word is one that clap doesn't know. A single dash is a word as
+//! any other, so a path may be `-`, and a path that begins with a dash is written as `./-x`.
 ghost use Rattle.std.specs.Prelude.{◌≡◌, ◌⊎◌, List, ℕ, ◌∷◌, [], IfErr, IfNone, IfOk, IfSome};
 ghost use Rattle.std.specs.Prelude.{codes, false, map, string_bytes};
 ghost use Rattle.ov_acts.specs.Files.{HasListLimits};
@@ -11,8 +12,6 @@ ghost use Rattle.ov_acts.specs.declared.job.Act.{Act as ActValue};
 ghost use Rattle.ov_acts.specs.declared.job.Job.{Job as JobValue};
 
 use crate::job::{Act, Job};
-use crate::line::judge;
-use clap::error::ErrorKind;
 use ov_base::limits::MAX_LINE_BYTES;
 use ov_base::{Memory, Name, Names, Octets};
 use ov_script::list_of;
@@ -238,21 +237,20 @@ fn lists_are_few()
 ///
 /// * `line`: the words are the job's line;
 /// * `list`: its list, where it has one, is one that [`act`](crate::act) takes;
+/// * `options`: none of the words looks like an option, so an address, a path or a list with a dash
+///   and more behind it is never taken for one;
 /// * `code`: words that are some job's line, and of which none looks like an option, are never
 ///   answered 2.
 pub fn read_job(alloc: Global, words: &[String]) -> Result<Job, u8>
     ensures line { IfOk result (IsJobLine (map string_bytes words.now)) }
     ensures list { IfOk result (λ job. HasListLimits job.act) }
+    ensures options { IfOk result (λ _. has_option words.now ≡ false) }
     ensures code { IfErr result (λ code. (code ≡ 7) ⊎ ((code ≡ 2)
         × (has_option words.now ≡ false → IsNoLine (map string_bytes words.now)))) }
 {
     lists_are_few();
     if has_option(words) {
-        match judge(alloc, words) {
-            Ok(()) => {}
-            Err(error) if error.kind() == ErrorKind::OutOfMemory => return Err(7),
-            Err(_) => return Err(2),
-        }
+        return Err(2);
     }
     match job_of(alloc, words) {
         Ok(Some(job)) => Ok(job),

@@ -5,6 +5,7 @@ pub mod Images
 pub mod Layers
 pub mod Machine
 pub mod Ordering
+pub mod Premises
 pub mod Refusing
 pub mod Replacing
 pub mod Stores

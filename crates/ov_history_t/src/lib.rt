@@ -16,6 +16,7 @@ mod images;
 mod layers;
 mod machine;
 mod ordering;
+mod premises;
 mod refusing;
 mod replacing;
 
@@ -52,6 +53,10 @@ pub use machine::{
     a_replaced_file_has_the_new_bytes, only_the_listed_read, the_next_epoch_is_answered,
 };
 pub use ordering::new_surfaces_are_in_the_order_of_files;
+pub use premises::{
+    each_coat_is_a_pad, names_that_are_not_empty_name, places_in_a_range_are_its_own,
+    short_bytes_are_an_end, what_owners_seal_is_theirs, writes_at_the_end_begin_inside,
+};
 pub use refusing::{
     a_question_has_the_lowest_refusal, a_removal_frees_bytes_and_name,
     an_update_has_the_lowest_refusal, bytes_fill_a_store, the_last_epoch_is_spent,
