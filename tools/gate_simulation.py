@@ -72,18 +72,28 @@ def tasks_of(rt, crates, table):
         tasks[crate.name, "proof"] = below, lines, needs, minutes["proof"]
         tasks[crate.name, "tests"] = below, lines * crate.has_tests(), needs, minutes["tests"]
         edits = rt.edits_of(crate)[0]
-        parts = parts_of_edits(minutes, len(edits))
-        both, own = [(crate.name, "proof"), (crate.name, "tests")], {}
-        rt.add_edits(own, crate, edits, below, both, None, None)
-        tasks |= {key: (*task[:3], parts[key[1]]) for key, task in own.items()}
+        tasks |= tasks_of_edits(rt, crate, edits, minutes, (below, lines, needs))
     return tasks
 
 
+def tasks_of_edits(rt, crate, edits, minutes, proof):
+    """The tasks of a crate's edits. Some kits try them side by side, once a check of the crate has been made; others one
+    after the other, as one task, of which the minutes say the whole."""
+    both = [(crate.name, "proof"), (crate.name, "tests")]
+    if not hasattr(rt, "add_edits"):
+        _, lines, needs = proof
+        return {(crate.name, "edits"): (both, lines * bool(edits), needs, minutes["edits"])}
+    parts, own = parts_of_edits(minutes, len(edits)), {}
+    rt.add_edits(own, crate, edits, proof[0], both, None, None)
+    return {key: (*task[:3], parts[key[1]]) for key, task in own.items()}
+
+
 def crates_here(rt):
-    """The repository's crates, the lowest first, as the gate counts their lines."""
+    """The repository's crates, the lowest first, as the gate counts their lines. Nothing is set aside or locked."""
     rt.Crate.cuts_libraries = True
     rt.Crate.allowed = rt.handles_of(os.getcwd())
-    return rt.crates_of(os.getcwd())
+    rt.rtlib.Crate = rt.Crate
+    return sorted(rt.rtlib.crates_below(os.getcwd()), key=lambda it: len(it.below()))
 
 
 def simulated(table, processors, memory=None):
@@ -91,10 +101,13 @@ def simulated(table, processors, memory=None):
     (what is free now, where none is given)."""
     rt, machine = kit(), Machine()
     tasks = tasks_of(rt, crates_here(rt), table)
-    os.environ.pop("RT_JOBS", None)
     rt.processors = lambda: processors
     if memory:
         rt.free = lambda: memory
+    # as .ci/run sets it
+    os.environ.pop("RT_JOBS", None)
+    if rt.free() >= 20e9:
+        os.environ["RT_JOBS"] = str(min(processors, int(rt.free() / 5e9)))
     rt.ThreadPoolExecutor, rt.wait = lambda _: machine, machine.wait
     rt.in_lanes(tasks)
     return machine.now
