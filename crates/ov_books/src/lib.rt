@@ -17,4 +17,6 @@
 
 mod laws;
 
-pub use laws::{an_image_keeps_one_book, base_closures_are_given, books_go_on, spelled_updates_go_on};
+pub use laws::{
+    an_image_keeps_one_book, base_closures_are_given, books_go_on, spelled_updates_go_on,
+};

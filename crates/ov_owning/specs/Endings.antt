@@ -165,10 +165,14 @@ EndsGreeted s intent (Err stop) end = end ≡ Err stop
 -- ---- faults
 
 -- The link failed only where the count of its faults rose, and a call of the book's disk only where
--- that of the disk's did. Memory may be refused at any time.
+-- that of the disk's did. Memory may be refused at any time. No file is read, and the book is there.
 abbrev pub IsOwnCause : {T : Type 0} → ℕ → ℕ → ℕ → ℕ → Result T OwnStop → Type 0
 IsOwnCause p q d e (Err stops.Link) = Rose p q
 IsOwnCause p q d e (Err stops.Disk) = Rose d e
+IsOwnCause p q d e (Err stops.Read) = ⊥
+IsOwnCause p q d e (Err stops.BadKeys) = ⊥
+IsOwnCause p q d e (Err stops.TooLong) = ⊥
+IsOwnCause p q d e (Err stops.NoBook) = ⊥
 IsOwnCause p q d e end = Unit {0}
 
 -- no count falls, and a call ended so only where the count rose

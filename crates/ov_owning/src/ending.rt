@@ -1,5 +1,6 @@
 //! The end of a call: its line on standard output, and the exit status.
-ghost use Rattle.std.specs.Prelude.{◌≡◌, ◌⊎◌, ◌++◌, IfOk, codes};
+ghost use Rattle.std.specs.Prelude.{◌≡◌, ◌⊎◌, ◌∷◌, [], ◌++◌, IfOk, codes};
+ghost use Rattle.std.specs.Fmt.{decimal};
 ghost use Rattle.ov_script.specs.Lines.{reply_line as line_on};
 ghost use Rattle.ov_script.specs.declared.reply.Reply.TheVariants.{Refused as RefusedReply};
 ghost use Rattle.ov_base.specs.Causes.{Rose};
@@ -30,6 +31,14 @@ fn server_line(alloc: Global, why: Refusal) -> Result<Vec<u8>, Memory>
     Ok(text)
 }
 
+/// The line on a server at this epoch, by a book at that one.
+fn differs_line(alloc: Global, told: u32, kept: u32) -> Result<Vec<u8>, Memory>
+    ensures { IfOk result (λ text. text.items
+        ≡ codes "differs " ++ decimal told ++ 32 ∷ decimal kept ++ 10 ∷ []) }
+{
+    Ok(format!(in alloc; "differs {told} {kept}\n")?.into_bytes())
+}
+
 /// The line of an end, or nothing where it has none.
 fn line_of(alloc: Global, end: Result<u32, OwnStop>) -> Result<Vec<u8>, Memory>
     ensures { IfOk result (λ text. text.items ≡ end_line end) }
@@ -40,9 +49,7 @@ fn line_of(alloc: Global, end: Result<u32, OwnStop>) -> Result<Vec<u8>, Memory>
         Err(OwnStop::Pending { kept }) => {
             Ok(format!(in alloc; "pending {kept}\n")?.into_bytes())
         }
-        Err(OwnStop::Differs { told, kept }) => {
-            Ok(format!(in alloc; "differs {told} {kept}\n")?.into_bytes())
-        }
+        Err(OwnStop::Differs { told, kept }) => differs_line(alloc, told, kept),
         Err(OwnStop::Disk) => Ok(b"error disk\n".to_vec(alloc)?),
         Err(OwnStop::NoBook) => Ok(b"error book\n".to_vec(alloc)?),
         Err(OwnStop::ServerRefused(why)) => server_line(alloc, why),

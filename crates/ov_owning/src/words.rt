@@ -75,19 +75,19 @@ fn own_act_of<'a>(alloc: Global, words: &'a [String]) -> Result<Option<Written<'
     ensures none { IfOk result (λ found. IfNone found
         (IsNoOwnTail (map string_bytes words.entry.now))) }
 {
-    match words {
-        [] => Ok(None),
-        [word] => {
-            if word.as_str() != "resume" {
-                return Ok(None);
-            }
-            Ok(Some(Written {
-                act: OwnAct::Resume,
-                path: "",
-            }))
-        }
-        [command, rest @ ..] => update_by(alloc, command.as_str(), rest),
+    let Some((command, rest)) = words.split_first() else {
+        return Ok(None);
+    };
+    if !rest.is_empty() {
+        return update_by(alloc, command.as_str(), rest);
     }
+    if command.as_str() != "resume" {
+        return Ok(None);
+    }
+    Ok(Some(Written {
+        act: OwnAct::Resume,
+        path: "",
+    }))
 }
 
 /// The job of an act, with these words.
@@ -103,9 +103,9 @@ fn job_with(
       address = address.now;
       keys = keys.now;
       book = book.now;
-      path = written.path.now;
+      path = written.entry.path.now;
       mode = mode;
-      act = written.act;
+      act = written.entry.act;
     }) }
 {
     Ok(OwnJob {
@@ -150,10 +150,11 @@ fn job_of(alloc: Global, words: &[String]) -> Result<Option<OwnJob>, Memory>
     ensures none { IfOk result (λ found. IfNone found (IsNoOwnLine (map string_bytes words.now))) }
 {
     match words {
-        [own, address, keys, book, mode, rest @ ..] => {
+        [own, address, keys, book, mode, ..] => {
             if own.as_str() != "own" {
                 return Ok(None);
             }
+            let (_, rest) = words.split_at(5);
             job_behind(
                 alloc,
                 address.as_str(),
