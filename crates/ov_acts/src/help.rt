@@ -38,7 +38,7 @@ macro_rules! command {
 }
 
 /// The commands.
-pub static LINES: [Line; 13] = [
+pub static LINES: [Line; 14] = [
     command!(
         "enrol",
         ["ADDRESS", "KEYS", "USER"],
@@ -117,6 +117,20 @@ pub static LINES: [Line; 13] = [
         "Print all lists, `list FILE NAMES`; or the files that list USER",
         "127.0.0.1:7400 bob"
     ),
+    Line {
+        name: "own",
+        words: &[
+            "ADDRESS", "KEYS", "BOOK", "MODE", "COMMAND", "[FIRST]", "[SECOND]", "[THIRD]",
+        ],
+        usage: "overctl own ADDRESS KEYS BOOK MODE COMMAND WORDS",
+        about: "Send a command by the owner's book: `ok EPOCH`",
+        after: concat!(
+            "Example: overctl own 127.0.0.1:7400 keys.hex team full revoke bob report\n",
+            "Exit status: 0 done, 2 words, 3 refused, 4 disk, 5 reading, 6 writing, 7 memory,\n",
+            " 8 no server, 9 masters or mode, 10 key file, 11 reply, 14 length, 15 pending,\n",
+            " 16 epochs differ, 17 the book's files, 18 no book, 19 refused by the server"
+        ),
+    },
 ];
 
 /// What the program is.
@@ -140,6 +154,10 @@ pub fn about_word(word: &str) -> &'static str {
         "LIST" => "users with commas between them, or - for nobody",
         "PATH" => "the file whose bytes are stored, or - for standard input",
         "USER" => "the user's name",
+        "BOOK" => "the path of the book's two files, without .book and .blobs",
+        "MODE" => "full or delta, the mode of the store",
+        "COMMAND" => "enrol, create, grant, revoke, remove, replace or resume",
+        "[FIRST]" | "[SECOND]" | "[THIRD]" => "a word of the command, as without a book",
         "[USER]" => "print only the names of the files that list this user",
         _ => "the file's name in the store",
     }

@@ -56,6 +56,7 @@ mod stop;
 mod words;
 
 pub use acting::act;
+pub use files::{bytes_of, masters_of};
 pub use help::{Line, line_of};
 pub use job::{Act, Job};
 pub use laws::{legal_histories_are_stores, right_files_are_enough};
@@ -63,4 +64,4 @@ pub use line::judge;
 pub use outcome::finish;
 pub use status::Status;
 pub use stop::Stop;
-pub use words::{MAX_WRITTEN_LIST, names_of, read_job};
+pub use words::{MAX_WRITTEN_LIST, Taken, act_of, has_option, names_of, read_job};

@@ -52,9 +52,11 @@ fn act_of_one(command: &str, word: &str) -> Option<Act>
 
 /// An act, and the path of the bytes that it stores, where it stores some.
 #[derive(Drop)]
-struct Taken<'a> {
-    act: Act,
-    path: &'a str,
+pub struct Taken<'a> {
+    /// The act.
+    pub act: Act,
+    /// The path, or nothing.
+    pub path: &'a str,
 }
 
 /// The act that has two words behind its keys: two names, or a name and a path.
@@ -104,8 +106,8 @@ fn creation(alloc: Global, file: &str, list: &str) -> Result<Option<Act>, Memory
     }
 }
 
-/// The act of the words behind an address and keys.
-fn act_of<'a>(
+/// The act of a command and the words behind its address and keys.
+pub fn act_of<'a>(
     alloc: Global,
     command: &str,
     words: &'a [String],
@@ -219,7 +221,7 @@ fn is_option(word: &str) -> bool
 }
 
 /// Whether one of the words looks like an option.
-fn has_option(words: &[String]) -> bool
+pub fn has_option(words: &[String]) -> bool
     ensures { result ≡ has_option words.now }
 {
     words.iter().any(|word| is_option(word.as_str()))

@@ -12,6 +12,7 @@
 //! | `ending`, `asks`, `refusals` | what is said of how a job ended, by what its act asks for |
 //! | `heard` | which refusal was put |
 //! | `leaked` | whether a server shows the base master |
+//! | `owning`, `own_texts` | commands by the owner's book, and what is said of how they ended |
 //! | `question` | questions that need no key |
 //! | `usage`, `texts` | what is said of wrong words, and where help is asked for |
 #![tactic(auto)]
@@ -20,6 +21,8 @@ mod asks;
 mod ending;
 mod heard;
 mod leaked;
+mod own_texts;
+mod owning;
 mod question;
 mod real;
 mod refusals;
@@ -28,6 +31,8 @@ mod usage;
 
 use ov_acts::read_job;
 use ov_files::{hold_places, words_of};
+use ov_owning::read_own_job;
+use owning::run_own;
 use real::run_job;
 use std::io::ErrorKind;
 use std::process::ExitCode;
@@ -36,8 +41,20 @@ use usage::{ask_or_explain, say_no_places, say_out_of_memory, say_wrong};
 
 /// Does what the words ask for, and gives the status.
 fn answer_words(rt: &HostRuntime, words: &[String]) -> u8 {
+    if words.first().is_some_and(|word| word.as_str() == "own") {
+        return answer_own(rt, words);
+    }
     match read_job(rt.alloc(), words) {
         Ok(job) => run_job(rt, &job),
+        Err(7) => say_out_of_memory(rt),
+        Err(_) => ask_or_explain(rt, words),
+    }
+}
+
+/// Does what the words of `own` ask for, and gives the status.
+fn answer_own(rt: &HostRuntime, words: &[String]) -> u8 {
+    match read_own_job(rt.alloc(), words) {
+        Ok(job) => run_own(rt, job),
         Err(7) => say_out_of_memory(rt),
         Err(_) => ask_or_explain(rt, words),
     }

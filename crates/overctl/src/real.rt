@@ -20,18 +20,19 @@ use std::fs::File;
 use std::io::ErrorKind;
 use std::net::ToSocketAddrs;
 
-// The path that stands for standard input, and what texts call it.
-const STANDARD_INPUT: &str = "-";
+/// The path that stands for standard input.
+pub const STANDARD_INPUT: &str = "-";
 
-const INPUT_NAME: &str = "standard input";
+/// What texts call standard input.
+pub const INPUT_NAME: &str = "standard input";
 
-// The text of a word.
-fn text_of(word: &Octets) -> &str {
+/// The text of a word.
+pub fn text_of(word: &Octets) -> &str {
     std::str::from_utf8(word.as_slice()).unwrap_or("")
 }
 
-// Says so where others may read a file of keys.
-fn warn_of_mode(rt: &HostRuntime, path: &str) {
+/// Says so where others may read a file of keys.
+pub fn warn_of_mode(rt: &HostRuntime, path: &str) {
     if is_open_to_others(rt, path) {
         let _ = eprintln!(rt; "overctl: warning: {path} can be read by others");
         let _ = eprintln!(rt; "overctl: hint: keep it to yourself by `chmod 600 {path}`");
@@ -50,8 +51,8 @@ fn read_fault(rt: &HostRuntime, path: &str) -> Option<ErrorKind> {
     }
 }
 
-// Why this file can't be read, if so. Whoever opens a pipe again may wait, so nobody does.
-fn fault_of(rt: &HostRuntime, path: &str) -> Option<ErrorKind> {
+/// Why this file can't be read, if so. A pipe isn't opened again, since that may wait.
+pub fn fault_of(rt: &HostRuntime, path: &str) -> Option<ErrorKind> {
     match fs::metadata(rt, path) {
         Ok(about) => {
             if about.is_file() || about.is_dir() {
@@ -82,9 +83,9 @@ fn path_of(job: &Job) -> &str {
     }
 }
 
-// Why a stream failed. A host that isn't found has no kind of its own, so its name is looked up
-// again.
-fn link_fault(rt: &HostRuntime, address: &str, reason: Option<ErrorKind>) -> Option<ErrorKind> {
+/// Why a stream failed. A host that isn't found has no kind of its own, so its name is looked up
+/// again.
+pub fn link_fault(rt: &HostRuntime, address: &str, reason: Option<ErrorKind>) -> Option<ErrorKind> {
     match reason {
         Some(ErrorKind::Uncategorized) => match address.to_socket_addrs(rt) {
             Ok(_addresses) => reason,

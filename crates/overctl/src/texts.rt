@@ -40,6 +40,10 @@ pub enum WrongWords<'a> {
     Name(&'a str),
     /// This word is no list.
     List(&'a str),
+    /// This word is no mode.
+    Mode(&'a str),
+    /// This word is no command that a book has.
+    Update(&'a str),
 }
 
 impl Display for WrongWords<'_> {
@@ -53,6 +57,11 @@ impl Display for WrongWords<'_> {
             WrongWords::Name(word) => write!(
                 f,
                 "`{word}` is no name: 1 to 64 of a-z, 0-9, `.`, `_`, `-`, a letter or digit first"
+            ),
+            WrongWords::Mode(word) => write!(f, "`{word}` is no mode: full or delta"),
+            WrongWords::Update(word) => write!(
+                f,
+                "`{word}` is no command by a book: enrol, create, grant, revoke, remove, replace or resume"
             ),
             WrongWords::List(word) => write!(
                 f,

@@ -48,11 +48,50 @@ fn wrong_word<'a>(alloc: Global, label: &str, word: &'a str) -> Option<WrongWord
     }
 }
 
+/// What is wrong with the words behind a book and its mode.
+fn wrong_update<'a>(alloc: Global, words: &'a [String]) -> WrongWords<'a> {
+    let Some((command, words)) = words.split_first() else {
+        return WrongWords::TooFew;
+    };
+    let updates = ["enrol", "create", "grant", "revoke", "remove", "replace"];
+    let Some(line) = line_of(command.as_str()) else {
+        return WrongWords::Update(command.as_str());
+    };
+    if !updates.as_slice().contains(&line.name) {
+        return WrongWords::Update(command.as_str());
+    }
+    let (_, labels) = line.words.split_at(2);
+    for (label, word) in labels.iter().zip(words) {
+        if let Some(wrong) = wrong_word(alloc, label, word.as_str()) {
+            return wrong;
+        }
+    }
+    if words.len() < labels.len() {
+        WrongWords::TooFew
+    } else {
+        WrongWords::Others
+    }
+}
+
+/// What is wrong with the words of a command by the owner's book.
+fn wrong_own<'a>(alloc: Global, words: &'a [String]) -> WrongWords<'a> {
+    match words {
+        [_, _, _, mode, rest @ ..] => match mode.as_str() {
+            "full" | "delta" => wrong_update(alloc, rest),
+            other => WrongWords::Mode(other),
+        },
+        _ => WrongWords::TooFew,
+    }
+}
+
 /// What is wrong with words that clap takes.
 fn wrong_names<'a>(alloc: Global, words: &'a [String]) -> WrongWords<'a> {
     let Some((command, words)) = words.split_first() else {
         return WrongWords::None;
     };
+    if command.as_str() == "own" {
+        return wrong_own(alloc, words);
+    }
     let Some(line) = line_of(command.as_str()) else {
         return WrongWords::Command(command.as_str());
     };

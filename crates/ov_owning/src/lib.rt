@@ -1,0 +1,46 @@
+//! An owner's commands to a server, by the owner's book.
+//!
+//! The owner takes nothing from a server's replies but its epoch and whether an update was made. What is
+//! intended becomes an update by the owner's own book (`ov_book`): its numbers, sets and nodes. The update
+//! is written down there, and only then sent.
+//!
+//! [`read_own_job`] takes the words of `overctl own` apart into an [`OwnJob`], and [`own`] does it over any
+//! two files, any sink, any peer and any disk:
+//!
+//! 1. the masters are read, and the book on the disk is begun or opened;
+//! 2. where an intent is pending, only `resume` goes on;
+//! 3. the bytes to be stored are read;
+//! 4. Hello is asked: a store of other masters, of the other mode or at another epoch ends the call;
+//! 5. the intent is written down, its update is sent at the book's epoch, with the owner's tag, and the
+//!    epoch that the server tells settles it.
+//!
+//! A call that ends after 5 began may leave the intent pending. It is never dropped, since its tokens may be
+//! out: `resume` sends it again, or settles it where the server has made it.
+//!
+//! | file in `specs/` | says |
+//! |---|---|
+//! | `Words` | which words are the line of a job |
+//! | `Running` | what a call does, from its key file on |
+//! | `Owning` | what is asked by a book, and what the book has then |
+//! | `Endings` | how a call ends, by what it was told |
+//! | `Intents` | the intent that an act is |
+//! | `Printing`, `Causes` | what is put of an end; the causes of each status |
+//!
+//! `Owns` is the heart of it: it has in one record what was asked and what a crash may leave, so that both
+//! are of one book. From an Update's sending on, each image that a crash may leave has its intent.
+#![tactic(auto)]
+
+mod carrying;
+mod ending;
+mod intents;
+mod job;
+mod owning;
+mod sending;
+mod stop;
+mod words;
+
+pub use carrying::{own_intent, resume};
+pub use job::{OwnAct, OwnJob};
+pub use owning::{Owned, own};
+pub use stop::OwnStop;
+pub use words::read_own_job;
