@@ -1,6 +1,6 @@
 use Rattle.ov_wire.specs.declared.request.Request.TheVariants.{Hello}
 use Rattle.ov_peer.proofs.Calling.{told_by}
-use Rattle.ov_owner_t.proofs.peer.epoch_of.Goals as goal
+use Rattle.ov_client_t.proofs.peer.epoch_of.Goals as goal
 
 pub returns-in-Ok-clause-told : goal.returns-in-Ok-clause-told
 returns-in-Ok-clause-told g c = λ v serves.
