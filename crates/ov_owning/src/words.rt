@@ -8,8 +8,7 @@ ghost use Rattle.ov_owning.specs.Words.{IsNoOwnLine, IsNoOwnTail, IsOwnLine, IsO
 ghost use Rattle.ov_owning.specs.declared.job.OwnAct.{OwnAct as OwnValue};
 
 use crate::job::{OwnAct, OwnJob};
-use clap::error::ErrorKind;
-use ov_acts::{Act, Taken, act_of, has_option, judge};
+use ov_acts::{Act, Taken, act_of, has_option};
 use ov_base::{Memory, Mode, Octets};
 use std::alloc::Global;
 
@@ -172,19 +171,17 @@ fn job_of(alloc: Global, words: &[String]) -> Result<Option<OwnJob>, Memory>
 /// memory was refused.
 ///
 /// * `line`: the words are the job's line;
+/// * `options`: none of the words looks like an option;
 /// * `code`: words that are some job's line, and of which none looks like an option, are never
 ///   answered 2.
 pub fn read_own_job(alloc: Global, words: &[String]) -> Result<OwnJob, u8>
     ensures line { IfOk result (IsOwnLine (map string_bytes words.now)) }
+    ensures options { IfOk result (λ _. has_option words.now ≡ false) }
     ensures code { IfErr result (λ code. (code ≡ 7) ⊎ ((code ≡ 2)
         × (has_option words.now ≡ false → IsNoOwnLine (map string_bytes words.now)))) }
 {
     if has_option(words) {
-        match judge(alloc, words) {
-            Ok(()) => {}
-            Err(error) if error.kind() == ErrorKind::OutOfMemory => return Err(7),
-            Err(_) => return Err(2),
-        }
+        return Err(2);
     }
     match job_of(alloc, words) {
         Ok(Some(job)) => Ok(job),
