@@ -33,9 +33,10 @@ def crates_of(program):
 def help_of(program):
     """Those of the text that --help prints, which stands in one file of the program or of a library."""
     for path in (path for crate in crates_of(program) for path in sorted((crate / "src").glob("*.rt"))):
-        _, found, behind = path.read_text().partition("Exit status:")
-        if found:
-            return numbers(r'(?:^|[\s,"])(\d{1,2}) +(?=[`A-Za-z])', re.split(r'"(?:;|\n\s*\))', behind)[0])
+        texts = path.read_text().split("Exit status:")[1:]
+        if texts:
+            named = (re.split(r'"(?:;|\n\s*\))', text)[0] for text in texts)
+            return sorted({it for text in named for it in numbers(r'(?:^|[\s,"])(\d{1,2}) +(?=[`A-Za-z])', text)})
     return []
 
 
@@ -54,7 +55,11 @@ def places_of(program):
     for definitions in (crate / "specs" / "Status.antt" for crate in crates_of(program)):
         if not definitions.exists():
             continue
-        yield "definitions", numbers(r"^status_code \w+ = (\d+)$", definitions.read_text())
+        text = definitions.read_text()
+        # a command by the owner's book has statuses of its own
+        for further in (crate / "specs" / "Endings.antt" for crate in crates_of(program)):
+            text += further.read_text() if further.exists() else ""
+        yield "definitions", numbers(r"^(?:status|own)_code .+ = (\d+)$", text)
     yield "--help", help_of(program)
     pages, sections = PROGRAMS[program]
     for path in (ROOT / "dist" / "man" / name for name in pages):

@@ -2,7 +2,9 @@
 _overctl() {
     local word=${COMP_WORDS[COMP_CWORD]} words=
     case $COMP_CWORD,$word in
-        1,*) words='enrol create grant revoke remove replace list key read check epoch users files --help --version' ;;
+        1,*) words='enrol create grant revoke remove replace list key read check epoch users files own --help --version' ;;
+        5,*) [ "${COMP_WORDS[1]}" != own ] || words='full delta' ;;
+        6,*) [ "${COMP_WORDS[1]}" != own ] || words='enrol create grant revoke remove replace resume' ;;
         *,-*) words=--help ;;
     esac
     mapfile -t COMPREPLY < <(compgen -W "$words" -- "$word")
