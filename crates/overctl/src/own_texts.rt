@@ -112,11 +112,13 @@ fn say_step<W: Write>(end: &OwnEnding<'_>, stop: OwnStop, f: &mut Formatter<W>) 
             f,
             "see that there is room, that you may write both, that no other program has them, {RESUME}"
         ),
-        OwnStop::NoBook => write!(
-            f,
-            "restore {book}.book and {book}.blobs from a copy, or take another path for a new book",
-            book = end.book
-        ),
+        OwnStop::NoBook => {
+            let book = end.book;
+            write!(
+                f,
+                "restore {book}.book and {book}.blobs from a copy, or take another path for a new book"
+            )
+        }
     }
 }
 
