@@ -60,7 +60,9 @@ fn wrong_update<'a>(alloc: Global, words: &'a [String]) -> WrongWords<'a> {
     if !updates.as_slice().contains(&line.name) {
         return WrongWords::Update(command.as_str());
     }
-    let (_, labels) = line.words.split_at(2);
+    let [_, _, labels @ ..] = line.words else {
+        return WrongWords::Update(command.as_str());
+    };
     for (label, word) in labels.iter().zip(words) {
         if let Some(wrong) = wrong_word(alloc, label, word.as_str()) {
             return wrong;
