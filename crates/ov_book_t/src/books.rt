@@ -1,4 +1,7 @@
 //! Worked books: their bytes, what is pending after a stop, and damage.
+ghost use Rattle.std.specs.Prelude.{◌≡◌};
+ghost use Rattle.ov_book.specs.Planning.{IsWithinFile};
+
 use crate::worked::{BOOK, SPELLINGS};
 use ov_base::{Key, Mode, Name, Names, Octets, Refusal};
 use ov_book::{Book, BookBegin, IntendFault, Intent, SettleFault};
@@ -21,7 +24,9 @@ fn name(rt: &impl Abort, text: &[u8]) -> Name {
     Name::read(text).expect(rt, "a name")
 }
 
-fn octets(rt: &impl Abort, alloc: Global, bytes: &[u8]) -> Octets {
+fn octets(rt: &impl Abort, alloc: Global, bytes: &[u8]) -> Octets
+    ensures { result ≡ bytes.now }
+{
     Octets::copy(alloc, bytes).expect(rt, "memory")
 }
 
@@ -33,7 +38,9 @@ fn pair(rt: &impl Abort, alloc: Global) -> Names {
 }
 
 /// The intents of the worked book.
-fn intent_of(rt: &impl Abort, alloc: Global, number: u32) -> Intent {
+fn intent_of(rt: &impl Abort, alloc: Global, number: u32) -> Intent
+    ensures { IsWithinFile result }
+{
     match number {
         0 => Intent::Enrol {
             name: name(rt, b"a"),
