@@ -191,6 +191,20 @@ def a_key_file_that_is_not_there():
         expect(run(folder), 0, b"end epoch 0\n")
 
 
+def audits_of_no_store():
+    """Where no store was begun an audit makes no file, and says what it says of an empty store."""
+    for keys in (False, True):
+        for name, bytes_of_book in ((None, b""), ("store.book", b"")):
+            folder = store_folder(keys)
+            if name:
+                (folder / name).write_bytes(bytes_of_book)
+            before = files_of(folder)
+            status, lines, said = told(folder, "audit", "alice")
+            assert files_of(folder) == before, (keys, name, sorted(files_of(folder)))
+            wanted = (0, b"refused 2 NoUser\nend epoch 0\n") if keys else (5, b"error read\n")
+            assert (status, lines) == wanted, (status, lines, said)
+
+
 def loads():
     for words in (["full", "01", "5"], ["full", "18446744073709551616", "5"], ["full", "1", "0"], ["full", "1", "20001"]):
         folder = store_folder()
@@ -716,6 +730,7 @@ cases = [
     lines_that_are_bad,
     key_files_that_others_read_and_new_stores,
     a_key_file_that_is_not_there,
+    audits_of_no_store,
     loads,
     a_script_that_is_too_long,
     disks_that_fail,

@@ -34,7 +34,7 @@ use lacks::{Lack, lack_of};
 use ov_answering::Status;
 use ov_auditing::audit;
 use ov_base::Memory;
-use ov_disk::FileDisk;
+use ov_disk::{FileDisk, MemDisk};
 use ov_files::{OwnFiles, begins, hold_places, words_of};
 use ov_io::{FileSink, FileSource, Source, StdSink, StdSource};
 use ov_load::load;
@@ -166,6 +166,22 @@ fn asks_for_older(rt: &HostRuntime, words: &[String], disk: &mut StoreDisk) -> b
     (is_first("run", words) || is_first("load", words)) && is_older_store(rt, disk)
 }
 
+// Calls `audit`. Where no store was begun it looks at an empty disk in memory, since the first call of
+// one over files would make both.
+fn audit_store<W: Write>(
+    rt: &HostRuntime,
+    words: &[String],
+    keys: &mut Tried<FileSource<HostRuntime>>,
+    out: &mut Counted<StdSink<&mut Watched<W>>>,
+    disk: &mut StoreDisk,
+) -> u8 {
+    let alloc = rt.alloc();
+    if begins(rt, BOOK_FILE) {
+        return audit(alloc, words, keys, out, &mut MemDisk::new(alloc));
+    }
+    audit(alloc, words, keys, out, disk)
+}
+
 // Calls `load`, `audit` or, with all other words, `run`: the status, and which line of the script
 // was bad.
 fn answer<W: Write>(
@@ -181,7 +197,7 @@ fn answer<W: Write>(
         return (load(alloc, words, keys, out, trace, disk), None);
     }
     if is_first("audit", words) {
-        return (audit(alloc, words, keys, out, disk), None);
+        return (audit_store(rt, words, keys, out, disk), None);
     }
     let mut script = Recent::new(alloc, StdSource::new(Retrying::new(rt.stdin())));
     let code = run(alloc, words, keys, &mut script, out, trace, disk);
