@@ -192,7 +192,7 @@ def a_key_file_that_is_not_there():
 
 
 def audits_of_no_store():
-    """Where no store was begun an audit makes no file, and says what it says of an empty store."""
+    """Where no store was begun an audit makes no file, and says that there is none."""
     for keys in (False, True):
         for name, bytes_of_book in ((None, b""), ("store.book", b"")):
             folder = store_folder(keys)
@@ -201,7 +201,7 @@ def audits_of_no_store():
             before = files_of(folder)
             status, lines, said = told(folder, "audit", "alice")
             assert files_of(folder) == before, (keys, name, sorted(files_of(folder)))
-            wanted = (0, b"refused 2 NoUser\nend epoch 0\n") if keys else (5, b"error read\n")
+            wanted = (8, b"error notastore\n") if keys else (5, b"error read\n")
             assert (status, lines) == wanted, (status, lines, said)
 
 
