@@ -17,32 +17,43 @@ import time
 from common import ROOT, framed, new_folder, run_without_devices
 
 PROGRAM = str(pathlib.Path(sys.argv[1]).resolve())
-TESTS = ROOT / "crates" / "ov_acts_t" / "src" / "acts"
 SECONDS = 60
-
-
-def bytes_of(text):
-    """The bytes that a list of numbers and letters of Rattle says."""
-    spelled = re.findall(r"0x[0-9a-f]+|\d+|b'.'", text)
-    return bytes(ord(word[2]) if word.startswith("b'") else int(word, 0) for word in spelled)
-
-
 # So many bytes has the longest file.
 LONGEST = 16_777_216
-# The replies of the tests of ov_acts, by name.
+# Replies of a store of mode Delta under the masters below, as an independent implementation makes them: its Welcome at
+# epoch 7 and that of another store, the numbers of a new user and of c, the plan of a new list of two users, and the
+# chains and the bytes of `f1` for c.
 REPLIES = {
-    name: bytes_of(text)
-    for name, text in re.findall(
-        r"^pub const (\w+): &\[u8\] = &\[(.*?)\];", (TESTS / "replies.rt").read_text(), re.M | re.S
-    )
+    "WELCOME": bytes.fromhex("8101000000072a4f6d54a45f46e7a818a4f59451e9fbb0959add6660c90fc1b8bf8d4b73c745"),
+    "WELCOME_OTHER": bytes.fromhex("8101000000072a4f6d54a45f46e7a818a4f59451e9fbb0959add6660c90fc1b8bf8d4b73c744"),
+    "KNOWN": bytes.fromhex("8200000007000000000000000000000000000000000000000000"),
+    "KNOWN_C": bytes.fromhex("8200000007000000020000000200000002000000000000000000"),
+    "PLAN": bytes.fromhex("83000000070000000003") + bytes(127) + bytes.fromhex("000000030100020000000000000001"),
+    "ACCEPTED": bytes.fromhex("8400000008"),
+    "REFUSED": bytes.fromhex("8801"),
+    "NO_FILE": bytes.fromhex("8803"),
+    "BAD_TAG": bytes.fromhex("8a"),
+    "DEVICE_FAULT": bytes.fromhex("8d"),
+    "NO_MEMORY": bytes.fromhex("8e"),
+    "LISTED": bytes.fromhex("8f000201610162"),
+    "LISTED_NONE": bytes.fromhex("8f0000"),
+    "CHAINED": bytes.fromhex(
+        "85000000060000000000000002000000048f91b51972771f0973edfe300128b2c08246259add35e2173be57ca90fe48a3400"
+        "00000200014100000003611862441c56a6cb9fc64123a2793bce2c197a72b5a37ac6f00382e2988dee8200"
+    ),
+    "BYTES": bytes.fromhex("86a827"),
+    "OTHER_BYTES": bytes.fromhex("86a826"),
 }
-ROWS = (TESTS / "rows.rt").read_text()
-KEYS, KEY_LINE = (
-    re.search(r'^const %s: &\[u8\] =\s+b"(.*?)";' % name, ROWS, re.M | re.S)[1].replace("\\n", "\n")
-    for name in ("KEYS", "KEY_LINE")
+KEYS = (
+    "000102030405060708090a0b0c0d0e0f101112131415161718191a1b1c1d1e1f\n"
+    "202122232425262728292a2b2c2d2e2f303132333435363738393a3b3c3d3e3f\n"
+)
+KEY_LINE = (
+    "c 2 6829d4d2e470debd34bf50f13047db4dcf730cbfe88e9986e6fe30dd7d674731 "
+    "2 e1fda146db9605768430fc279fa83120a9db575932132e13b257f8b099e61c11\n"
 )
 VERSION = re.match(r"overstore \((.*?)\)", (ROOT / "dist" / "debian" / "changelog").read_text())[1]
-CHECK = re.search(r'b"([0-9a-f]{64})\\n"', ROWS)[1]
+CHECK = "2a4f6d54a45f46e7a818a4f59451e9fbb0959add6660c90fc1b8bf8d4b73c745"
 
 
 # ---- a server
