@@ -1,6 +1,4 @@
 //! A peer behind a stream in memory.
-ghost use Rattle.std.specs.Prelude.{◌<◌};
-
 use crate::case::Case;
 use crate::texts::{number_of, shown, words_of};
 use ov_base::Octets;
@@ -10,13 +8,11 @@ use ov_session::NetPeer;
 use std::alloc::Global;
 use std::test::Fail;
 
-/// The longest frame that is asked.
-const LONGEST: usize = 1000;
-
 // A stream of these bytes in pieces of this size, some of whose calls fail.
-fn stream_of(alloc: Global, case: &Case, bytes: Vec<u8>, piece: usize) -> Result<MemStream, Fail>
-    requires { 0 < piece }
-{
+fn stream_of(alloc: Global, case: &Case, bytes: Vec<u8>, piece: usize) -> Result<MemStream, Fail> {
+    if piece == 0 {
+        return Err(Fail::from("pieces have a size"));
+    }
     let takes = Octets::copy(alloc, &case.failing_takes)?;
     let puts = Octets::copy(alloc, &case.failing_puts)?;
     Ok(MemStream {
@@ -32,15 +28,16 @@ fn asked<P: Peer>(
     request: &[u8],
     reply: &mut Vec<u8>,
 ) -> Result<String, Fail> {
-    if request.is_empty() || request.len() > LONGEST {
-        return Err(Fail::from("a request was expected"));
+    if 1 <= request.len() && request.len() <= 1000 {
+        let result = peer.ask(request, reply);
+        let reply = shown(alloc, reply)?;
+        Ok(match result {
+            Ok(()) => format!(in alloc; "ok, {reply}")?,
+            Err(fault) => format!(in alloc; "{fault:?}, {reply}")?,
+        })
+    } else {
+        Err(Fail::from("a request was expected"))
     }
-    let result = peer.ask(request, reply);
-    let reply = shown(alloc, reply)?;
-    Ok(match result {
-        Ok(()) => format!(in alloc; "ok, {reply}")?,
-        Err(fault) => format!(in alloc; "{fault:?}, {reply}")?,
-    })
 }
 
 // Prints what comes of each request.
@@ -80,9 +77,6 @@ fn print_over(rt: &HostRuntime, stream: MemStream, requests: &str) -> Result<(),
 pub fn print_link(rt: &HostRuntime, case: &Case, rest: &str) -> Result<(), Fail> {
     let (piece, requests) = rest.split_once(' ').ok_or("a size, and requests")?;
     let piece = number_of(piece)?;
-    if piece == 0 {
-        return Err(Fail::from("pieces have a size"));
-    }
     let mut bytes = Vec::new(rt.alloc());
     for reply in &case.replies {
         bytes.extend_from_slice(reply.as_slice())?;

@@ -9,9 +9,6 @@ use ov_peer::Peer;
 use std::alloc::Global;
 use std::test::Fail;
 
-/// The longest text of a file.
-const LONGEST: usize = 1000;
-
 fn owner_of(case: &Case) -> Owner {
     Owner::new(case.base, case.surface)
 }
@@ -24,12 +21,7 @@ fn told(alloc: Global, epoch: Result<u32, OwnerFault>) -> Result<String, Fail> {
     }
 }
 
-fn enrolled<P: Peer>(
-    alloc: Global,
-    case: &Case,
-    peer: &mut P,
-    user: &str,
-) -> Result<String, Fail> {
+fn enrolled<P: Peer>(alloc: Global, case: &Case, peer: &mut P, user: &str) -> Result<String, Fail> {
     let user = name_of(user)?;
     let change = Change::Enrol { user: &user };
     told(alloc, owner_of(case).change(alloc, peer, &change))
@@ -39,7 +31,7 @@ fn created<P: Peer>(alloc: Global, case: &Case, peer: &mut P, rest: &str) -> Res
     let (file, rest) = rest.split_once(' ').ok_or("a file, a list and a text")?;
     let (list, text) = rest.split_once(' ').ok_or("a list and a text")?;
     let (file, list) = (name_of(file)?, names_of(alloc, list)?);
-    if list.as_slice().len() > 100 || text.len() > LONGEST {
+    if list.as_slice().len() > 100 || text.len() > 1000 {
         return Err(Fail::from("a shorter list or text was expected"));
     }
     let change = Change::Create {
@@ -79,7 +71,7 @@ fn removed<P: Peer>(alloc: Global, case: &Case, peer: &mut P, file: &str) -> Res
 fn replaced<P: Peer>(alloc: Global, case: &Case, peer: &mut P, rest: &str) -> Result<String, Fail> {
     let (file, text) = rest.split_once(' ').ok_or("a file and a text")?;
     let file = name_of(file)?;
-    if text.len() > LONGEST {
+    if text.len() > 1000 {
         return Err(Fail::from("a shorter text was expected"));
     }
     let change = Change::Replace {

@@ -22,12 +22,7 @@ pub fn peer_of(alloc: Global, case: &Case) -> Result<Replying, Fail> {
 }
 
 /// Prints what came of a line, and all frames that were asked and answered for it.
-pub fn print_came(
-    rt: &HostRuntime,
-    line: &str,
-    came: &str,
-    peer: &Replying,
-) -> Result<(), Fail> {
+pub fn print_came(rt: &HostRuntime, line: &str, came: &str, peer: &Replying) -> Result<(), Fail> {
     let frames = shown(rt.alloc(), peer.sink.written())?;
     println!(rt; "{line}: {came}\n  frames {frames}")?;
     Ok(())

@@ -13,12 +13,7 @@ fn reader_of(case: &Case) -> Result<Client, Fail> {
 }
 
 // What a reader has behind one byte that was there before, and what came of the read.
-fn read<P: Peer>(
-    alloc: Global,
-    client: &Client,
-    peer: &mut P,
-    file: &str,
-) -> Result<String, Fail> {
+fn read<P: Peer>(alloc: Global, client: &Client, peer: &mut P, file: &str) -> Result<String, Fail> {
     let file = name_of(file)?;
     let mut into = vec![in alloc; b'>'; 1]?;
     let result = client.read(alloc, peer, &file, &mut into);

@@ -60,8 +60,12 @@ fn set(alloc: Global, case: &mut Case, word: &str, rest: &str) -> Result<bool, F
             replies(case).push(reply)?
         }
         "*" => push_rounds(alloc, case, rest)?,
-        "base" => case.base = Key { bytes: block_of(alloc, rest)? },
-        "surface" => case.surface = Key { bytes: block_of(alloc, rest)? },
+        "base" => case.base = Key {
+            bytes: block_of(alloc, rest)?,
+        },
+        "surface" => case.surface = Key {
+            bytes: block_of(alloc, rest)?,
+        },
         "keys" => set_keys(alloc, case, rest)?,
         "length" => case.length = number_of(rest)?,
         "fails" => set_fails(case, rest)?,

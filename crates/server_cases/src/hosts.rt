@@ -3,7 +3,7 @@ use crate::case::Case;
 use crate::disks::copy_of;
 use crate::texts::{number_of, small_of, sum_of};
 use ov_base::Octets;
-use ov_disk::MemDisk;
+use ov_disk::{Disk, MemDisk};
 use ov_host::{Hosted, host};
 use ov_io::{MemSink, MemSource, MemStream};
 use ov_serving::Spawner;
@@ -18,12 +18,9 @@ use std::thread::Threads;
 /// A Hello with its length field.
 const HELLO: &[u8] = &[0, 0, 0, 1, 1];
 
-/// How many sessions may run at the same time.
-const WORKERS: u32 = 2;
-
-// What a server of so many sessions is told.
+// What a server of so many sessions is told. Two of them may run at the same time.
 fn settings_of(alloc: Global, case: &Case, sessions: u32) -> Settings
-    ensures { result.workers ≡ WORKERS }
+    ensures { result.workers ≡ 2 }
 {
     Settings {
         address: Octets::new(alloc),
@@ -33,20 +30,19 @@ fn settings_of(alloc: Global, case: &Case, sessions: u32) -> Settings
         book: Octets::new(alloc),
         blobs: Octets::new(alloc),
         sessions,
-        workers: WORKERS,
+        workers: 2,
     }
 }
 
-// A door with so many streams, each of which has a Hello in pieces.
-fn door_of(alloc: Global, case: &Case, streams: u64) -> Result<MemDoor, Fail> {
+// So many streams, each of which has a Hello in pieces.
+fn streams_of(alloc: Global, streams: u64) -> Result<Vec<MemStream>, Fail> {
     let mut all = Vec::new(alloc);
     for _ in 0..streams {
         let source = MemSource::new(Octets::copy(alloc, HELLO)?, 3, Octets::new(alloc));
         let sink = MemSink::new(alloc, Octets::new(alloc));
         all.push(MemStream { source, sink })?;
     }
-    let fails = Octets::copy(alloc, &case.failing_doors)?;
-    Ok(MemDoor::new(alloc, all, fails))
+    Ok(all)
 }
 
 // The disk of the case, some of whose calls fail.
@@ -59,24 +55,34 @@ fn disk_of(alloc: Global, case: &Case) -> Result<MemDisk, Fail> {
 }
 
 // Serves each session in a thread of its own, or all by the caller.
-fn hosted<R: Threads + Wait + Copy + Send + 'static>(
+fn hosted<R: Threads + Wait + Copy + Send + 'static, D: Disk + Drop + Send + 'static>(
     handle: &R,
     alloc: Global,
     settings: &Settings,
-    disk: MemDisk,
-    door: MemDoor,
+    disk: D,
+    streams: Vec<MemStream>,
+    fails: Octets,
     out: &mut MemSink,
     has_threads: bool,
-) -> Hosted<MemDisk>
-    requires { settings.now.workers ≡ WORKERS }
+) -> Hosted<D>
+    requires { settings.now.workers ≡ 2 }
 {
     let mut spawner = if has_threads {
         Spawner::new(alloc)
     } else {
         Spawner::refusing(alloc)
     };
-    let mut door = door;
-    host(handle, alloc, settings, disk, &mut door, &mut spawner, OpenGate, out)
+    let mut door = MemDoor::new(alloc, streams, fails);
+    host(
+        handle,
+        alloc,
+        settings,
+        disk,
+        &mut door,
+        &mut spawner,
+        OpenGate,
+        out,
+    )
 }
 
 // The lines, the status, and the disk that a server leaves.
@@ -89,10 +95,20 @@ fn told<R: Threads + Wait + Copy + Send + 'static>(
     has_threads: bool,
 ) -> Result<String, Fail> {
     let settings = settings_of(alloc, case, sessions);
-    let door = door_of(alloc, case, streams)?;
+    let streams = streams_of(alloc, streams)?;
+    let doors = Octets::copy(alloc, &case.failing_doors)?;
     let disk = disk_of(alloc, case)?;
     let mut out = MemSink::new(alloc, Octets::copy(alloc, &case.failing_puts)?);
-    let left = hosted(handle, alloc, &settings, disk, door, &mut out, has_threads);
+    let left = hosted(
+        handle,
+        alloc,
+        &settings,
+        disk,
+        streams,
+        doors,
+        &mut out,
+        has_threads,
+    );
     let lines = str::from_utf8(out.written())?;
     let (status, book) = (left.status, sum_of(alloc, left.disk.book())?);
     let store = if left.begun { "begun" } else { "not begun" };

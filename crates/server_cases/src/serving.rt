@@ -14,9 +14,6 @@ use std::alloc::Global;
 use std::str;
 use std::test::Fail;
 
-/// The longest frame that is asked.
-const LONGEST: usize = 1_000_000;
-
 /// What came of a server: why there was none, or its replies, and what is known of its store.
 #[derive(Drop)]
 pub struct Outcome {
@@ -45,11 +42,12 @@ fn reply_to<A: Answerer>(
     let mut frame = Vec::new(alloc);
     push_words(alloc, &mut frame, words, server.epoch(), &keys.surface)?;
     let mut reply = Vec::new(alloc);
-    if frame.is_empty() || frame.len() > LONGEST {
-        return Err(Fail::from("a frame was expected"));
+    if 1 <= frame.len() && frame.len() <= 1_000_000 {
+        server.answer(&frame, &mut reply)?;
+        Ok(Octets::from_vec(reply))
+    } else {
+        Err(Fail::from("a frame was expected"))
     }
-    server.answer(&frame, &mut reply)?;
-    Ok(Octets::from_vec(reply))
 }
 
 // What is replied to each of these frames in turn.
@@ -188,7 +186,11 @@ pub fn told(alloc: Global, served: &Outcome, disk: &MemDisk) -> Result<String, F
         let error = served.error.as_str();
         return Ok(format!(in alloc; "{error}  book {book}, blobs {blobs}\n")?);
     }
-    let form = if served.is_first_form { "first" } else { "second" };
+    let form = if served.is_first_form {
+        "first"
+    } else {
+        "second"
+    };
     let found = match served.false_record {
         Some(place) => format!(in alloc; "the record at {place} is false")?,
         None => String::from_str(alloc, "no record is false")?,

@@ -1,6 +1,4 @@
 //! Sessions over streams in memory, which give their bytes in pieces.
-ghost use Rattle.std.specs.Prelude.{◌<◌};
-
 use crate::case::{Case, Keys};
 use crate::disks::copy_of;
 use crate::parrot::Parrot;
@@ -8,7 +6,7 @@ use crate::serving::begun;
 use crate::texts::{number_of, shown};
 use crate::words::{area_of, push_words};
 use ov_base::Octets;
-use ov_disk::MemDisk;
+use ov_disk::Disk;
 use ov_io::{MemSink, MemSource, MemStream};
 use ov_peer::Answerer;
 use ov_session::{Alone, OpenGate, SessionEnd, serve_one};
@@ -16,10 +14,11 @@ use std::alloc::Global;
 use std::sync::Wait;
 use std::test::Fail;
 
-// A stream of these bytes, some of whose calls fail.
-fn stream_of(alloc: Global, case: &Case, bytes: &[u8], piece: usize) -> Result<MemStream, Fail>
-    requires { 0 < piece }
-{
+// A stream of these bytes, in pieces of this size, some of whose calls fail.
+fn stream_of(alloc: Global, case: &Case, bytes: &[u8], piece: usize) -> Result<MemStream, Fail> {
+    if piece == 0 {
+        return Err(Fail::from("pieces have a size"));
+    }
     let takes = Octets::copy(alloc, &case.failing_takes)?;
     let puts = Octets::copy(alloc, &case.failing_puts)?;
     Ok(MemStream {
@@ -58,20 +57,18 @@ fn parrot_in<R: Wait>(
     case: &Case,
     bytes: &[u8],
     piece: usize,
-) -> Result<String, Fail>
-    requires { 0 < piece }
-{
+) -> Result<String, Fail> {
     let mut stream = stream_of(alloc, case, bytes, piece)?;
     let end = end_over(handle, alloc, &mut Parrot {}, &mut stream);
     told(alloc, end, &stream)
 }
 
 // A session with a server over this disk.
-fn end_on<R: Wait>(
+fn end_on<R: Wait, D: Disk>(
     handle: &R,
     alloc: Global,
     keys: &Keys,
-    disk: &mut MemDisk,
+    disk: &mut D,
     stream: &mut MemStream,
 ) -> Result<SessionEnd, Fail> {
     match begun(alloc, disk, keys) {
@@ -90,9 +87,7 @@ fn server_in<R: Wait>(
     case: &Case,
     bytes: &[u8],
     piece: usize,
-) -> Result<String, Fail>
-    requires { 0 < piece }
-{
+) -> Result<String, Fail> {
     let mut stream = stream_of(alloc, case, bytes, piece)?;
     let mut disk = copy_of(alloc, &case.disk)?;
     let end = end_on(handle, alloc, &case.keys, &mut disk, &mut stream);
@@ -124,9 +119,7 @@ fn told_in_each<R: Wait>(
     first: usize,
     last: usize,
     is_parrot: bool,
-) -> Result<String, Fail>
-    requires { 0 < first }
-{
+) -> Result<String, Fail> {
     let text = match is_parrot {
         true => parrot_in(handle, alloc, case, bytes, first)?,
         false => server_in(handle, alloc, case, bytes, first)?,
@@ -155,9 +148,6 @@ pub fn print_session<R: Wait>(
     let (first, rest) = rest.split_once(' ').ok_or("a size of pieces")?;
     let (last, words) = rest.split_once(' ').unwrap_or((rest, ""));
     let (first, last) = (number_of(first)? as usize, number_of(last)? as usize);
-    if first == 0 {
-        return Err(Fail::from("pieces have a size"));
-    }
     let bytes = match is_parrot {
         true if words.is_empty() => Vec::new(rt.alloc()),
         true => area_of(rt.alloc(), words)?,

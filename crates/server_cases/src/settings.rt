@@ -15,7 +15,11 @@ const PIECE: usize = 1000;
 fn text_with(alloc: Global, case: &Case, key: &str, line: &str) -> Result<Vec<u8>, AllocError> {
     let mut text = Vec::new(alloc);
     for (name, usual) in &case.lines {
-        let line = if name.as_str() == key { line } else { usual.as_str() };
+        let line = if name.as_str() == key {
+            line
+        } else {
+            usual.as_str()
+        };
         text.extend_from_slice(line.replace(alloc, "\\n", "\n")?.as_bytes())?;
     }
     if key == "+" {
@@ -54,9 +58,7 @@ fn values_of(alloc: Global, settings: &Settings) -> Result<String, Fail> {
     let surface = shown(alloc, &settings.surface.bytes)?;
     let check = shown(alloc, &settings.base_check)?;
     let (sessions, workers) = (settings.sessions, settings.workers);
-    Ok(format!(in alloc;
-        "{address} {mode} {surface} {check} {book} {blobs} {sessions} {workers}"
-    )?)
+    Ok(format!(in alloc; "{address} {mode} {surface} {check} {book} {blobs} {sessions} {workers}")?)
 }
 
 // Prints the settings that are read of these bytes, or the status.

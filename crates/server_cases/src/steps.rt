@@ -81,7 +81,10 @@ fn set_fails(case: &mut Case, rest: &str) -> Result<(), Fail> {
 // Keeps a line of a settings file.
 fn push_usual(alloc: Global, case: &mut Case, rest: &str) -> Result<(), Fail> {
     let (key, line) = rest.split_once(' ').ok_or("a key and a line")?;
-    let (key, line) = (String::from_str(alloc, key)?, String::from_str(alloc, line)?);
+    let (key, line) = (
+        String::from_str(alloc, key)?,
+        String::from_str(alloc, line)?,
+    );
     case.lines.push((key, line))?;
     Ok(())
 }
@@ -104,9 +107,13 @@ fn set(alloc: Global, case: &mut Case, word: &str, rest: &str) -> Result<bool, F
         "%" => push_numbered(alloc, frames(case), rest)?,
         "?" => case.questions.push(String::from_str(alloc, rest)?)?,
         "mode" => case.keys.mode = mode_of(rest)?,
-        "surface" => case.keys.surface = Key { bytes: block_of(alloc, rest)? },
+        "surface" => case.keys.surface = Key {
+            bytes: block_of(alloc, rest)?,
+        },
         "check" => case.keys.base_check = block_of(alloc, rest)?,
-        "owner" => case.keys.owner = Key { bytes: block_of(alloc, rest)? },
+        "owner" => case.keys.owner = Key {
+            bytes: block_of(alloc, rest)?,
+        },
         "new" => case.disk = MemDisk::new(alloc),
         "book" => case.disk = with_book(alloc, &case.disk, rest)?,
         "blobs" => case.disk = with_blobs(alloc, &case.disk, rest)?,

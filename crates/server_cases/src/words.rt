@@ -1,21 +1,16 @@
 //! Bytes as words: those of frames, and of a disk's areas.
-ghost use Rattle.std.specs.Prelude.{◌<◌, ◌^◌, ◌+◌, length};
-
 use crate::texts::{bytes_of, number_of, small_of};
 use ov_base::Key;
 use ov_tokens::SurfaceMaster;
 use std::alloc::Global;
 use std::test::Fail;
 
-/// The longest spelling that is tagged.
-const LONGEST: usize = 1_000_000;
-
 // Appends the owner's tag of an update: of the epoch behind the kind, and the spelling behind it.
 fn push_tag(frame: &mut Vec<u8>, surface: &Key) -> Result<(), Fail> {
     let Some(([_, epoch @ ..], spelling)) = frame.split_first_chunk::<5>() else {
         return Err(Fail::from("an update was expected"));
     };
-    if spelling.len() > LONGEST {
+    if spelling.len() > 1_000_000 {
         return Err(Fail::from("a shorter update was expected"));
     }
     let tag = SurfaceMaster::new(surface).owner_mac(epoch, spelling);
