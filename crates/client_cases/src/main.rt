@@ -12,7 +12,7 @@
 //! | `< words` | a reply of the peer |
 //! | `* count words / words` | so are these, so many times |
 //! | `fails party call` | this `ask`, read of the `keys`, or `take` or `put` of a file or stream fails, for the next line |
-//! | `enrol user`, `create file names text`, `grant user file`, `revoke user file`, `remove file`, `replace file text`, `list file`, `hello` | has the owner do so, and prints what came of it and all frames |
+//! | `enrol user`, `create file text`, `grant user file`, `revoke user file`, `remove file`, `replace file text`, `list file`, `hello` | has the owner do so, and prints what came of it and all frames; a file is created for a and b |
 //! | `read file`, `fetch file` | has the reader read a file, into a list of one byte or a new one |
 //! | `line` | prints the reader's line of keys |
 //! | `overctl words` | does the job that these words say, and prints its status and its lines |

@@ -2,8 +2,8 @@
 //! that no proof computes what comes of them.
 use crate::case::Case;
 use crate::peers::{peer_of, print_came};
-use crate::texts::{name_of, names_of, shown};
-use ov_base::Mode;
+use crate::texts::{name_of, shown};
+use ov_base::{Mode, Name, Names};
 use ov_owner::{Change, Owner, OwnerFault};
 use ov_peer::Peer;
 use std::alloc::Global;
@@ -27,12 +27,15 @@ fn enrolled<P: Peer>(alloc: Global, case: &Case, peer: &mut P, user: &str) -> Re
     told(alloc, owner_of(case).change(alloc, peer, &change))
 }
 
+// The users of the file are a and b.
 fn created<P: Peer>(alloc: Global, case: &Case, peer: &mut P, rest: &str) -> Result<String, Fail> {
-    let (file, rest) = rest.split_once(' ').ok_or("a file, a list and a text")?;
-    let (list, text) = rest.split_once(' ').ok_or("a list and a text")?;
-    let (file, list) = (name_of(file)?, names_of(alloc, list)?);
-    if list.as_slice().len() > 100 || text.len() > 1000 {
-        return Err(Fail::from("a shorter list or text was expected"));
+    let (file, text) = rest.split_once(' ').ok_or("a file and a text")?;
+    let file = name_of(file)?;
+    let mut list = Names::new(alloc);
+    list.insert(Name::read(b"a").ok_or("a name")?)?;
+    list.insert(Name::read(b"b").ok_or("a name")?)?;
+    if text.len() > 1000 {
+        return Err(Fail::from("a shorter text was expected"));
     }
     let change = Change::Create {
         file: &file,

@@ -1,5 +1,5 @@
 //! Numbers, names and bytes in the lines of a case, and in those that are printed.
-use ov_base::{Name, Names};
+use ov_base::Name;
 use sha2::{Digest, Sha256};
 use std::alloc::Global;
 use std::str;
@@ -27,15 +27,6 @@ pub fn byte_of(word: &str) -> Result<u8, Fail> {
 /// The name that a word is.
 pub fn name_of(word: &str) -> Result<Name, Fail> {
     Ok(Name::read(word.as_bytes()).ok_or("a name was expected")?)
-}
-
-/// The names that a word has, between commas.
-pub fn names_of(alloc: Global, word: &str) -> Result<Names, Fail> {
-    let mut names = Names::new(alloc);
-    for name in word.split(',') {
-        let _ = names.insert(name_of(name)?)?;
-    }
-    Ok(names)
 }
 
 // The bytes that these digits spell.
