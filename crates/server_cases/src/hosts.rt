@@ -1,4 +1,6 @@
 //! Servers at a door in memory, by threads and with none.
+ghost use Rattle.std.specs.Prelude.{◌≡◌};
+
 use crate::case::Case;
 use crate::disks::copy_of;
 use crate::texts::{number_of, small_of, sum_of};

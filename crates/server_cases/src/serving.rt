@@ -116,7 +116,7 @@ fn refused(alloc: Global, fault: BeginFault) -> Result<Outcome, Fail> {
 }
 
 // Begins a store on a disk, and asks its server these frames.
-fn outcome<D: Disk>(
+fn serve_frames<D: Disk>(
     alloc: Global,
     keys: &Keys,
     frames: &[String],
@@ -136,7 +136,7 @@ pub fn served<D: Disk>(
     frames: &[String],
     disk: &mut D,
 ) -> Result<Outcome, Fail> {
-    outcome(alloc, keys, frames, disk, true)
+    serve_frames(alloc, keys, frames, disk, true)
 }
 
 /// How many calls a disk has where a store is begun there and its server is asked these frames.
@@ -147,15 +147,15 @@ pub fn calls_of(
     disk: &mut MemDisk,
 ) -> Result<u64, Fail> {
     let before = disk.calls();
-    drop(outcome(alloc, keys, frames, disk, false)?);
+    drop(serve_frames(alloc, keys, frames, disk, false)?);
     Ok(disk.calls().saturating_sub(before))
 }
 
-// The places of the first gates, in a line.
-fn gates_of<D: Disk>(alloc: Global, store: &Store<D>, count: u64) -> Result<String, Fail> {
+// The places of the first gates of a server's store, in a line.
+fn gates_of<D: Disk + Drop>(alloc: Global, server: Server<D>, count: u64) -> Result<String, Fail> {
     let mut line = String::from_str(alloc, "gates")?;
     for record in 0..count {
-        let gate = store.gate(record);
+        let gate = server.store().gate(record);
         line.push_str(&format!(in alloc; " {gate}")?)?;
     }
     Ok(line)
@@ -169,7 +169,7 @@ pub fn gates<D: Disk>(
     disk: &mut D,
 ) -> Result<String, Fail> {
     match begun(alloc, disk, keys) {
-        Ok(server) => gates_of(alloc, server.store(), count),
+        Ok(server) => gates_of(alloc, server, count),
         Err(_) => Err(Fail::from("a store was expected")),
     }
 }

@@ -9,6 +9,7 @@ use ov_base::Octets;
 use ov_disk::Disk;
 use ov_io::{MemSink, MemSource, MemStream};
 use ov_peer::Answerer;
+use ov_server::Server;
 use ov_session::{Alone, OpenGate, SessionEnd, serve_one};
 use std::alloc::Global;
 use std::sync::Wait;
@@ -63,6 +64,17 @@ fn parrot_in<R: Wait>(
     told(alloc, end, &stream)
 }
 
+// How a session with this server ends.
+fn end_of<R: Wait, D: Disk + Drop>(
+    handle: &R,
+    alloc: Global,
+    server: Server<D>,
+    stream: &mut MemStream,
+) -> SessionEnd {
+    let mut server = server;
+    end_over(handle, alloc, &mut server, stream)
+}
+
 // A session with a server over this disk.
 fn end_on<R: Wait, D: Disk>(
     handle: &R,
@@ -72,10 +84,7 @@ fn end_on<R: Wait, D: Disk>(
     stream: &mut MemStream,
 ) -> Result<SessionEnd, Fail> {
     match begun(alloc, disk, keys) {
-        Ok(server) => {
-            let mut server = server;
-            Ok(end_over(handle, alloc, &mut server, stream))
-        }
+        Ok(server) => Ok(end_of(handle, alloc, server, stream)),
         Err(_) => Err(Fail::from("a store was expected")),
     }
 }
