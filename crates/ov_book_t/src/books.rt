@@ -108,6 +108,18 @@ fn the_worked_book(rt: HostRuntime) {
     assert!(rt; !again.pending());
 }
 
+/// Appends the encoding of the pending update.
+fn spell<D: Disk>(rt: &impl Abort, book: &mut Book<D>, out: &mut Vec<u8>) {
+    assert!(rt; book.pending());
+    assert_eq!(rt; book.spelling(out), Ok(()));
+}
+
+/// Settles the pending intent by this epoch.
+fn settle<D: Disk>(rt: &impl Abort, book: &mut Book<D>, told: u32) -> Result<(), SettleFault> {
+    assert!(rt; book.pending());
+    book.settle(told)
+}
+
 #[test]
 fn a_pending_intent_is_found_again(rt: HostRuntime) {
     let alloc = rt.alloc();
@@ -116,7 +128,7 @@ fn a_pending_intent_is_found_again(rt: HostRuntime) {
     make(&rt, alloc, &mut book, 6, &mut out);
     assert_eq!(rt; book.intend(alloc, intent_of(&rt, alloc, 6)), Ok(()));
     let mut first = Vec::new(alloc);
-    assert_eq!(rt; book.spelling(&mut first), Ok(()));
+    spell(&rt, &mut book, &mut first);
     let mut book = begun(alloc, book.close()).expect(&rt, "the book");
     assert_eq!(rt; book.epoch(), 6);
     assert!(rt; book.pending());
@@ -125,13 +137,13 @@ fn a_pending_intent_is_found_again(rt: HostRuntime) {
         Err(IntendFault::Pending)
     );
     let mut second = Vec::new(alloc);
-    assert_eq!(rt; book.spelling(&mut second), Ok(()));
+    spell(&rt, &mut book, &mut second);
     assert_eq!(rt; first.as_slice(), second.as_slice());
     assert_eq!(rt;
-        book.settle(9),
+        settle(&rt, &mut book, 9),
         Err(SettleFault::Differs { told: 9, kept: 6 })
     );
-    assert_eq!(rt; book.settle(7), Ok(()));
+    assert_eq!(rt; settle(&rt, &mut book, 7), Ok(()));
     assert_eq!(rt; book.epoch(), 7);
     let disk = book.close();
     assert_eq!(rt; disk.blobs().len(), 3);
@@ -180,7 +192,9 @@ fn damage_has_its_place(rt: HostRuntime) {
     );
     // an older magic is another file's, whatever its mode is
     let mut bytes = changed(&rt, alloc, 8, b'1');
-    bytes[9] = 2;
+    if let Some(mode) = bytes.get_mut(9) {
+        *mode = 2;
+    }
     assert_eq!(rt;
         fault_on(&rt, alloc, &bytes, b""),
         Some(BookBegin::NotAStore)

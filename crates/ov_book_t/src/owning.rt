@@ -93,8 +93,9 @@ fn key(first: u8) -> Key {
 /// A server at epoch 0, in this process.
 fn server(alloc: Global) -> Result<LocalPeer<MemDisk>, Fail> {
     let check = check_value(&Master::new(&key(0)));
-    match Store::begin(alloc, MemDisk::new(alloc), key(32), check, Mode::Full) {
-        Ok(store) => Ok(LocalPeer::new(Server::new(store, key(32)))),
+    let surface = key(32);
+    match Store::begin(alloc, MemDisk::new(alloc), surface, check, Mode::Full) {
+        Ok(store) => Ok(LocalPeer::new(Server::new(store, surface))),
         Err(_) => Err(Fail::from("a store")),
     }
 }
@@ -153,31 +154,54 @@ fn the_rows(rt: HostRuntime) -> Result<(), Fail> {
     Ok(())
 }
 
+/// An owner's command by the book, how it ends and what it prints.
+type Row = (&'static str, u8, &'static [u8]);
+
+const ROWS: &[Row] = &[
+    ("full enrol a", 0, b"ok 1\n"),
+    ("full enrol b", 0, b"ok 2\n"),
+    ("full create f a p", 0, b"ok 3\n"),
+    ("full grant b f", 0, b"ok 4\n"),
+    ("full replace f p", 0, b"ok 5\n"),
+    ("full revoke b f", 0, b"ok 6\n"),
+    ("full remove f", 0, b"ok 7\n"),
+    ("delta resume", 9, b""),
+];
+
+/// The words of a command by the book.
+fn words_of(alloc: Global, command: &'static str) -> Result<Vec<&'static str>, Fail> {
+    let mut words = Vec::new(alloc);
+    for word in ["own", "x", "k", "b"].as_slice() {
+        words.push(*word)?;
+    }
+    for word in command.split(' ') {
+        words.push(word)?;
+    }
+    Ok(words)
+}
+
 #[test]
 fn files_by_the_book(rt: HostRuntime) -> Result<(), Fail> {
     let alloc = rt.alloc();
     let mut disk = MemDisk::new(alloc);
     let mut honest = server(alloc)?;
-    assert_owned(&rt, alloc, ENROL_A, &mut honest, &mut disk, 0, b"ok 1\n")?;
-    assert_owned(&rt, alloc, ENROL_B, &mut honest, &mut disk, 0, b"ok 2\n")?;
-    let create: &[&str] = &["own", "x", "k", "b", "full", "create", "f", "a", "p"];
-    assert_owned(&rt, alloc, create, &mut honest, &mut disk, 0, b"ok 3\n")?;
-    let grant: &[&str] = &["own", "x", "k", "b", "full", "grant", "b", "f"];
-    assert_owned(&rt, alloc, grant, &mut honest, &mut disk, 0, b"ok 4\n")?;
-    let replace: &[&str] = &["own", "x", "k", "b", "full", "replace", "f", "p"];
-    assert_owned(&rt, alloc, replace, &mut honest, &mut disk, 0, b"ok 5\n")?;
-    let revoke: &[&str] = &["own", "x", "k", "b", "full", "revoke", "b", "f"];
-    assert_owned(&rt, alloc, revoke, &mut honest, &mut disk, 0, b"ok 6\n")?;
-    let remove: &[&str] = &["own", "x", "k", "b", "full", "remove", "f"];
-    assert_owned(&rt, alloc, remove, &mut honest, &mut disk, 0, b"ok 7\n")?;
-    let delta: &[&str] = &["own", "x", "k", "b", "delta", "resume"];
-    assert_owned(&rt, alloc, delta, &mut honest, &mut disk, 9, b"")?;
+    for (command, code, line) in ROWS {
+        let words = words_of(alloc, command)?;
+        assert_owned(&rt, alloc, &words, &mut honest, &mut disk, *code, line)?;
+    }
+    Ok(())
+}
+
+#[test]
+fn another_file_is_no_book(rt: HostRuntime) -> Result<(), Fail> {
+    let alloc = rt.alloc();
+    let mut nobody = peer_of(alloc, &[])?;
     let mut junk = MemDisk::of(alloc, Octets::copy(alloc, &[1u8; 90])?, Octets::new(alloc));
     assert_owned(
         &rt,
         alloc,
         RESUME,
-        &mut honest,
+        &mut nobody,
         &mut junk,
         18,
         b"error book\n",
