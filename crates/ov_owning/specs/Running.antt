@@ -1,5 +1,5 @@
 -- What a call by the owner's book does from its key file on.
-use Rattle.std.specs.Prelude.{◌≡◌, ◌⊎◌, ℕ, List, Option, Some, None, IsSome, Result, Ok, Err}
+use Rattle.std.specs.Prelude.{◌≡◌, ◌⊎◌, ℕ, List, Option, Some, None, IsOk, IsSome, Result, Ok, Err}
 use Rattle.ov_acts.specs.Files.{FindsMasters, plain_masters}
 use Rattle.ov_acts.specs.declared.stop.Stop.{Stop}
 use Rattle.ov_base.specs.declared.mode.Mode.{Mode}
@@ -16,7 +16,7 @@ use Rattle.ov_keyfile.specs.declared.masters.Masters.{Masters as ReadMasters}
 use Rattle.ov_peer.specs.Tells.{PeerTells}
 use Rattle.ov_owning.specs.Endings.{End, unbegun, unread}
 use Rattle.ov_owning.specs.Intents.{FindsIntent}
-use Rattle.ov_owning.specs.Owning.{Owns}
+use Rattle.ov_owning.specs.Owning.{LastsSettled, Owns}
 use Rattle.ov_owning.specs.declared.job.OwnAct.{OwnAct}
 use Rattle.ov_owning.specs.declared.job.OwnAct.TheVariants.{Resume}
 use Rattle.ov_owning.specs.declared.stop.OwnStop.TheVariants as stops
@@ -54,13 +54,14 @@ with_intended s (Some intent) b = next_book s intent b
 abbrev pub IsIdle : {P D : Type 0} → P → P → D → D → Type 0
 IsIdle p q d e = (q ≡ p) × (e ≡ d)
 
--- By the intent of an act, for each book for which the open one stands; or the bytes that it stores
--- aren't read, and nothing is asked.
+-- By the intent of an act, for each book for which the open one stands; a call that ends well leaves it
+-- with the intent settled. Or the bytes that the act stores aren't read, and nothing is asked.
 abbrev pub OwnsFound : {P D : Type 0} → PeerTells P → DiskTells D → Mode → Opened D
     → P → P → D → End → Result (Option Intent) Stop → Type 0
 OwnsFound peer disk mode s p q e end (Ok intent) =
     (b : Booked) → Holds disk b s
     → Owns peer disk s mode intent b (with_intended s intent b) p q e end
+    × (IsOk end → LastsSettled disk s (with_intended s intent b) e)
 OwnsFound peer disk mode s p q e end (Err stop) =
     IsIdle p q s.disk e × (end ≡ Err (unread stop))
 
