@@ -28,10 +28,12 @@ IsResume act = ⊥
 
 -- ---- the book
 
--- The book was begun or opened: it stands for each book of the mode for which the disk's image
--- stood. A crash meanwhile leaves such a book, and where there was one nothing is written.
+-- The book was begun or opened: it stands for some book, whatever the disk tells, and for each book
+-- of the mode for which the disk's image stood. A crash meanwhile leaves such a book, and where there
+-- was one nothing is written.
 pub record OpensBook {D : Type 0} (disk : DiskTells D) (k : Masters) (mode : Mode) (d : D)
     (s : Opened D) : Type 0 where
+  pub stands : (b : Booked) × Holds disk b s
   pub begun : IsBegun disk k mode (disk.reads d) s
   pub leaves : LeavesBook disk k mode d s.disk
   pub quiet : WritesNoBorn disk d s.disk

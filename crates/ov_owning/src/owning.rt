@@ -80,6 +80,7 @@ fn act_over<B: Source, P: Peer, D: Disk + Drop>(
     match Book::begin(alloc, disk, masters.base, masters.surface, mode) {
         Ok(book) => {
             let mut book = book;
+            book.known();
             let done = act_by(alloc, act, masters, mode, body, peer, &mut book);
             (done, book.close())
         }

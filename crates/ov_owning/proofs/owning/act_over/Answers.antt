@@ -8,6 +8,7 @@ returns-in-Ok-clause-owns g c =
     inr (
       c.in-Ok.book,
       record {
+        stands = c.known.ensures;
         begun = c.in-Ok.ensures.begun;
         leaves = c.in-Ok.ensures.any_moment;
         quiet = c.in-Ok.ensures.untouched;
