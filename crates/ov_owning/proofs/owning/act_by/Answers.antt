@@ -22,7 +22,7 @@ returns-in-Ok-Some-clause-owns g c =
         Ok (Some c.in-Ok-Some.intent),
         (subst (λ (x : Option Intent). FindsIntent c.args.act (g.B.Source.tells.left c.args.body.now) (Ok x))
             c.in-Ok-Some.field-0-is c.in-Ok-Some.ensures.found),
-        c.own_intent.ensures.owns,
+        λ b holds. (c.own_intent.ensures.owns b holds, λ ok. c.own_intent.ensures.lasts ok b holds),
       ),
     )
 
@@ -44,7 +44,7 @@ returns-in-Ok-None-clause-owns g c =
         Ok None,
         (subst (λ (x : Option Intent). FindsIntent c.args.act (g.B.Source.tells.left c.args.body.now) (Ok x))
             c.in-Ok-None.field-0-is c.in-Ok-None.ensures.found),
-        c.resume.ensures.owns,
+        λ b holds. (c.resume.ensures.owns b holds, λ ok. c.resume.ensures.lasts ok b holds),
       ),
     )
 
