@@ -13,23 +13,25 @@ use Rattle.ov_disk.specs.Tells.{DiskTells}
 use Rattle.ov_disk.proofs.Runs.{started, then_on, weaker}
 use Rattle.ov_history.specs.Masters.{Masters}
 use Rattle.ov_tokens.specs.Keys.{check_value_of}
+use Rattle.ov_wire.specs.Requests.{HasRequestForm}
 use Rattle.ov_wire.specs.declared.request.Request.{Request}
 use Rattle.ov_wire.specs.declared.request.Request.TheVariants as requests
 use Rattle.ov_wire.specs.declared.answer.Answer.{Answer}
 use Rattle.ov_peer.specs.Exchanges.{Exchanges}
 use Rattle.ov_peer.specs.Tells.{PeerTells}
 use Rattle.ov_peer.specs.declared.fault.ExchangeFault.{ExchangeFault}
-use Rattle.ov_books.specs.Books.{Booked, pending_size, with_pending, with_settling}
+use Rattle.ov_books.specs.Books.{Booked, IsBook, pending_size, with_pending, with_settling}
 use Rattle.ov_books.specs.Images.{Keeps, KeepsEither}
 use Rattle.ov_book.specs.Opened.{Holds, IsPendingIn, Opened, Pending}
-use Rattle.ov_book.specs.Settling.{LeavesSettling}
 use Rattle.ov_book.specs.declared.intent.Intent.{Intent}
 use Rattle.ov_owning.specs.Endings.{End, EndsGreeted, EndsSent, EndsTold, IsExpected, IsUnsent}
-use Rattle.ov_owning.specs.Endings.{SettlesAt, made_by, unwritten}
+use Rattle.ov_owning.specs.Endings.{Greeted, SettlesAt, TellsNext, made_by, unwritten}
 use Rattle.ov_owning.specs.Owning.{asks_hello, asks_nothing, asks_update, CarriesOut, Greets}
-use Rattle.ov_owning.specs.Owning.{HasIntent, Owns, Sends, SendsPending, Spelled}
+use Rattle.ov_owning.specs.Owning.{HasIntent, LeavesSettledIf, Owns, Sends, SendsPending, Spelled}
+use Rattle.ov_owning.specs.Owning.{update_request}
 use Rattle.ov_owning.specs.declared.stop.OwnStop.{OwnStop}
 use Rattle.ov_owning.specs.declared.stop.OwnStop.TheVariants as stops
+use Rattle.ov_owning.proofs.Moments.{looked_moments}
 
 -- ---- ends
 
@@ -81,7 +83,7 @@ pub not_some : {T : Type 0} (o : Option T) → o ≡ None → IsSome o → ⊥
 not_some None none some = absurd (cc some)
 not_some (Some x) none some = absurd (cc none)
 
-none_there : (pending : Option SpelledBrief) (p : Option Pending) → p ≡ None → IsPendingIn pending p
+pub none_there : (pending : Option SpelledBrief) (p : Option Pending) → p ≡ None → IsPendingIn pending p
     → pending ≡ None
 none_there None p none is = refl
 none_there (Some u) None none is = absurd is
@@ -130,22 +132,35 @@ not_expected s intent told kept is other none = (
 module _ {P D : Type 0} (peer : PeerTells P) (disk : DiskTells D) where
   -- ---- an Update
 
-  pub sends_sent : (k : Masters) (b : Booked) (told : Option Image) (epoch : ℕ) (bytes tag : List ℕ)
-      (p q : P) (answer : Result Answer ExchangeFault)
-      → Spelled b told k.surface epoch (Ok (bytes, tag))
+  -- the pending Update was asked at the book's epoch, and this came of it
+  pub sends_answered : (k : Masters) (b : Booked) (told : Option Image) (kept epoch : ℕ)
+      (bytes tag : List ℕ) (p q : P) (answer : Result Answer ExchangeFault) (end : End)
+      → epoch ≡ kept → IsBook b → Spelled b told k.surface kept (Ok (bytes, tag))
+      → HasRequestForm (requests.Update epoch bytes tag)
       → Exchanges peer p q (requests.Update epoch bytes tag) answer
-      → SendsPending peer k b told p q answer
-  sends_sent k b told epoch bytes tag p q answer spelled sent = record {
-    update = spelled.0;
-    is = spelled.1;
-    sent = subst (λ (r : Request). Exchanges peer p q r answer) spelled.2 sent;
-  }
+      → end ≡ made_by kept answer → Sends peer k b told kept p q end
+  sends_answered k b told kept epoch bytes tag p q answer end at is_book spelled form sent is =
+      let same : requests.Update epoch bytes tag
+      ≡ update_request k.surface (length b.settled) spelled.0 =
+      (λ i. requests.Update (at i) bytes tag) ∙ spelled.2 in
+      inr (
+        answer,
+        record {
+          is_book = is_book;
+          update = spelled.0;
+          is = spelled.1;
+          form = subst (λ (r : Request). HasRequestForm r) same form;
+          sent = subst (λ (r : Request). Exchanges peer p q r answer) same sent;
+        },
+        is,
+      )
 
   -- an Update by what the disk told later is one by what it told before
   sends_before : (k : Masters) (b : Booked) (old new : Option Image) (p q : P)
       (answer : Result Answer ExchangeFault) → StaysTold old new
       → SendsPending peer k b new p q answer → SendsPending peer k b old p q answer
   sends_before k b old new p q answer told sends = record {
+    is_book = sends.is_book;
     update = sends.update;
     is = record {
       brief = sends.is.brief;
@@ -155,18 +170,11 @@ module _ {P D : Type 0} (peer : PeerTells P) (disk : DiskTells D) where
       is = sends.is.is;
       book_text = λ i at. sends.is.book_text (told i at).0 (told i at).1;
     };
+    form = sends.form;
     sent = sends.sent;
   }
 
   -- ---- sending and settling
-
-  -- a disk that was only read keeps what it kept
-  looked_moments : (s : Opened D) (b : Booked) (d1 : D) → Holds disk b s → s.failed ≡ false
-      → IsUntouched disk s.disk d1
-      → Told (disk.reads s.disk) (λ _. LeavesOnly disk s.disk d1 (HasIntent s.masters b))
-  looked_moments s b d1 holds ok quiet i at =
-      weaker disk s.disk d1 (disk.may_leave s.disk) (HasIntent s.masters b) quiet.any_moment
-      (λ c left. inl (holds.disk ok i at c left))
 
   pub carries_unsent : (s : Opened D) (b : Booked) (p q : P) (d1 : D) (stop : OwnStop)
       → Holds disk b s → s.failed ≡ false → IsUntouched disk s.disk d1
@@ -176,29 +184,40 @@ module _ {P D : Type 0} (peer : PeerTells P) (disk : DiskTells D) where
     came = Err stop;
     sends = sends;
     ends = refl;
-    moments = looked_moments s b d1 holds ok quiet;
+    moments = looked_moments disk (TellsNext s.settled.epoch (Err stop)) s b d1 holds ok quiet;
   }
+
+  told_next : (told kept : ℕ) (k : Masters) (b : Booked) (c : Image)
+      → HasIntent (told ≡ kept + 1) k b c → HasIntent (TellsNext kept (Ok told)) k b c
+  told_next told kept k b c (inl keeps) = inl keeps
+  told_next told kept k b c (inr (is, keeps)) = inr (ap (λ (n : ℕ). Ok n) is, keeps)
 
   pub carries_settled : (s s1 s2 : Opened D) (b : Booked) (p q : P) (told : ℕ) (end : End)
       → Holds disk b s → s.failed ≡ false → IsUntouched disk s.disk s1.disk
       → s1 ≡ record s { disk = s1.disk } → Holds disk b s1
       → Sends peer s.masters b (disk.reads s.disk) s.settled.epoch p q (Ok told)
-      → SettlesAt s1.settled.epoch told end → LeavesSettling disk s1 s2
+      → SettlesAt s1.settled.epoch told end
+      → LeavesSettledIf disk (told ≡ s1.settled.epoch + 1) s1 s2.disk
       → CarriesOut peer disk s b p q s2.disk end
   carries_settled s s1 s2 b p q told end holds ok quiet same holds1 sends settles leaves =
-      let failed : s1.failed ≡ false = ap (λ (x : Opened D). x.failed) same ∙ ok in
       let masters : s1.masters ≡ s.masters = ap (λ (x : Opened D). x.masters) same in
+      let epoch : s1.settled.epoch ≡ s.settled.epoch =
+      ap (λ (x : Opened D). x.settled.epoch) same in
+      let made : Type 0 = TellsNext s.settled.epoch (Ok told) in
       record {
         came = Ok told;
         sends = sends;
-        ends = subst (λ (n : ℕ). SettlesAt n told end)
-            (ap (λ (x : Opened D). x.settled.epoch) same) settles;
+        ends = subst (λ (n : ℕ). SettlesAt n told end) epoch settles;
         moments = λ i at.
-            then_on disk s.disk s1.disk s2.disk (HasIntent s.masters b) (HasIntent s.masters b)
-            (looked_moments s b s1.disk holds ok quiet i at)
-            (subst (λ (k : Masters). LeavesOnly disk s1.disk s2.disk (HasIntent k b)) masters
-            (leaves b holds1 failed i (quiet.reads_same ∙ at)))
-            (λ c has. has);
+            then_on disk s.disk s1.disk s2.disk (HasIntent made s.masters b)
+            (HasIntent (told ≡ s.settled.epoch + 1) s.masters b)
+            (looked_moments disk made s b s1.disk holds ok quiet i at)
+            (subst (λ (k : Masters).
+            LeavesOnly disk s1.disk s2.disk (HasIntent (told ≡ s.settled.epoch + 1) k b)) masters
+            (subst (λ (n : ℕ).
+            LeavesOnly disk s1.disk s2.disk (HasIntent (told ≡ n + 1) s1.masters b)) epoch
+            (leaves b holds1 i (quiet.reads_same ∙ at))))
+            (told_next told s.settled.epoch s.masters b);
       }
 
   -- ---- all of a call
@@ -213,13 +232,26 @@ module _ {P D : Type 0} (peer : PeerTells P) (disk : DiskTells D) where
     abbrev OwnsTo : P → P → D → End → Type 0
     OwnsTo p q new end = Owns peer disk s mode intent b next p q new end
 
+    -- the image is of the book, or has the intent
+    abbrev Has : Type 0 → Image → Type 0
+    Has made c = Keeps k b c ⊎ HasIntent made k next c
+
+    either : (made : Type 0) (c : Image) → KeepsEither k b next c → Has made c
+    either made c (inl keeps) = inl keeps
+    either made c (inr keeps) = inr (inl keeps)
+
+    -- the intent wasn't written down, or perhaps was, and isn't settled
+    unsettled_left : (made : Type 0) (new : D)
+        → Told told (λ _. LeavesOnly disk s.disk new (KeepsEither k b next))
+        → Told told (λ _. LeavesOnly disk s.disk new (Has made))
+    unsettled_left made new leaves i at =
+        weaker disk s.disk new (KeepsEither k b next) (Has made) (leaves i at) (either made)
+
     -- no call of the disk
     pub nothing_left : Holds disk b s → s.failed ≡ false
-        → Told told (λ _.
-        LeavesOnly disk s.disk s.disk (λ c. Keeps k b c ⊎ HasIntent k next c))
+        → Told told (λ _. LeavesOnly disk s.disk s.disk (KeepsEither k b next))
     nothing_left holds ok i at =
-        started disk s.disk (λ c. Keeps k b c ⊎ HasIntent k next c)
-        (λ c left. inl (holds.disk ok i at c left))
+        started disk s.disk (KeepsEither k b next) (λ c left. inl (holds.disk ok i at c left))
 
     -- nothing was asked
     pub owns_nothing : (p : P) (kept : ℕ) → Holds disk b s → s.failed ≡ false
@@ -227,96 +259,129 @@ module _ {P D : Type 0} (peer : PeerTells P) (disk : DiskTells D) where
         → OwnsTo p p s.disk (Err (stops.Pending kept))
     owns_nothing p kept holds ok some pending is = record {
       asks = asks_nothing;
-      moments = nothing_left holds ok;
+      moments = unsettled_left ⊥ s.disk (nothing_left holds ok);
       written = λ sent. absurd sent;
       ends = (some, pending, ap (λ (n : ℕ). Err (stops.Pending n)) is);
     }
 
+    -- the server told in answer to Hello that the update was made
+    abbrev Greeting : Result Answer ExchangeFault → Type 0
+    Greeting answer = Greeted (check_value_of k.base) mode answer (Ok (s.settled.epoch + 1))
+
     -- Hello alone was asked
     pub owns_greeted : (p q : P) (new : D) (g end : End)
         → Greets peer (check_value_of k.base) mode p q g → EndsGreeted s intent g end
-        → Told told (λ _.
-        LeavesOnly disk s.disk new (λ c. Keeps k b c ⊎ HasIntent k next c))
+        → Told told (λ _. LeavesOnly disk s.disk new (KeepsEither k b next))
         → OwnsTo p q new end
     owns_greeted p q new g end greets ends moments = record {
       asks = asks_hello q greets.0 greets.1;
-      moments = moments;
+      moments = unsettled_left (Greeting greets.0) new moments;
       written = λ sent. absurd sent;
       ends = (g, greets.2, ends);
     }
 
-    either : (c : Image) → KeepsEither k b next c → Keeps k b c ⊎ HasIntent k next c
-    either c (inl keeps) = inl keeps
-    either c (inr keeps) = inr (inl keeps)
+    greeted_next : (n : ℕ) (answer : Result Answer ExchangeFault)
+        → Greeted (check_value_of k.base) mode answer (Ok n) → (c : Image)
+        → HasIntent (n ≡ s.settled.epoch + 1) k next c → Has (Greeting answer) c
+    greeted_next n answer greeted c (inl keeps) = inr (inl keeps)
+    greeted_next n answer greeted c (inr (is, keeps)) =
+        inr (inr (
+          subst (λ (m : ℕ). Greeted (check_value_of k.base) mode answer (Ok m)) is greeted,
+          keeps,
+        ))
 
-    -- the intent wasn't written down, or perhaps was
-    pub either_left : (new : D)
-        → Told told (λ _. LeavesOnly disk s.disk new (KeepsEither k b next))
-        → Told told (λ _.
-        LeavesOnly disk s.disk new (λ c. Keeps k b c ⊎ HasIntent k next c))
-    either_left new leaves i at =
-        weaker disk s.disk new (KeepsEither k b next) (λ c. Keeps k b c ⊎ HasIntent k next c)
-        (leaves i at) either
-
-    kept_or : (c : Image) → KeepsEither k b (with_settling next) c
-        → Keeps k b c ⊎ HasIntent k next c
-    kept_or c (inl keeps) = inl keeps
-    kept_or c (inr keeps) = inr (inr keeps)
-
-    -- the intent wasn't settled, or perhaps was
-    pub settled_left : (new : D)
-        → Told told (λ _. LeavesOnly disk s.disk new (KeepsEither k b (with_settling next)))
-        → Told told (λ _.
-        LeavesOnly disk s.disk new (λ c. Keeps k b c ⊎ HasIntent k next c))
-    settled_left new leaves i at =
-        weaker disk s.disk new (KeepsEither k b (with_settling next))
-        (λ c. Keeps k b c ⊎ HasIntent k next c) (leaves i at) kept_or
+    -- Hello alone was asked, and it told that the pending update was made already
+    pub owns_settled : (p q : P) (new : D) (n : ℕ) (end : End)
+        → Greets peer (check_value_of k.base) mode p q (Ok n) → EndsGreeted s intent (Ok n) end
+        → Told told (λ _. LeavesOnly disk s.disk new (HasIntent (n ≡ s.settled.epoch + 1) k next))
+        → OwnsTo p q new end
+    owns_settled p q new n end greets ends moments = record {
+      asks = asks_hello q greets.0 greets.1;
+      moments = λ i at.
+          weaker disk s.disk new (HasIntent (n ≡ s.settled.epoch + 1) k next)
+          (Has (Greeting greets.0)) (moments i at) (greeted_next n greets.0 greets.2);
+      written = λ sent. absurd sent;
+      ends = (Ok n, greets.2, ends);
+    }
 
     -- what an Update was sent for was carried out by the open book as it was then
     module _ (s1 : Opened D) (p p1 : P) (new : D) (end : End)
         (masters : s1.masters ≡ s.masters) (epoch : s1.settled.epoch ≡ s.settled.epoch)
         (greets : Greets peer (check_value_of k.base) mode p p1 (Ok s.settled.epoch))
-        (before : Told told (λ _.
-        LeavesOnly disk s.disk s1.disk (λ c. Keeps k b c ⊎ HasIntent k next c)))
+        (before : Told told (λ _. LeavesOnly disk s.disk s1.disk (KeepsEither k b next)))
         (stays : StaysTold told (disk.reads s1.disk))
       where
         abbrev kept : ℕ
         kept = s.settled.epoch
 
         module _ (q : P) (carries : CarriesOut peer disk s1 next p1 q new end) where
-          after : Told told (λ _. LeavesOnly disk s1.disk new (HasIntent k next))
+          -- an epoch was told that the update made
+          abbrev Made : Type 0
+          Made = TellsNext s1.settled.epoch carries.came
+
+          after : Told told (λ _. LeavesOnly disk s1.disk new (HasIntent Made k next))
           after i at =
               let later = stays i at in
-              subst (λ (m : Masters). LeavesOnly disk s1.disk new (HasIntent m next)) masters
+              subst (λ (m : Masters). LeavesOnly disk s1.disk new (HasIntent Made m next)) masters
               (carries.moments later.0 later.1)
 
-          all_moments : Told told (λ _.
-              LeavesOnly disk s.disk new (λ c. Keeps k b c ⊎ HasIntent k next c))
-          all_moments i at =
-              then_on disk s.disk s1.disk new (λ c. Keeps k b c ⊎ HasIntent k next c)
-              (HasIntent k next) (before i at) (after i at) (λ c has. inr has)
+          -- nothing was sent, so nothing was told
+          unsent_keeps : IsUnsent carries.came → (c : Image) → HasIntent Made k next c
+              → KeepsEither k b next c
+          unsent_keeps unsent c (inl keeps) = inr keeps
+          unsent_keeps (inl disk_failed) c (inr (is, keeps)) = absurd (cc (is, disk_failed))
+          unsent_keeps (inr memory) c (inr (is, keeps)) = absurd (cc (is, memory))
+
+          unsent_moments : IsUnsent carries.came
+              → Told told (λ _. LeavesOnly disk s.disk new (KeepsEither k b next))
+          unsent_moments unsent i at =
+              then_on disk s.disk s1.disk new (KeepsEither k b next) (HasIntent Made k next)
+              (before i at) (after i at) (unsent_keeps unsent)
 
           ends_by : EndsSent kept carries.came end
           ends_by = subst (λ (n : ℕ). EndsSent n carries.came end) epoch carries.ends
 
-          has_it : Told told (λ _. (c : Image) → disk.may_leave new c → HasIntent k next c)
-          has_it i at c left =
-              (after i at).each c
-              (disk.counts_now new (disk.moment s1.disk) c (after i at).later left)
+          module _ (answer : Result Answer ExchangeFault)
+              (is : carries.came ≡ made_by s1.settled.epoch answer) where
+            abbrev ToldMade : Type 0
+            ToldMade = TellsNext kept (made_by kept answer)
+
+            made_is : Made → ToldMade
+            made_is made =
+                subst (λ (n : ℕ). TellsNext n (made_by n answer)) epoch
+                (subst (λ (e : End). TellsNext s1.settled.epoch e) is made)
+
+            sent_has : (c : Image) → HasIntent Made k next c → HasIntent ToldMade k next c
+            sent_has c (inl keeps) = inl keeps
+            sent_has c (inr (made, keeps)) = inr (made_is made, keeps)
+
+            sent_moments : Told told (λ _. LeavesOnly disk s.disk new (Has ToldMade))
+            sent_moments i at =
+                then_on disk s.disk s1.disk new (Has ToldMade) (HasIntent Made k next)
+                (unsettled_left ToldMade s1.disk before i at) (after i at)
+                (λ c has. inr (sent_has c has))
+
+            has_it : Told told (λ _.
+                (c : Image) → disk.may_leave new c → HasIntent ToldMade k next c)
+            has_it i at c left =
+                sent_has c
+                ((after i at).each c
+                (disk.counts_now new (disk.moment s1.disk) c (after i at).later left))
 
           by : Sends peer s1.masters next (disk.reads s1.disk) s1.settled.epoch p1 q carries.came
               → OwnsTo p q new end
           by (inl (same, unsent)) =
               subst (λ (r : P). OwnsTo p r new end) (sym same)
               (owns_greeted p p1 new (Ok kept) end greets
-              (unsent_told s intent kept carries.came end (inl refl) unsent ends_by) all_moments)
+              (unsent_told s intent kept carries.came end (inl refl) unsent ends_by)
+              (unsent_moments unsent))
           by (inr (answer, sends, is)) = record {
             asks = asks_update p1 q greets.0 answer greets.1
                 (sends_before k next told (disk.reads s1.disk) p1 q answer stays
                 (subst (λ (m : Masters). SendsPending peer m next (disk.reads s1.disk) p1 q answer)
                 masters sends));
-            moments = all_moments;
-            written = λ _. has_it;
+            moments = sent_moments answer is;
+            written = λ _. has_it answer is;
             ends = (
               greets.2,
               subst (λ (c : End). EndsSent kept c end)

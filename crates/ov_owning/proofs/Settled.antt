@@ -1,6 +1,6 @@
 -- What a call that ended well leaves on the disk.
-use Rattle.std.proofs.Common.{◌≡◌, Bool, false, List, Option, refl, sym, subst}
-use Rattle.ov_disk.specs.Disk.{Image, StaysTold, Told}
+use Rattle.std.proofs.Common.{◌≡◌, false, refl, subst}
+use Rattle.ov_disk.specs.Disk.{StaysTold}
 use Rattle.ov_disk.specs.Tells.{DiskTells}
 use Rattle.ov_history.specs.Masters.{Masters}
 use Rattle.ov_books.specs.Books.{Booked, with_settling}

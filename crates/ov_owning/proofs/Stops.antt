@@ -1,5 +1,5 @@
 -- Which causes a call by an open book has.
-use Rattle.std.proofs.Common.{◌≡◌, ℕ, Err, subst}
+use Rattle.std.proofs.Common.{ℕ, subst}
 use Rattle.ov_base.specs.Causes.{Rose}
 use Rattle.ov_owning.specs.Causes.{OwnStopsFor}
 use Rattle.ov_owning.specs.Endings.{End, HasOwnCause, IsOwnCause}

@@ -1,11 +1,11 @@
 -- The words behind a book and its mode.
-use Rattle.std.proofs.Common.{◌≡◌, ℕ, List, [], ◌∷◌, refl, sym, ap, subst}
+use Rattle.std.proofs.Common.{◌≡◌, ℕ, List, [], ◌∷◌, refl, ap, subst}
 use Rattle.std.proofs.Common.{◌≤◌, length, arith}
 use Rattle.std.specs.Prelude.{codes}
 use Rattle.ov_acts.specs.Words.{IsActLine}
 use Rattle.ov_acts.specs.declared.job.Act.{Act}
 use Rattle.ov_acts.specs.declared.job.Act.TheVariants as acts
-use Rattle.ov_owning.specs.Words.{IsNoOwnTail, IsOwnTail, IsUpdate, IsUpdateTail}
+use Rattle.ov_owning.specs.Words.{IsOwnTail, IsUpdate, IsUpdateTail}
 use Rattle.ov_owning.specs.declared.job.OwnAct.{OwnAct}
 use Rattle.ov_owning.specs.declared.job.OwnAct.TheVariants.{Create, Enrol, Grant, Remove, Replace}
 use Rattle.ov_owning.specs.declared.job.OwnAct.TheVariants.{Resume, Revoke}

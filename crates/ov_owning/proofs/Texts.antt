@@ -1,10 +1,9 @@
 -- Words as texts.
-use Rattle.std.proofs.Common.{◌≡◌, ◌∙◌, ℕ, ◌≤◌, ◌<◌, List, [], ◌∷◌, length, get_or, drop, refl, sym, ap, subst, arith}
+use Rattle.std.proofs.Common.{◌≡◌, ◌∙◌, ℕ, ◌≤◌, ◌<◌, List, [], ◌∷◌, length, get_or, drop, sym, ap, subst, arith}
 use Rattle.std.specs.Prelude.{String, Option, Some, None, Result, Ok, Err, IfOk, IfNone, codes, map, string_bytes}
 use Rattle.std.specs.declared.alloc.Global.{Global}
-use Rattle.ov_owning.specs.Words.{IsNoOwnLine, IsNoOwnTail, IsOwnLine, IsOwnTail, IsUpdateTail}
+use Rattle.ov_owning.specs.Words.{IsNoOwnLine, IsNoOwnTail, IsUpdateTail}
 use Rattle.ov_owning.specs.declared.job.OwnAct.{OwnAct}
-use Rattle.ov_owning.specs.declared.job.OwnJob.{OwnJob}
 use Rattle.ov_owning.proofs.Tails.{update_of_tail}
 
 -- two words aren't one

@@ -1,5 +1,5 @@
 -- Why a call by the owner's book ends for a fault or a file.
-use Rattle.std.specs.Prelude.{◌≡◌, ◌⊎◌, ℕ, Result, Err}
+use Rattle.std.specs.Prelude.{◌≡◌, ◌⊎◌, Result, Err}
 use Rattle.ov_acts.specs.Causes.{TakesUpTo, most_bytes}
 use Rattle.ov_io.specs.Tells.{SourceTells}
 use Rattle.ov_owning.specs.Intents.{StoresFile}

@@ -115,6 +115,10 @@ made_by kept (Ok answers.NoMemory) = Err stops.Memory
 made_by kept (Ok answer) = Err stops.BadReply
 made_by kept (Err fault) = Err (unanswered fault)
 
+-- the epoch that was told is the one after the book's, which its pending update makes
+abbrev pub TellsNext : ℕ → End → Type 0
+TellsNext kept told = told ≡ Ok (kept + 1)
+
 -- how a call ends by a book at this epoch that was told, as an epoch that its pending update made,
 -- this one: only the next one is settled
 abbrev pub SettlesAt : ℕ → ℕ → End → Type 0

@@ -4,4 +4,5 @@ pub mod Intents
 pub mod Owning
 pub mod Printing
 pub mod Running
+pub mod Serving
 pub mod Words

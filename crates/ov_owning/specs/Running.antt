@@ -1,5 +1,5 @@
 -- What a call by the owner's book does from its key file on.
-use Rattle.std.specs.Prelude.{◌≡◌, ◌⊎◌, ℕ, List, Option, Some, None, IsOk, IsSome, Result, Ok, Err}
+use Rattle.std.specs.Prelude.{◌≡◌, ◌⊎◌, ℕ, List, length, Option, Some, None, IsOk, IsSome, Result, Ok, Err}
 use Rattle.ov_acts.specs.Files.{FindsMasters, plain_masters}
 use Rattle.ov_acts.specs.declared.stop.Stop.{Stop}
 use Rattle.ov_base.specs.declared.mode.Mode.{Mode}
@@ -7,9 +7,10 @@ use Rattle.ov_book.specs.Beginning.{IsBeginFault, IsBegun, LeavesBook, WritesNoB
 use Rattle.ov_book.specs.Intending.{next_book}
 use Rattle.ov_book.specs.Opened.{Holds, Opened}
 use Rattle.ov_book.specs.declared.fault.BookBegin.{BookBegin}
+use Rattle.ov_book.specs.declared.fault.BookBegin.TheVariants.{BaseDiffers}
 use Rattle.ov_book.specs.declared.intent.Intent.{Intent}
 use Rattle.ov_books.specs.Books.{Booked}
-use Rattle.ov_disk.specs.Disk.{Image, Told}
+use Rattle.ov_disk.specs.Disk.{Told}
 use Rattle.ov_disk.specs.Tells.{DiskTells}
 use Rattle.ov_history.specs.Masters.{Masters}
 use Rattle.ov_keyfile.specs.declared.masters.Masters.{Masters as ReadMasters}
@@ -38,9 +39,15 @@ pub record OpensBook {D : Type 0} (disk : DiskTells D) (k : Masters) (mode : Mod
   pub leaves : LeavesBook disk k mode d s.disk
   pub quiet : WritesNoBorn disk d s.disk
 
+-- a check value that is said to be that of another base master is as long as the one that is given
+abbrev pub HasCheckForm : BookBegin → Type 0
+HasCheckForm (BaseDiffers stored given) = length stored ≡ length given
+HasCheckForm fault = Unit {0}
+
 -- No book was begun, by this fault.
 pub record OpensNone {D : Type 0} (disk : DiskTells D) (k : Masters) (mode : Mode) (d e : D)
     (fault : BookBegin) : Type 0 where
+  pub form : HasCheckForm fault
   pub cause : Told (disk.reads d) (λ i. IsBeginFault k mode i fault)
   pub leaves : LeavesBook disk k mode d e
   pub quiet : WritesNoBorn disk d e

@@ -25,15 +25,22 @@
 //! | `Endings` | how a call ends, by what it was told |
 //! | `Intents` | the intent that an act is |
 //! | `Printing`, `Causes` | what is put of an end; the causes of each status |
+//! | `Serving` | a server that serves what the book says, and a call over it |
 //!
 //! `Owns` is the heart of it: it has in one record what was asked and what a crash may leave, so that both
-//! are of one book. From an Update's sending on, each image that a crash may leave has its intent.
+//! are of one book. From an Update's sending on, each image that a crash may leave has its intent, and none
+//! has it settled before the server told that it was made.
+//!
+//! `IsByOneBook` says what comes of that over a server that answers rightly, and whose updates come from
+//! this book alone: after each call the server has the book's intents, each once, and no call ends but
+//! well, refused by the machine, or for a fault.
 #![tactic(auto)]
 
 mod carrying;
 mod ending;
 mod intents;
 mod job;
+mod laws;
 mod owning;
 mod sending;
 mod stop;
@@ -41,6 +48,7 @@ mod words;
 
 pub use carrying::{own_intent, resume};
 pub use job::{OwnAct, OwnJob};
+pub use laws::{new_books_are_served, owners_files_are_enough, served_books_go_on};
 pub use owning::{Owned, own};
 pub use stop::OwnStop;
 pub use words::read_own_job;

@@ -7,12 +7,13 @@ ghost use Rattle.ov_keyfile.specs.KeyFile.{HasMasters};
 ghost use Rattle.ov_owning.specs.Causes.{OwnStopsFor, TakesStored};
 ghost use Rattle.ov_owning.specs.Printing.{PutsEnd};
 ghost use Rattle.ov_owning.specs.Running.{IsResume, OwnsBy, OwnsOpen, OwnsUnder};
+ghost use Rattle.ov_owning.specs.Serving.{IsByOneBook};
 
 use crate::carrying::{own_intent, resume};
 use crate::ending::finish;
 use crate::intents::intent_of;
 use crate::job::{OwnAct, OwnJob};
-use crate::stop::{OwnStop, stop_of_begin, stop_of_files};
+use crate::stop::{OwnStop, known_check, stop_of_begin, stop_of_files};
 use ov_acts::masters_of;
 use ov_base::Mode;
 use ov_book::{Book, BookRefused};
@@ -86,6 +87,7 @@ fn act_over<B: Source, P: Peer, D: Disk + Drop>(
         }
         Err(refused) => {
             let BookRefused { fault, disk } = refused;
+            known_check(&fault);
             (Err(stop_of_begin(fault)), disk)
         }
     }
@@ -141,7 +143,9 @@ pub struct Owned<D> {
 /// * `causes`: the key file is said to be none only where it isn't one, and the other causes come only
 ///   where a count of faults rose: that of a file that is read, of the peer, of the disk;
 /// * `write`: 6 comes only where the count of standard output rose;
-/// * `keys`, `takes`: what is taken of the two files.
+/// * `keys`, `takes`: what is taken of the two files;
+/// * `one_book`: over a server that nobody else updates, and that serves this book, it serves it
+///   afterwards too, with the intent where the call ended well; and the call is answered.
 pub fn own<K: Source, B: Source, O: Sink, P: Peer, D: Disk + Drop>(
     alloc: Global,
     job: OwnJob,
@@ -163,6 +167,8 @@ pub fn own<K: Source, B: Source, O: Sink, P: Peer, D: Disk + Drop>(
     ensures write { result.code ≡ 6 → Rose (O.tells.faults out.old) (O.tells.faults out.new) }
     ensures keys { TakesUpTo K.tells past_key_file keys.old keys.new }
     ensures takes { TakesStored B.tells job.act body.old body.new }
+    ensures one_book { IsByOneBook P.tells D.tells job.act job.mode (K.tells.left keys.old)
+        (B.tells.left body.old) peer.old peer.new disk result.disk result.end result.code }
 {
     let OwnJob {
         address: _,

@@ -1,10 +1,12 @@
 //! Why `own` ends without having settled.
 ghost use Rattle.std.specs.Prelude.{◌≡◌, Err};
 ghost use Rattle.ov_owning.specs.Endings.{IsUnsent, own_code, unanswered, unbegun, unread, unsettled, unspelled, unwritten};
+ghost use Rattle.ov_owning.specs.Running.{HasCheckForm};
 
 use ov_acts::Stop;
 use ov_base::Refusal;
 use ov_book::{BookBegin, IntendFault, SettleFault, SpellFault};
+use ov_fields::known_tag;
 use ov_peer::ExchangeFault;
 
 /// Why `own` has no new epoch.
@@ -73,6 +75,19 @@ pub fn stop_of_files(stop: Stop) -> OwnStop
         Stop::Memory => OwnStop::Memory,
         Stop::TooLong => OwnStop::TooLong,
         _ => OwnStop::Read,
+    }
+}
+
+/// Does nothing. Its contract is that a check value has 32 bytes.
+pub fn known_check(fault: &BookBegin)
+    ensures { HasCheckForm fault.now }
+{
+    match fault {
+        BookBegin::BaseDiffers { stored, given } => {
+            known_tag(stored);
+            known_tag(given);
+        }
+        _ => {}
     }
 }
 

@@ -1,4 +1,4 @@
-use Rattle.std.proofs.Common.{◌≡◌, ◌⊎◌, List, [], ℕ, Some, None, Ok, refl, sym, subst, inl, inr, ⊎_elim}
+use Rattle.std.proofs.Common.{[], Some, None, Ok, refl, sym, subst, inl, inr, ⊎_elim}
 use Rattle.ov_book.specs.declared.intent.Intent.TheVariants as intents
 use Rattle.ov_owning.specs.Intents.{FindsIntent, StoresFile}
 use Rattle.ov_owning.specs.declared.job.OwnAct.{OwnAct}

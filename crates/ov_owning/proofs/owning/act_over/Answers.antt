@@ -1,5 +1,4 @@
-use Rattle.std.proofs.Common.{◌≡◌, inr, sym, subst}
-use Rattle.ov_acts.specs.Files.{plain_masters}
+use Rattle.std.proofs.Common.{inr, sym, subst}
 use Rattle.ov_owning.specs.Running.{OwnsOpen}
 use Rattle.ov_owning.proofs.owning.act_over.Goals as goal
 

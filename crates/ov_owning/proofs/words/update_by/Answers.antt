@@ -1,4 +1,3 @@
-use Rattle.std.proofs.Common.{◌≡◌}
 use Rattle.ov_owning.proofs.Tails.{asks_are_no_updates}
 use Rattle.ov_owning.proofs.words.update_by.Goals as goal
 

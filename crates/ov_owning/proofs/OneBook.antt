@@ -1,0 +1,469 @@
+-- A call by an open book over a server that serves this book.
+use Rattle.std.proofs.Common.{◌≡◌, ◌∙◌, ◌+◌, ℕ, List, [], ◌∷◌, length, Option, Some, None}
+use Rattle.std.proofs.Common.{Result, Ok, Err, refl, sym, ap, subst, inl, inr, ⊎_elim, arith}
+use Rattle.std.specs.Prelude.{◌⊎◌, IsOk, IsSome}
+use Rattle.ov_base.specs.declared.mode.Mode.{Mode}
+use Rattle.ov_disk.specs.Disk.{Image, Told}
+use Rattle.ov_disk.specs.Moments.{LeavesOnly}
+use Rattle.ov_disk.specs.Tells.{DiskTells}
+use Rattle.ov_record.specs.Briefs.{Brief as SpelledBrief, brief, with_text}
+use Rattle.ov_record.specs.Forms.{second_form}
+use Rattle.ov_record.specs.Spelling.{HasForm, body_of}
+use Rattle.ov_record.specs.Updates.{SealedUpdate as SpelledUpdate}
+use Rattle.ov_tokens.specs.Keys.{check_value_of}
+use Rattle.ov_history.specs.Catalogue.{Catalogue}
+use Rattle.ov_history.specs.Masters.{Masters}
+use Rattle.ov_history.specs.Sealed.{catalogue_of}
+use Rattle.ov_history.specs.Texts.{BriefHistory, IsSealedBriefly, brief_of, catalogue_by}
+use Rattle.ov_wire.specs.Requests.{HasRequestForm}
+use Rattle.ov_wire.specs.declared.answer.Answer.{Answer}
+use Rattle.ov_wire.specs.declared.answer.Answer.TheVariants as answers
+use Rattle.ov_wire.specs.declared.request.Request.{Request}
+use Rattle.ov_wire.specs.declared.request.Request.TheVariants as requests
+use Rattle.ov_protocol.specs.Serving.{Service, later}
+use Rattle.ov_peer.specs.Alone.{IsAlone}
+use Rattle.ov_peer.specs.Exchanges.{Exchanges}
+use Rattle.ov_peer.specs.Tells.{PeerTells}
+use Rattle.ov_peer.specs.declared.fault.ExchangeFault.{ExchangeFault}
+use Rattle.ov_owner.specs.Alone.{IsLeftAlone}
+use Rattle.ov_books.specs.Books.{Booked, history_of, pending_update, settled_of}
+use Rattle.ov_books.specs.Books.{with_intent, with_settling}
+use Rattle.ov_books.specs.Images.{Keeps}
+use Rattle.ov_book.specs.Opened.{Holds, IsPendingIn, Opened, Pending}
+use Rattle.ov_book.specs.Planning.{sealed_as}
+use Rattle.ov_book.specs.declared.intent.Intent.{Intent}
+use Rattle.ov_book.proofs.Begun.{shown_by}
+use Rattle.ov_owning.specs.Endings.{End, EndsGreeted, EndsSent, EndsTold, Greeted, TellsNext}
+use Rattle.ov_owning.specs.Endings.{made_by}
+use Rattle.ov_owning.specs.Intents.{FindsIntent}
+use Rattle.ov_owning.specs.Owning.{Asks, Ends, HasIntent, LastsSettled, MaySend, Owns, SendsPending}
+use Rattle.ov_owning.specs.Owning.{TellsMade, asks_hello, asks_nothing, asks_update, update_request}
+use Rattle.ov_owning.specs.Running.{with_intended}
+use Rattle.ov_owning.specs.Serving.{GoesOnByIntent, IsCarriedOut, IsServedImage}
+use Rattle.ov_owning.specs.Serving.{LeavesServed, ServesBook, book_with}
+use Rattle.ov_owning.specs.declared.job.OwnAct.{OwnAct}
+use Rattle.ov_owning.proofs.AskedAlone.{FitsAt, IsAccepted, UpdateLeaves, greeted_epoch}
+use Rattle.ov_owning.proofs.AskedAlone.{hello_left, update_left}
+use Rattle.ov_owning.proofs.Calls.{none_there}
+use Rattle.ov_owning.proofs.Served.{at_made, at_settled, fits_there, one_history, served_with}
+use Rattle.ov_owning.proofs.Served.{where_is}
+use Rattle.ov_owning.proofs.Spelling.{brief_with, form_pending, form_with}
+
+-- ---- ends
+
+-- a call that ended well after an Update had it accepted
+pub accepted_at : (kept : ℕ) (answer : Result Answer ExchangeFault) (end : End) → IsOk end
+    → EndsSent kept (made_by kept answer) end
+    → (n : ℕ) × (answer ≡ Ok (answers.Accepted n))
+accepted_at kept (Ok (answers.Accepted n)) end ok ends = (n, refl)
+accepted_at kept (Ok (answers.Stale n)) end ok ends =
+    absurd (cc (subst (λ (e : End). IsOk e) ends ok))
+accepted_at kept (Ok (answers.Refused why)) end ok ends =
+    absurd (cc (subst (λ (e : End). IsOk e) ends ok))
+accepted_at kept (Ok answers.BadTag) end ok ends =
+    absurd (cc (subst (λ (e : End). IsOk e) ends ok))
+accepted_at kept (Ok answers.DeviceFault) end ok ends =
+    absurd (cc (subst (λ (e : End). IsOk e) ends ok))
+accepted_at kept (Ok answers.NoMemory) end ok ends =
+    absurd (cc (subst (λ (e : End). IsOk e) ends ok))
+accepted_at kept (Ok a) end ok ends = absurd (cc (subst (λ (e : End). IsOk e) ends ok))
+accepted_at kept (Err fault) end ok ends = absurd (cc (subst (λ (e : End). IsOk e) ends ok))
+
+-- where the next epoch was told in answer to an Update, it was accepted
+pub accepted_by : (kept n : ℕ) (answer : Result Answer ExchangeFault)
+    → made_by kept answer ≡ Ok n → (m : ℕ) × (answer ≡ Ok (answers.Accepted m))
+accepted_by kept n (Ok (answers.Accepted m)) is = (m, refl)
+accepted_by kept n (Ok (answers.Stale m)) is = absurd (cc is)
+accepted_by kept n (Ok (answers.Refused why)) is = absurd (cc is)
+accepted_by kept n (Ok answers.BadTag) is = absurd (cc is)
+accepted_by kept n (Ok answers.DeviceFault) is = absurd (cc is)
+accepted_by kept n (Ok answers.NoMemory) is = absurd (cc is)
+accepted_by kept n (Ok a) is = absurd (cc is)
+accepted_by kept n (Err fault) is = absurd (cc is)
+
+-- a book without a pending intent has none in memory
+pub none_seen : (pending : Option SpelledBrief) (p : Option Pending) → pending ≡ None
+    → IsPendingIn pending p → p ≡ None
+none_seen None None none is = refl
+none_seen None (Some p) none is = absurd is
+none_seen (Some u) p none is = absurd (cc none)
+
+-- ---- the intent
+
+-- the act has no intent of its own, or nothing is pending
+abbrev pub IsFree : Option Intent → Booked → Type 0
+IsFree intent b = (intent ≡ None) ⊎ (b.pending ≡ None)
+
+module _ {D : Type 0} (disk : DiskTells D) (k : Masters) (s : Opened D) (b : Booked)
+    (masters : s.masters ≡ k) (holds : Holds disk b s) where
+  settled_is : s.settled ≡ catalogue_by k.surface (settled_of b)
+  settled_is =
+      holds.settled.1
+      ∙ ap (λ (m : Masters). catalogue_by m.surface (settled_of b)) masters
+
+  -- the open book's epoch is the number of settled intents
+  pub epoch_kept : s.settled.epoch ≡ length b.settled
+  epoch_kept = (shown_by s.masters.surface s.settled b holds.settled).epoch
+
+  -- the book with an intent is that with it as the masters seal it
+  pub next_is : (intent : Option Intent) → with_intended s intent b ≡ book_with k b intent
+  next_is None = refl
+  next_is (Some intent) =
+      λ i. let u = sealed_as (masters i) (settled_is i) intent in
+      with_intent b (brief u) (body_of u)
+
+  pub next_settled : (intent : Option Intent)
+      → settled_of (with_intended s intent b) ≡ settled_of b
+  next_settled None = refl
+  next_settled (Some intent) = refl
+
+  pub next_count : (intent : Option Intent)
+      → length (with_intended s intent b).settled ≡ length b.settled
+  next_count None = refl
+  next_count (Some intent) = refl
+
+  pub next_mode : (intent : Option Intent) → (with_intended s intent b).mode ≡ b.mode
+  next_mode None = refl
+  next_mode (Some intent) = refl
+
+  module _ (v : Service) (serves : ServesBook k b v) where
+    -- what serves the book serves it with the intent too
+    pub next_served : (intent : Option Intent) → IsFree intent b
+        → ServesBook k (with_intended s intent b) v
+    next_served None free = serves
+    next_served (Some intent) (inl none) = absurd (cc none)
+    next_served (Some intent) (inr none) = record {
+      surface = serves.surface;
+      check = serves.check;
+      history = ⊎_elim (λ settled. inl settled)
+          (λ whole. inl (whole ∙ one_history b none)) serves.history;
+    }
+
+    -- where its pending update was made, what is served is the book with what the act intends
+    pub next_made : (intent : Option Intent) → IsFree intent b → (u : SpelledBrief)
+        → b.pending ≡ Some u → brief_of v.history ≡ history_of b
+        → brief_of v.history ≡ history_of (with_intended s intent b)
+    next_made None free u some same = same
+    next_made (Some intent) (inl none) u some same = absurd (cc none)
+    next_made (Some intent) (inr none) u some same = absurd (cc (none, some))
+
+    -- the next epoch is told only where it was
+    pub made_where : (intent : Option Intent) → IsFree intent b
+        → s.settled.epoch + 1 ≡ (catalogue_of v.surface v.history).epoch
+        → brief_of v.history ≡ history_of (with_intended s intent b)
+    made_where intent free at =
+        elim (where_is b v holds.is_book holds.settled.0 k serves) [
+          | at_settled settled here ↦
+              absurd (omega (arith, at, here, epoch_kept))
+          | at_made u some whole here ↦ next_made intent free u some whole
+        ]
+
+    -- and the book's own epoch only where it wasn't
+    pub settled_where : s.settled.epoch ≡ (catalogue_of v.surface v.history).epoch
+        → brief_of v.history ≡ settled_of b
+    settled_where at =
+        elim (where_is b v holds.is_book holds.settled.0 k serves) [
+          | at_settled settled here ↦ settled
+          | at_made u some whole here ↦ absurd (omega (arith, at, here, epoch_kept))
+        ]
+
+-- ---- the Update
+
+-- the pending update has the brief of the book's pending intent
+pub brief_sent : {P : Type 0} (peer : PeerTells P) (k : Masters) (b : Booked)
+    (told : Option Image) (p q : P) (answer : Result Answer ExchangeFault)
+    (sends : SendsPending peer k b told p q answer) → brief sends.update ≡ sends.is.brief
+brief_sent peer k b told p q answer sends =
+    ap brief sends.is.is ∙ brief_with sends.is.brief sends.is.text sends.is.size
+
+-- and a spelling
+pub form_sent : {P : Type 0} (peer : PeerTells P) (k : Masters) (b : Booked)
+    (told : Option Image) (p q : P) (answer : Result Answer ExchangeFault)
+    (sends : SendsPending peer k b told p q answer) → HasForm second_form sends.update
+form_sent peer k b told p q answer sends =
+    subst (λ (x : SpelledUpdate). HasForm second_form x) (sym sends.is.is)
+    (form_with sends.is.brief sends.is.text sends.is.size
+    (form_pending b sends.is.brief sends.is.pending sends.is_book.noted.pending))
+
+-- it is the book's pending update, with the bytes of its file, where the disk tells these
+pub update_sent : {P : Type 0} (peer : PeerTells P) (k : Masters) (b : Booked)
+    (told : Option Image) (p q : P) (answer : Result Answer ExchangeFault) (i : Image)
+    → told ≡ Some i → (sends : SendsPending peer k b told p q answer)
+    → pending_update b ≡ Some sends.update
+update_sent peer k b told p q answer i at sends =
+    ap (λ (x : Option SpelledBrief). pending_update (record b { pending = x })) sends.is.pending
+    ∙ ap (λ (t : List ℕ). Some (with_text sends.is.brief t)) (sym (sends.is.book_text i at))
+    ∙ ap (λ (x : SpelledUpdate). Some x) (sym sends.is.is)
+
+-- ---- all of a call
+
+module _ {P D : Type 0} (peer : PeerTells P) (disk : DiskTells D) (alone : IsAlone peer)
+    (k : Masters) (b : Booked) (v : Service) (serves : ServesBook k b v) (s : Opened D)
+    (masters : s.masters ≡ k) (holds : Holds disk b s) (image : Image)
+    (told : disk.reads s.disk ≡ Some image) (intent : Option Intent) (free : IsFree intent b)
+    (mode : Mode) where
+  abbrev next : Booked
+  next = with_intended s intent b
+
+  abbrev c : Catalogue
+  c = catalogue_of v.surface v.history
+
+  -- an image keeps a book under the masters of the key file
+  keeps_by : (x : Booked) (i : Image) → Keeps s.masters x i → Keeps k x i
+  keeps_by x i keeps = subst (λ (m : Masters). Keeps m x i) masters keeps
+
+  -- each image that a crash may leave after such moments
+  each_left : (new : D) (Q : Image → Type 0)
+      → Told (disk.reads s.disk) (λ _. LeavesOnly disk s.disk new Q)
+      → (i : Image) → disk.may_leave new i → Q i
+  each_left new Q leaves i left =
+      let all = leaves image told in
+      all.each i (disk.counts_now new (disk.moment s.disk) i all.later left)
+
+  -- a book that is served, by what an image keeps
+  is_served : (now : Service) (x : Booked) (i : Image) → x.mode ≡ b.mode → Keeps k x i
+      → ServesBook k x now → IsServedImage k b.mode now i
+  is_served now x i same keeps there = (x, same, inr keeps, there)
+
+  -- what serves the history with the intent serves the book in which it is settled
+  settled_served : (now : Service) → ServesBook k next now
+      → brief_of now.history ≡ history_of next → ServesBook k (with_settling next) now
+  settled_served now there same = record {
+    surface = there.surface;
+    check = there.check;
+    history = inl same;
+  }
+
+  image_served : (now : Service) (made : Type 0)
+      → (made → brief_of now.history ≡ history_of next) → ServesBook k next now
+      → (i : Image) → HasIntent made s.masters next i → IsServedImage k b.mode now i
+  image_served now made same there i (inl keeps) =
+      is_served now next i (next_mode disk k s b masters holds intent) (keeps_by next i keeps) there
+  image_served now made same there i (inr (is, keeps)) =
+      is_served now (with_settling next) i (next_mode disk k s b masters holds intent)
+      (keeps_by (with_settling next) i keeps) (settled_served now there (same is))
+
+  there_before : ServesBook k next v
+  there_before = next_served disk k s b masters holds v serves intent free
+
+  -- ---- where Hello alone was asked
+
+  module _ (p r : P) (serving : peer.serves p v) (answer : Result Answer ExchangeFault)
+      (hello : Exchanges peer p r requests.Hello answer) where
+    -- the epoch that was told is that of what is served
+    told_epoch : (n : ℕ) → Greeted (check_value_of s.masters.base) mode answer (Ok n)
+        → n ≡ c.epoch
+    told_epoch n greeted =
+        greeted_epoch peer alone (check_value_of s.masters.base) mode p r answer n v hello serving
+        greeted
+
+    made_greeted : Greeted (check_value_of s.masters.base) mode answer (Ok (s.settled.epoch + 1))
+        → brief_of v.history ≡ history_of next
+    made_greeted greeted =
+        made_where disk k s b masters holds v serves intent free
+        (told_epoch (s.settled.epoch + 1) greeted)
+
+    hello_images : (new : D)
+        → Told (disk.reads s.disk) (λ _. LeavesOnly disk s.disk new (λ i. Keeps s.masters b i
+        ⊎ HasIntent (Greeted (check_value_of s.masters.base) mode answer
+        (Ok (s.settled.epoch + 1))) s.masters next i))
+        → (i : Image) → disk.may_leave new i → IsServedImage k b.mode v i
+    hello_images new moments i left =
+        ⊎_elim (λ keeps. is_served v b i refl (keeps_by b i keeps) serves)
+        (image_served v (Greeted (check_value_of s.masters.base) mode answer
+        (Ok (s.settled.epoch + 1))) made_greeted there_before i)
+        (each_left new (λ i. Keeps s.masters b i
+        ⊎ HasIntent (Greeted (check_value_of s.masters.base) mode answer
+        (Ok (s.settled.epoch + 1))) s.masters next i) moments i left)
+
+    -- a call that ended well without an Update had nothing to send: what is served has it all
+    done_told : (n : ℕ) (end : End) → IsOk end
+        → Greeted (check_value_of s.masters.base) mode answer (Ok n) → EndsTold s intent n end
+        → brief_of v.history ≡ history_of next
+    done_told n (Err stop) ok greeted ends = absurd (cc ok)
+    done_told n (Ok epoch) ok greeted (none, is, inl (no_pending, at)) =
+        let here : brief_of v.history ≡ settled_of b =
+        settled_where disk k s b masters holds v serves (sym at ∙ told_epoch n greeted) in
+        let free_of : b.pending ≡ None = none_there b.pending s.pending no_pending holds.pending in
+        subst (λ (x : Option Intent). brief_of v.history ≡ history_of (with_intended s x b))
+        (sym none) (here ∙ sym (one_history b free_of))
+    done_told n (Ok epoch) ok greeted (none, is, inr (pending, at)) =
+        made_greeted
+        (subst (λ (m : ℕ). Greeted (check_value_of s.masters.base) mode answer (Ok m)) at greeted)
+
+    done_greeted : (g end : End) → IsOk end
+        → Greeted (check_value_of s.masters.base) mode answer g → EndsGreeted s intent g end
+        → brief_of v.history ≡ history_of next
+    done_greeted (Ok n) end ok greeted ends = done_told n end ok greeted ends
+    done_greeted (Err stop) end ok greeted ends =
+        absurd (cc (subst (λ (e : End). IsOk e) ends ok))
+
+  -- ---- where an Update was
+
+  module _ (between q : P) (serving : peer.serves between v)
+      (at : s.settled.epoch ≡ c.epoch) (answer : Result Answer ExchangeFault)
+      (sends : SendsPending peer s.masters next (disk.reads s.disk) between q answer) where
+    abbrev u : SpelledUpdate
+    u = sends.update
+
+    here : brief_of v.history ≡ settled_of next
+    here =
+        settled_where disk k s b masters holds v serves at
+        ∙ sym (next_settled disk k s b masters holds intent)
+
+    sealed_next : IsSealedBriefly (settled_of next)
+    sealed_next =
+        subst (λ (h : BriefHistory). IsSealedBriefly h)
+        (sym (next_settled disk k s b masters holds intent)) holds.settled.0
+
+    brief_u : brief u ≡ sends.is.brief
+    brief_u = brief_sent peer s.masters next (disk.reads s.disk) between q answer sends
+
+    pub form_u : HasForm second_form u
+    form_u = form_sent peer s.masters next (disk.reads s.disk) between q answer sends
+
+    pub fits_u : FitsAt c u
+    fits_u =
+        fits_there next sends.is.brief sends.is.pending v here u brief_u sends.is_book sealed_next
+
+    -- the request is made at what is served
+    request_is : update_request s.masters.surface (length next.settled) u
+        ≡ update_request v.surface c.epoch u
+    request_is =
+        let surface : s.masters.surface ≡ v.surface =
+        ap (λ (m : Masters). m.surface) masters ∙ sym serves.surface in
+        let count : length next.settled ≡ c.epoch =
+        next_count disk k s b masters holds intent
+        ∙ sym (epoch_kept disk k s b masters holds) ∙ at in
+        λ i. update_request (surface i) (count i) u
+
+    pub sendable_u : HasRequestForm (update_request v.surface c.epoch u)
+    sendable_u = subst (λ (r : Request). HasRequestForm r) request_is sends.form
+
+    pub sent_u : Exchanges peer between q (update_request v.surface c.epoch u) answer
+    sent_u = subst (λ (r : Request). Exchanges peer between q r answer) request_is sends.sent
+
+    served_u : brief_of (later v (u ∷ [])).history ≡ history_of next
+    served_u = served_with next sends.is.brief sends.is.pending v here u brief_u
+
+    -- what is served then has the pending intent, where the Update was accepted
+    module _ (now : Service)
+        (cases : (now ≡ later v (u ∷ [])) ⊎ ((now ≡ v) × (IsAccepted v u form_u fits_u answer → ⊥)))
+      where
+        pub accepted_then : IsAccepted v u form_u fits_u answer
+            → brief_of now.history ≡ history_of next
+        accepted_then accepted =
+            elim cases [
+              | inl with_it ↦ ap (λ (w : Service). brief_of w.history) with_it ∙ served_u
+              | inr (same, other) ↦ absurd (other accepted)
+            ]
+
+        there_then : ServesBook k next now
+        there_then =
+            elim cases [
+              | inl with_it ↦ record {
+                surface = ap (λ (w : Service). w.surface) with_it ∙ serves.surface;
+                check = ap (λ (w : Service). w.base_check) with_it ∙ serves.check;
+                history = inr (ap (λ (w : Service). brief_of w.history) with_it ∙ served_u);
+              }
+              | inr (same, other) ↦
+                  subst (λ (w : Service). ServesBook k next w) (sym same) there_before
+            ]
+
+        update_images : (new : D)
+            → Told (disk.reads s.disk) (λ _. (i : Image) → disk.may_leave new i
+            → HasIntent (TellsNext s.settled.epoch (made_by s.settled.epoch answer)) s.masters next i)
+            → (i : Image) → disk.may_leave new i → IsServedImage k b.mode now i
+        update_images new written i left =
+            image_served now (TellsNext s.settled.epoch (made_by s.settled.epoch answer))
+            (λ next_told.
+            accepted_then (accepted_by s.settled.epoch (s.settled.epoch + 1) answer next_told))
+            there_then i (written image told i left)
+
+        one_update : (act : OwnAct) (body : Option (List ℕ)) → FindsIntent act body (Ok intent)
+            → (now ≡ v) ⊎ GoesOnByIntent k b act body v now
+        one_update act body finds =
+            elim cases [
+              | inl with_it ↦ inr (
+                next,
+                (intent, finds, next_is disk k s b masters holds intent),
+                (
+                  u,
+                  update_sent peer s.masters next (disk.reads s.disk) between q answer image told
+                      sends,
+                  with_it,
+                ),
+              )
+              | inr (same, other) ↦ inl same
+            ]
+
+  -- ---- however it ends
+
+  module _ (act : OwnAct) (body : Option (List ℕ)) (finds : FindsIntent act body (Ok intent))
+      (left : IsLeftAlone peer) where
+    carried_out : (now : Service) (new : D) → brief_of now.history ≡ history_of next
+        → LastsSettled disk s next new
+        → IsCarriedOut k b act body now (disk.may_leave new)
+    carried_out now new same lasts = record {
+      next = next;
+      is = (intent, finds, next_is disk k s b masters holds intent);
+      served = same;
+      kept = λ i may. keeps_by (with_settling next) i (lasts image told i may);
+    }
+
+    no_pending : IsSome intent → IsSome s.pending → ⊥
+    no_pending some pending =
+        elim free [
+          | inl none ↦ cc (subst (λ (x : Option Intent). IsSome x) none some)
+          | inr none ↦ cc (subst (λ (x : Option Pending). IsSome x)
+              (none_seen b.pending s.pending none holds.pending) pending)
+        ]
+
+    by_asks : (p q : P) (new : D) (end : End) → peer.serves p v
+        → (asks : Asks peer s.masters next (disk.reads s.disk) p q)
+        → Told (disk.reads s.disk) (λ _. LeavesOnly disk s.disk new (λ i. Keeps s.masters b i
+        ⊎ HasIntent (TellsMade peer s mode next (disk.reads s.disk) p q asks) s.masters next i))
+        → (MaySend peer s.masters next (disk.reads s.disk) p q asks
+        → Told (disk.reads s.disk) (λ _. (i : Image) → disk.may_leave new i
+        → HasIntent (TellsMade peer s mode next (disk.reads s.disk) p q asks) s.masters next i))
+        → Ends peer s mode intent next (disk.reads s.disk) p q asks end
+        → (IsOk end → LastsSettled disk s next new)
+        → LeavesServed peer disk k b act body v q new end
+    by_asks p q new end serving asks_nothing moments written ends lasts =
+        absurd (no_pending ends.0 ends.1)
+    by_asks p q new end serving (asks_hello r answer hello) moments written ends lasts = record {
+      now = v;
+      serves = hello_left peer alone left p r answer v hello serving;
+      one = inl refl;
+      images = hello_images p r serving answer hello new moments;
+      done = λ ok.
+          carried_out v new
+          (done_greeted p r serving answer hello ends.0 end ok ends.1 ends.2) (lasts ok);
+    }
+    by_asks p q new end serving (asks_update between r welcome answer hello sends) moments written
+        ends lasts =
+        let going = hello_left peer alone left p between welcome v hello serving in
+        let at = told_epoch p between serving welcome hello s.settled.epoch ends.0 in
+        let form = form_u between r going at answer sends in
+        let fits = fits_u between r going at answer sends in
+        let (now, goes_on, cases) : UpdateLeaves v sends.update form fits
+        (sendable_u between r going at answer sends) peer alone answer r =
+        update_left v sends.update form fits (sendable_u between r going at answer sends) peer alone
+        left between r answer (sent_u between r going at answer sends) going in
+        record {
+          now = now;
+          serves = goes_on;
+          one = one_update between r going at answer sends now cases act body finds;
+          images = update_images between r going at answer sends now cases new (written tt);
+          done = λ ok.
+              carried_out now new
+              (accepted_then between r going at answer sends now cases
+              (accepted_at s.settled.epoch answer end ok ends.1)) (lasts ok);
+        }
+
+    pub leaves_served : (p q : P) (new : D) (end : End) → peer.serves p v
+        → Owns peer disk s mode intent b next p q new end
+        → (IsOk end → LastsSettled disk s next new)
+        → LeavesServed peer disk k b act body v q new end
+    leaves_served p q new end serving owns lasts =
+        by_asks p q new end serving owns.asks owns.moments owns.written owns.ends lasts
