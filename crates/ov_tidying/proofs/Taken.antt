@@ -4,8 +4,8 @@ use Rattle.std.proofs.Common.{take}
 use Rattle.std.proofs.lemmas.List.{take_all}
 use Rattle.std.specs.Prelude.{None, Ok, Some, ◌==◌}
 use Rattle.ov_disk.specs.Tells.{DiskTells}
-use Rattle.ov_history.specs.Briefs.{Brief, brief, numbered_brief}
-use Rattle.ov_history.specs.Catalogue.{file_names_shown}
+use Rattle.ov_history.specs.Briefs.{Brief, brief, numbered_brief, outer}
+use Rattle.ov_history.specs.Catalogue.{file_names_shown, outline}
 use Rattle.ov_history.specs.History.{History, Update}
 use Rattle.ov_history.specs.Sealed.{IsSealed, SealedHistory, StandsFor, outer_all, outer_of, with_sealed}
 use Rattle.ov_history.specs.Sent.{SealedUpdate}
@@ -21,7 +21,7 @@ use Rattle.ov_store.specs.Briefs.{IsUpdateAt, ReadsUpdate}
 use Rattle.ov_store.specs.Opened.{Opened, Serves}
 use Rattle.ov_store.specs.Owners.{with_first}
 use Rattle.ov_thinning.proofs.Taken.{taking_goes_on}
-use Rattle.ov_thinning.specs.Notes.{HasTaken, Thinning, kept_after, outer_brief, outer_briefs, taken_next}
+use Rattle.ov_thinning.specs.Notes.{HasTaken, Thinning, is_paired, kept_after, outer_brief, outer_briefs, place_noted, taken_next}
 use Rattle.ov_thinning.specs.Thin.{AreThinned, left_out, unless}
 use Rattle.ov_tidying.specs.Taking.{HasTakenFirst, KeepsPlaces, TakesEach, TakesNext, TakesOne}
 
@@ -108,6 +108,14 @@ kept_few true kept first place =
     let shorter : length (left_out first kept) ≤ length kept = left_out_few first kept in
     omega (arith, shorter)
 kept_few false kept first place = grind (arith, length)
+
+-- an update more keeps one place more at most
+pub taken_few : (master : List ℕ) (t : Thinning) (b : Brief) (next : Thinning)
+    → next ≡ taken_next master t b → length next.kept ≤ length t.kept + 1
+taken_few master t b next made =
+    subst (λ (x : Thinning). length x.kept ≤ length t.kept + 1) (sym made)
+    (kept_few (is_paired (outline t.catalogue) t.notes (outer b)) t.kept
+    (place_noted t.notes (outer b)) t.taken)
 
 -- ---- all updates
 
