@@ -29,6 +29,11 @@ pub not_found_keys : (status : ℕ) → (status ≡ 14) ⊎ IsFoundStatus status
 not_found_keys status (inl e) ten = omega arith
 not_found_keys status (inr found) ten = not_keys status (found_so status found) ten
 
+pub asked_of : (status : ℕ) → (status ≡ 14) ⊎ IsFoundStatus status
+    → (status ≡ 14) ⊎ IsAskedStatus status
+asked_of status (inl e) = inl e
+asked_of status (inr found) = inr (inr found)
+
 fault_not_empty : (fault : BeginFault) → fault_status fault ≡ 14 → ⊥
 fault_not_empty DiskFailed e = omega arith
 fault_not_empty NoMemory e = omega arith
@@ -127,10 +132,11 @@ by_more read status faults more so by = record {
 
 -- ---- both disks
 
-module _ {D E : Type 0} (olds : DiskTells D) (news : DiskTells E) where
-  pub no_disk_call : (disk : E) → IsDiskCall news ⊥ disk disk
-  no_disk_call disk = record { same = refl; later = omega arith; rose = λ none. absurd none }
+-- a disk that isn't touched
+pub no_disk_call : {D : Type 0} (tells : DiskTells D) (disk : D) → IsDiskCall tells ⊥ disk disk
+no_disk_call tells disk = record { same = refl; later = omega arith; rose = λ none. absurd none }
 
+module _ {D E : Type 0} (olds : DiskTells D) (news : DiskTells E) where
   -- a call of the old disk, and then more
   pub both_then : (old mid last : D) (new after : E) (failed : Type 0) (status : ℕ) (writes : Type 0)
       → IsDiskCall olds failed old mid → EndsOnBoth olds news mid last new after status ⊥ writes
@@ -156,7 +162,7 @@ module _ {D E : Type 0} (olds : DiskTells D) (news : DiskTells E) where
       → EndsOnBoth olds news old last new new status ⊥ writes
   fault_on_both old last new put_old put_new status writes write fault call ends = record {
     old_call = record { same = call.same; later = call.later; rose = λ none. absurd none };
-    new_call = no_disk_call new;
+    new_call = no_disk_call news new;
     disk = λ e. inl (call.rose (disk_said fault (fault_line fault) put_old put_new status ends e));
     read = λ e. fault_no_read fault (fault_line fault) put_old put_new status ends e;
     write = write;

@@ -4,6 +4,7 @@ pub mod Endings
 pub mod Copying
 pub mod Images
 pub mod Unbegun
+pub mod Made
 pub mod Shorter
 pub mod Reread
 pub mod Loans
