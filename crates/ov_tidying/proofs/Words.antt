@@ -1,5 +1,5 @@
 -- Which words ask for a shorter store.
-use Rattle.std.proofs.Common.{ℕ, ◌<◌, ◌∙◌, ◌≡◌, ◌≤◌, ◌⊎◌, List, [], ◌∷◌, ap, arith, get_or, inl, inr, length, refl, suc, sym}
+use Rattle.std.proofs.Common.{ℕ, ◌<◌, ◌∙◌, ◌≡◌, ◌≤◌, List, [], ◌∷◌, ap, arith, get_or, length, refl, suc, sym}
 use Rattle.std.specs.Prelude.{String, codes, map, string_bytes}
 use Rattle.std.specs.declared.alloc.Global.{Global}
 use Rattle.ov_tidying.specs.Promises.{IsNoTidy}
@@ -16,11 +16,7 @@ same_count : (words : List (String Global)) → length (map string_bytes words) 
 same_count [] = refl
 same_count (w ∷ words) = ap (λ n. suc n) (same_count words)
 
-pub other_count : (words : List (String Global)) → (length words < 1) ⊎ (2 ≤ length words)
-    → IsNoTidy words
-other_count words (inl few) bytes =
+pub other_length : (words : List (String Global)) → (length words ≡ 1 → ⊥) → IsNoTidy words
+other_length words other bytes =
     let many : length (map string_bytes words) ≡ length (codes "tidy" ∷ []) = ap length bytes in
-    omega (arith, few, many, same_count words)
-other_count words (inr more) bytes =
-    let many : length (map string_bytes words) ≡ length (codes "tidy" ∷ []) = ap length bytes in
-    omega (arith, more, many, same_count words)
+    other (sym (same_count words) ∙ many)
