@@ -1,6 +1,6 @@
 -- Updates of a store, as their records spell them, are taken one after the other.
 use Rattle.std.proofs.Common.{◌≡◌, ◌+◌, ◌≤◌, ◌∙◌, ℕ, Bool, true, false, List, [], ◌∷◌, ap, arith, length, refl, subst, sym}
-use Rattle.std.proofs.Common.{take}
+use Rattle.std.proofs.Common.{◌++◌, length-append, take}
 use Rattle.std.proofs.lemmas.List.{take_all}
 use Rattle.std.specs.Prelude.{None, Ok, Some, ◌==◌}
 use Rattle.ov_disk.specs.Tells.{DiskTells}
@@ -107,7 +107,9 @@ kept_few : (test : Bool) (kept : List ℕ) (first place : ℕ)
 kept_few true kept first place =
     let shorter : length (left_out first kept) ≤ length kept = left_out_few first kept in
     omega (arith, shorter)
-kept_few false kept first place = grind (arith, length)
+kept_few false kept first place =
+    let more : length (kept ++ place ∷ []) ≡ length kept + 1 = length-append kept (place ∷ []) in
+    omega (arith, more)
 
 -- an update more keeps one place more at most
 pub taken_few : (master : List ℕ) (t : Thinning) (b : Brief) (next : Thinning)
@@ -121,7 +123,7 @@ taken_few master t b next made =
 
 outer_told : (us : List SealedUpdate) → outer_briefs (brief_all us) ≡ outer_all us
 outer_told [] = refl
-outer_told (u ∷ us) = ap (λ (rest : List Update). _ ∷ rest) (outer_told us)
+outer_told (u ∷ us) = ap (λ (rest : List Update). outer (brief u) ∷ rest) (outer_told us)
 
 outer_brief_of : (g : SealedHistory) → outer_brief (brief_of g) ≡ outer_of g
 outer_brief_of g =

@@ -7,7 +7,7 @@ use Rattle.ov_history.specs.Sealed.{SealedHistory}
 use Rattle.ov_journal.specs.Standing.{IsUnborn}
 use Rattle.ov_replaying.proofs.Endings.{fault_seven, fault_six}
 use Rattle.ov_replaying.specs.Statuses.{IsFoundStatus}
-use Rattle.ov_report.specs.Ends.{EndsOr}
+use Rattle.ov_report.specs.Ends.{EndsIn, EndsOr}
 use Rattle.ov_report.specs.Faults.{disk_line, memory_line}
 use Rattle.ov_store.specs.Beginning.{IsBeginAtFault}
 use Rattle.ov_store.specs.declared.fault.BeginFault.{BeginFault}
@@ -38,6 +38,18 @@ call_is (Damaged area place) e = absurd (omega arith)
 call_is (BaseDiffers stored given) e = absurd (omega arith)
 call_is (SurfaceDiffers stored given) e = absurd (omega arith)
 call_is (ModeDiffers stored given) e = absurd (omega arith)
+
+-- the line on a disk that isn't empty is put for each fault but these two
+pub other_ends : (fault : BeginFault) → (fault ≡ DiskFailed → ⊥) → (fault ≡ NoMemory → ⊥)
+    → (old new : Option (List ℕ)) (status : ℕ) → EndsIn notempty_line 14 old new status
+    → EndsOr (begin_line fault) (begin_status fault) old new status
+other_ends DiskFailed no_disk no_memory old new status ends = absurd (no_disk refl)
+other_ends NoMemory no_disk no_memory old new status ends = absurd (no_memory refl)
+other_ends NotAStore no_disk no_memory old new status ends = inl ends
+other_ends (Damaged area place) no_disk no_memory old new status ends = inl ends
+other_ends (BaseDiffers stored given) no_disk no_memory old new status ends = inl ends
+other_ends (SurfaceDiffers stored given) no_disk no_memory old new status ends = inl ends
+other_ends (ModeDiffers stored given) no_disk no_memory old new status ends = inl ends
 
 empty_low : IsRefused 14 → ⊥
 empty_low (inl e) = omega arith

@@ -1,5 +1,5 @@
 //! Which updates of an open store are kept.
-ghost use Rattle.std.specs.Prelude.{◌≡◌, ◌≤◌, ℕ, IfErr, IfOk, IsErrOf, OnOk, length};
+ghost use Rattle.std.specs.Prelude.{◌≡◌, ◌+◌, ◌≤◌, ℕ, IfErr, IfOk, IsErrOf, OnOk, length};
 ghost use Rattle.ov_history.specs.Catalogue.{numbered_at};
 ghost use Rattle.ov_replaying.specs.Reading.{IsFaultOfStore, MakesUpdate, StaysAsItWas};
 ghost use Rattle.ov_state.specs.Plans.{IsFitting, plain_brief};

@@ -11,23 +11,32 @@ use Rattle.ov_tidying.proofs.tidying.tidy.Goals as goal
 
 pub returns-then-is_tidy-clause-tells : goal.returns-then-is_tidy-clause-tells
 returns-then-is_tidy-clause-tells g c =
-    lent_tells g.D.Disk.tells g.E.Disk.tells c.args.old c.tidy_with_keys.result.1 _ (search rules)
-    c.args.new c.tidy_with_keys.result.2 _ (search rules) _ (g.K.Source.tells.left c.args.keys.now)
+    lent_tells g.D.Disk.tells g.E.Disk.tells
+    (record { ref_ptr = c.args.old.ref_ptr; ghost_name = _; now = c.args.old.now })
+    c.tidy_with_keys.result.1 _ (search rules)
+    (record { ref_ptr = c.args.new.ref_ptr; ghost_name = _; now = c.args.new.now })
+    c.tidy_with_keys.result.2 _ (search rules) _ (g.K.Source.tells.left c.args.keys.now)
     c.tidy_with_keys.result.0 _ _ _ _ c.tidy_with_keys.ensures.tells
 
 pub returns-then-is_tidy-clause-image : goal.returns-then-is_tidy-clause-image
 returns-then-is_tidy-clause-image g c =
     image_so (g.D.Disk.tells.reads c.args.old.now) (g.K.Source.tells.left c.args.keys.now) _ _
     (λ k i j. judged_so k i c.tidy_with_keys.result.0 _ _ _ _
-    (λ same. lent_same g.E.Disk.tells c.args.new c.tidy_with_keys.result.2 _ (search rules) same) j)
+    (λ same. lent_same g.E.Disk.tells
+    (record { ref_ptr = c.args.new.ref_ptr; ghost_name = _; now = c.args.new.now })
+    c.tidy_with_keys.result.2 _ (search rules) same) j)
     c.tidy_with_keys.ensures.image _
 
 pub returns-then-is_tidy-clause-keys : goal.returns-then-is_tidy-clause-keys
 returns-then-is_tidy-clause-keys g c =
     file_asked (g.K.Source.tells.left c.args.keys.now) _ _ _ _ _ _ c.tidy_with_keys.ensures.keys
     (λ untouched. (
-      lent_same g.D.Disk.tells c.args.old c.tidy_with_keys.result.1 _ (search rules) untouched.0,
-      lent_same g.E.Disk.tells c.args.new c.tidy_with_keys.result.2 _ (search rules) untouched.1,
+      lent_same g.D.Disk.tells
+          (record { ref_ptr = c.args.old.ref_ptr; ghost_name = _; now = c.args.old.now })
+          c.tidy_with_keys.result.1 _ (search rules) untouched.0,
+      lent_same g.E.Disk.tells
+          (record { ref_ptr = c.args.new.ref_ptr; ghost_name = _; now = c.args.new.now })
+          c.tidy_with_keys.result.2 _ (search rules) untouched.1,
     ))
 
 pub returns-then-is_tidy-clause-words : goal.returns-then-is_tidy-clause-words

@@ -11,23 +11,23 @@ use Rattle.ov_tidying.proofs.Shorter.{tidies_of}
 use Rattle.ov_tidying.specs.Promises.{EndsOnBoth}
 use Rattle.ov_tidying.proofs.tidying.tidy_over.Goals as goal
 
-pub tidy_store-requires : goal.tidy_store-requires
-tidy_store-requires g c = c.in-Ok.ensures.opened.keys_are
+pub tidy_store-code-requires : goal.tidy_store-code-requires
+tidy_store-code-requires g c = c.in-Ok.ensures.opened.keys_are
 
 pub returns-in-Ok-clause-tells : goal.returns-in-Ok-clause-tells
 returns-in-Ok-clause-tells g c = λ i read j read_new p h right keeps.
     let opened = c.in-Ok.ensures.opened in
-    tidies_of g.E.Disk.tells (plain_masters c.args.masters) p h right c.tidy_store.result.0 _ _
-    c.args.new c.tidy_store.result.1 c.in-Ok.store.keys opened.keys_are _ _
+    tidies_of g.E.Disk.tells (plain_masters c.args.masters) p h right c.tidy_store-code.result.0 _ _
+    c.args.new c.tidy_store-code.result.1 c.in-Ok.store.keys opened.keys_are _ _
     (⊎_elim (λ out. inl out)
     (λ disks. inr (⊎_elim
     (λ (rose : Rose (g.D.Disk.tells.faults c.in-Ok.store.disk)
-    (g.D.Disk.tells.faults c.tidy_store.new.old.disk)).
+    (g.D.Disk.tells.faults c.tidy_store-code.new.old.disk)).
     inl (subst (λ (d : g.row.D.Denot).
     Rose (g.D.Disk.tells.faults c.args.old) (g.D.Disk.tells.faults d)) (sym c.close.ensures)
     (omega (arith, c.in-Ok.ensures.call.later, rose))))
     (λ rose. inr rose) disks)))
-    (c.tidy_store.ensures.made h (opened.each i read p h right keeps) i (opened.same i read) j
+    (c.tidy_store-code.ensures.made h (opened.each i read p h right keeps) i (opened.same i read) j
     read_new)
 
 pub returns-in-Err-clause-tells : goal.returns-in-Err-clause-tells
@@ -46,8 +46,8 @@ returns-in-Err-clause-tells g c = λ i read j read_new p h right keeps.
 pub returns-in-Ok-clause-image : goal.returns-in-Ok-clause-image
 returns-in-Ok-clause-image g c = λ i read.
     let opened = c.in-Ok.ensures.opened in (
-      judged_open (plain_masters c.args.masters) i _ _ c.tidy_store.result.0 (opened.opens i read)
-          (c.tidy_store.ensures.opened i (opened.same i read)),
+      judged_open (plain_masters c.args.masters) i _ _ c.tidy_store-code.result.0 (opened.opens i read)
+          (c.tidy_store-code.ensures.opened i (opened.same i read)),
       λ none. absurd (none (opened.opens i read)),
     )
 
@@ -64,18 +64,18 @@ returns-in-Ok-clause-quiet g c =
     (sym c.close.ensures)
     (both_quiet g.D.Disk.tells (keys_of (plain_masters c.args.masters))
     c.in-Ok.store.catalogue.mode c.args.old c.in-Ok.store.disk
-    c.tidy_store.new.old.disk c.in-Ok.ensures.quiet
-    c.tidy_store.ensures.stays.untouched.any_moment)
+    c.tidy_store-code.new.old.disk c.in-Ok.ensures.quiet
+    c.tidy_store-code.ensures.stays.untouched.any_moment)
 
 pub returns-in-Ok-clause-causes : goal.returns-in-Ok-clause-causes
 returns-in-Ok-clause-causes g c =
     subst (λ (d : g.row.D.Denot). EndsOnBoth g.D.Disk.tells g.E.Disk.tells c.args.old d c.args.new
-    c.tidy_store.result.1 c.tidy_store.result.0 ⊥
-    (Rose (g.O.Sink.tells.faults c.args.out.now) (g.O.Sink.tells.faults c.tidy_store.new.out)))
+    c.tidy_store-code.result.1 c.tidy_store-code.result.0 ⊥
+    (Rose (g.O.Sink.tells.faults c.args.out.now) (g.O.Sink.tells.faults c.tidy_store-code.new.out)))
     (sym c.close.ensures)
     (both_then g.D.Disk.tells g.E.Disk.tells c.args.old c.in-Ok.store.disk
-    c.tidy_store.new.old.disk c.args.new c.tidy_store.result.1 _ c.tidy_store.result.0 _
-    c.in-Ok.ensures.call c.tidy_store.ensures.causes)
+    c.tidy_store-code.new.old.disk c.args.new c.tidy_store-code.result.1 _ c.tidy_store-code.result.0 _
+    c.in-Ok.ensures.call c.tidy_store-code.ensures.causes)
 
 pub returns-in-Err-clause-causes : goal.returns-in-Err-clause-causes
 returns-in-Err-clause-causes g c =

@@ -1,4 +1,4 @@
-use Rattle.std.proofs.Common.{rules, ◌≡◌, ◌∙◌, ◌⊎◌, Err, ap, arith, inl, inr, refl, subst, sym}
+use Rattle.std.proofs.Common.{rules, ℕ, ◌≡◌, ◌∙◌, ◌⊎◌, Err, List, ap, arith, inl, inr, refl, subst, sym}
 use Rattle.ov_base.specs.declared.key.Key.{Key}
 use Rattle.ov_history.specs.Catalogue.{Catalogue}
 use Rattle.ov_images.specs.Images.{Keys}
@@ -7,6 +7,7 @@ use Rattle.ov_replaying.proofs.Endings.{disk_call, fault_call, fault_line_found,
 use Rattle.ov_replaying.proofs.Stores.{stays_for, stays_then, told_fault}
 use Rattle.ov_tidying.proofs.Endings.{both_then, fault_by, fault_early, fault_on_both}
 use Rattle.ov_tidying.proofs.Reread.{keys_stay, made_then, thinned_then}
+use Rattle.ov_tidying.specs.Taking.{KeepsPlaces}
 use Rattle.ov_tidying.proofs.tidying.tidy_store.Goals as goal
 
 pub kept_of-requires : goal.kept_of-requires
@@ -26,14 +27,18 @@ write_store-requires-clause-few g c =
 pub write_store-requires-clause-thinned : goal.write_store-requires-clause-thinned
 write_store-requires-clause-thinned g c =
     thinned_then g.D.Disk.tells g.E.Disk.tells c.args.old.now c.kept_of.new.store _
-    c.in-Ok.ensures.stays c.in-Ok.kept.items c.in-Ok.ensures.kept c.known.ensures.0
-    c.known.ensures.1
+    c.in-Ok.ensures.stays c.deref.result.now
+    (subst (λ (places : List ℕ). KeepsPlaces g.D.Disk.tells c.args.old.now places)
+    (sym c.deref.ensures.value) c.in-Ok.ensures.kept)
+    c.known.ensures.0 c.known.ensures.1
 
 pub returns-in-Ok-clause-made : goal.returns-in-Ok-clause-made
 returns-in-Ok-clause-made g c =
     made_then g.D.Disk.tells g.E.Disk.tells c.args.old.now c.kept_of.new.store _
-    c.in-Ok.ensures.stays c.in-Ok.kept.items c.in-Ok.ensures.kept c.write_store.new.old c.args.new
-    c.write_store.result.1 c.write_store.result.0 _ _ _ c.write_store.ensures.made
+    c.in-Ok.ensures.stays c.deref.result.now
+    (subst (λ (places : List ℕ). KeepsPlaces g.D.Disk.tells c.args.old.now places)
+    (sym c.deref.ensures.value) c.in-Ok.ensures.kept)
+    c.write_store.new.old c.args.new c.write_store.result.1 c.write_store.result.0 _ _ _ c.write_store.ensures.made
 
 pub returns-in-Err-clause-made : goal.returns-in-Err-clause-made
 returns-in-Err-clause-made g c = λ h serves i read j read_new.

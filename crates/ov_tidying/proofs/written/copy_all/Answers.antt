@@ -1,4 +1,4 @@
-use Rattle.std.proofs.Common.{◌≡◌, ◌∙◌, ◌⊎◌, ap, arith, inl, refl, sym}
+use Rattle.std.proofs.Common.{◌≡◌, ◌∙◌, ◌⊎◌, Err, ap, arith, inl, length, refl, sym}
 use Rattle.ov_base.specs.Causes.{Rose}
 use Rattle.ov_history.proofs.Showing.{history_is_shown}
 use Rattle.ov_history.specs.Catalogue.{Catalogue}
@@ -13,9 +13,9 @@ returns-in-Ok-clause-copied g c = λ h serves thin i read.
     let then = c.copy.ensures.served h serves in
     let shown = history_is_shown c.copy.new.old.keys.surface c.copy.new.old.catalogue h then.catalogue in
     whole_ends _ _ c.put_tidied.result g.E.Disk.tells h kept c.copy.new.new c.updates.result
-    c.len.result c.epoch.result
+    (length kept) c.epoch.result
     (c.updates.ensures.count h then i (c.copy.ensures.untouched.reads_same ∙ read))
-    c.len.ensures
+    refl
     (c.epoch.ensures ∙ ap (λ (x : Catalogue). x.epoch) c.state.ensures ∙ shown.epoch)
     c.put_tidied.ensures.ends (c.in-Ok.ensures.copied h serves thin i read)
 
@@ -64,5 +64,5 @@ pub returns-in-Err-clause-causes : goal.returns-in-Err-clause-causes
 returns-in-Err-clause-causes g c =
     fault_causes _ _ c.put_fault.result _ _ c.put_fault.ensures.put.write c.fault_of.result
     (λ failed. c.in-Err.ensures.causes
-    (ap _ (call_failed c.in-Err.fault c.fault_of.result c.fault_of.ensures failed)))
+    (ap Err (call_failed c.in-Err.fault c.fault_of.result c.fault_of.ensures failed)))
     c.put_fault.ensures.ends

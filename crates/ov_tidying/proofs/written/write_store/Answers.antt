@@ -1,4 +1,4 @@
-use Rattle.std.proofs.Common.{rules, ◌≡◌, ◌∙◌, ◌-◌, ◌⊎◌, ap, arith, inl, inr, refl, subst, sym}
+use Rattle.std.proofs.Common.{rules, ◌≡◌, ◌∙◌, ◌-◌, ◌⊎◌, ap, arith, inl, inr, length, refl, subst, sym}
 use Rattle.ov_base.specs.Causes.{Rose}
 use Rattle.ov_disk.specs.Disk.{Told}
 use Rattle.ov_history.specs.Catalogue.{Catalogue}
@@ -22,7 +22,9 @@ copy_all-code-requires-clause-whole g c = c.in-Ok.ensures.begun.new.1
 pub copy_all-code-requires-clause-begins : goal.copy_all-code-requires-clause-begins
 copy_all-code-requires-clause-begins g c =
     begins_for g.D.Disk.tells g.E.Disk.tells c.args.old.now c.args.kept.now c.mode-mode.result
-    c.first.result (search rules) (search rules) c.in-Ok.store c.in-Ok.ensures.begun.serves
+    (c.epoch.result - length c.args.kept.now) (c.mode-mode.ensures ∙ ap (λ (x : Catalogue). x.mode) c.state.ensures)
+    (ap (λ n. n - length c.args.kept.now)
+    (c.epoch.ensures ∙ ap (λ (x : Catalogue). x.epoch) c.state-2.ensures)) c.in-Ok.store c.in-Ok.ensures.begun.serves
 
 pub returns-in-Ok-clause-made : goal.returns-in-Ok-clause-made
 returns-in-Ok-clause-made g c =
@@ -31,11 +33,13 @@ returns-in-Ok-clause-made g c =
     ap (λ b. keys b c.args.masters.now.surface.bytes) c.base_check_of-base_check.ensures
     ∙ sym c.requires.keys in
     copied_made g.D.Disk.tells g.E.Disk.tells c.args.old.now c.args.kept.now c.mode-mode.result
-    c.first.result (search rules) (search rules) c.args.old.now.keys c.args.new _ _
+    (c.epoch.result - length c.args.kept.now) (c.mode-mode.ensures ∙ ap (λ (x : Catalogue). x.mode) c.state.ensures)
+    (ap (λ n. n - length c.args.kept.now)
+    (c.epoch.ensures ∙ ap (λ (x : Catalogue). x.epoch) c.state-2.ensures)) c.args.old.now.keys c.args.new _ _
     c.copy_all-code.result _ (λ six. inl (c.copy_all-code.ensures.causes.write six)) c.in-Ok.store
     c.copy_all-code.new.new c.close.result c.close.ensures (c.in-Ok.ensures.begun.new.0 ∙ same)
     c.copy_all-code.ensures.call.0
-    (subst (λ (k : Keys). LeavesBlank g.E.Disk.tells k c.mode-mode.result c.first.result c.args.new
+    (subst (λ (k : Keys). LeavesBlank g.E.Disk.tells k c.mode-mode.result (c.epoch.result - length c.args.kept.now) c.args.new
     c.in-Ok.store.disk) same c.in-Ok.ensures.any_moment)
     c.in-Ok.ensures.begun.told c.copy_all-code.ensures.told c.in-Ok.ensures.begun.unborn
     c.copy_all-code.ensures.copied c.copy_all-code.ensures.any_moment
@@ -48,10 +52,12 @@ returns-in-Err-clause-made g c =
     ap (λ b. keys b c.args.masters.now.surface.bytes) c.base_check_of-base_check.ensures
     ∙ sym c.requires.keys in
     unbegun_made g.D.Disk.tells g.E.Disk.tells c.args.old.now c.args.kept.now c.mode-mode.result
-    c.first.result (search rules) (search rules) c.args.old.now.keys c.args.new _ _
+    (c.epoch.result - length c.args.kept.now) (c.mode-mode.ensures ∙ ap (λ (x : Catalogue). x.mode) c.state.ensures)
+    (ap (λ n. n - length c.args.kept.now)
+    (c.epoch.ensures ∙ ap (λ (x : Catalogue). x.epoch) c.state-2.ensures)) c.args.old.now.keys c.args.new _ _
     c.put_not_begun.result _ (λ six. inl (c.put_not_begun.ensures.put.write six))
     c.in-Err.refused.disk
-    (subst (λ (k : Keys). LeavesBlank g.E.Disk.tells k c.mode-mode.result c.first.result c.args.new
+    (subst (λ (k : Keys). LeavesBlank g.E.Disk.tells k c.mode-mode.result (c.epoch.result - length c.args.kept.now) c.args.new
     c.in-Err.refused.disk) same c.in-Err.ensures.any_moment)
     c.in-Err.refused.fault c.in-Err.ensures.fault c.put_not_begun.ensures.ends
     (λ failed. inr (inr (c.in-Err.ensures.call.rose failed)))
