@@ -10,7 +10,7 @@ use Rattle.ov_tidying.proofs.thinned.kept_of.Goals as goal
 pub take_all-requires-clause-none : goal.take_all-requires-clause-none
 take_all-requires-clause-none g c =
     begins_each g.D.Disk.tells c.args.store.now c.mode.result
-    (c.epoch.result - c.updates-updates.result) c.in_ok-new.thin (search rules) (search rules)
+    (c.epoch.result - c.updates-updates.result) c.in_ok-thin.thin (search rules) (search rules)
     (λ h serves i read. let many = c.updates-updates.ensures.count h serves i read in search rules)
 
 pub returns-clause-kept : goal.returns-clause-kept

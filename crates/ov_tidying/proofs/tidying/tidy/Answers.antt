@@ -11,9 +11,7 @@ use Rattle.ov_tidying.proofs.tidying.tidy.Goals as goal
 
 pub returns-then-is_tidy-clause-tells : goal.returns-then-is_tidy-clause-tells
 returns-then-is_tidy-clause-tells g c =
-    lent_tells g.D.Disk.tells g.E.Disk.tells
-    (record { ref_ptr = c.args.old.ref_ptr; ghost_name = _; now = c.args.old.now })
-    c.tidy_with_keys.result.1 _ (search rules)
+    lent_tells g.D.Disk.tells g.E.Disk.tells c.args.old c.tidy_with_keys.result.1 _ (search rules)
     (record { ref_ptr = c.args.new.ref_ptr; ghost_name = _; now = c.args.new.now })
     c.tidy_with_keys.result.2 _ (search rules) _ (g.K.Source.tells.left c.args.keys.now)
     c.tidy_with_keys.result.0 _ _ _ _ c.tidy_with_keys.ensures.tells
