@@ -84,6 +84,20 @@ def shown(data):
     return b"  %s in all\n" % sum_of(data).encode()
 
 
+def changed(data, how, rest):
+    """Changes the bytes of an area in one of four ways."""
+    if how == "=":
+        place, byte = map(int, rest.split(" "))
+        data[place] = byte
+    elif how == "*":
+        count, byte = map(int, rest.split(" "))
+        data += bytes([byte]) * count
+    elif how == "<":
+        del data[int(rest) :]
+    else:
+        data += text_of(rest)
+
+
 def rising(count):
     return bytes((place + 1) % 256 for place in range(count))
 
@@ -136,6 +150,21 @@ class Reference:
         return status, bytes(lines.data), bytes(frames.data), device
 
 
+    def tidied(self, words, case, lines, fresh):
+        """The status of a shorter store, on a disk that is handed in."""
+        if "keys" in case.fails and self.run.read_words(words, self.stage):
+            lines.put(b"error read\n")
+            return 5
+        device = self.image.Device(case.book, case.blobs)
+        try:
+            made = self.run.run(
+                words, case.keys, b"", stage=self.stage.number, device=device, fresh=fresh, on_out=lines.put
+            )
+        except self.run.WriteFault:
+            return 6
+        return made.status
+
+
 class Sink:
     """Takes bytes, and fails at one of its calls."""
 
@@ -161,6 +190,7 @@ class Case:
         self.script, self.is_asked, self.keys, self.piece = bytearray(), False, KEYS, piece
         self.repeats, self.fails = 0, {}
         self.set_disk(b"", b"")
+        self.set_other(b"", b"")
 
     def to_script(self):
         """The script, which the first line after a call begins."""
@@ -171,6 +201,10 @@ class Case:
     def set_disk(self, book, blobs):
         self.book, self.blobs = book, blobs
         self.log, self.before, self.asked = [], (book, blobs), b""
+
+    def set_other(self, book, blobs):
+        """The disk that takes a shorter store."""
+        self.other_book, self.other_blobs = book, blobs
 
 
 class Replies:
@@ -234,6 +268,18 @@ class Replies:
         sums = status, sum_of(frames), sum_of(case.book), sum_of(case.blobs)
         self.out += ("  status %d, frames %s, book %s, blobs %s\n" % sums).encode()
         case.is_asked, case.fails = True, {}
+
+    def tidy(self, line):
+        """A shorter store of the case's disk on the other one."""
+        case = self.case
+        lines = Sink(self.reference.run.WriteFault, case.fails.get("lines"))
+        fresh = self.reference.image.Device(case.other_book, case.other_blobs)
+        status = self.reference.tidied(line.split(" "), case, lines, fresh)
+        case.set_other(fresh.book, fresh.blobs)
+        self.out += b"%s\n%s" % (line.encode(), shown(bytes(lines.data)))
+        sums = status, sum_of(case.book), sum_of(case.blobs), sum_of(fresh.book), sum_of(fresh.blobs)
+        self.out += ("  status %d, book %s, blobs %s\n  new book %s, new blobs %s\n" % sums).encode()
+        case.fails = {}
 
     def modes(self):
         for mode in ("full", "delta"):
@@ -323,6 +369,8 @@ class Replies:
             data = getattr(case, word[:-1])
             said = word[:-1].encode(), len(data), data[-20:].hex().encode()
             self.out += b"%s has %d bytes, and ends with %s\n" % said
+        elif word == "tidy":
+            self.tidy(line)
         elif word in by_word:
             by_word[word](rest)
         else:
@@ -393,18 +441,14 @@ class Replies:
 
     def set_area(self, name, how, rest):
         data = bytearray(getattr(self.case, name))
-        if how == "=":
-            place, byte = map(int, rest.split(" "))
-            data[place] = byte
-        elif how == "*":
-            count, byte = map(int, rest.split(" "))
-            data += bytes([byte]) * count
-        elif how == "<":
-            del data[int(rest) :]
-        else:
-            data += text_of(rest)
+        changed(data, how, rest)
         areas = {"book": self.case.book, "blobs": self.case.blobs, name: bytes(data)}
         self.case.set_disk(areas["book"], areas["blobs"])
+
+    def set_other_book(self, how, rest):
+        case, data = self.case, bytearray(self.case.other_book)
+        changed(data, how, rest)
+        case.set_other(bytes(data), case.other_blobs)
 
     def script_step(self, word, rest):
         """What a line adds to the script, or None."""
@@ -441,6 +485,11 @@ class Replies:
             case.set_disk(b"", b"")
         elif word == "synced":
             case.set_disk(case.book, case.blobs)
+        elif word == "in-place":
+            case.set_disk(case.other_book, case.other_blobs)
+            case.set_other(b"", b"")
+        elif area == "other-book":
+            self.set_other_book(word[len(area) :], rest)
         elif area in ("book", "blobs"):
             self.set_area(area, word[len(area) :], rest)
         else:

@@ -9,6 +9,9 @@ older copy of both store files, and bytes that were sent before aren't needed. B
 tag of the record, and so are those that were sent; NAME.EPOCH and NAME are looked at first. Where those of an update
 aren't in FILES there is no script, and standard error names each such update.
 
+A store that `overstore tidy` wrote begins at a later epoch than 0, where no new store begins: for its book FROM is
+needed, and not before that epoch.
+
 Run over a new folder, or over a copy of the epoch FROM, the script makes the same store again: `cmp` finds its
 store.book equal to BOOK, if BOOK is of the newer format. `make -C dist install` installs it as
 overstore-script-of-book.
@@ -78,6 +81,11 @@ def base_master(path, book):
     return base
 
 
+def first_epoch(book):
+    """The epoch at which the store began, by the header."""
+    return int.from_bytes(book[10:14], "big")
+
+
 def items(base, book, origin, folder, first):
     """The line of each update behind an epoch, and where the bytes behind it are, or None where it has none. How many
     updates lack their bytes is said at the end."""
@@ -106,7 +114,10 @@ def main():
     if rest and not rest[0].isdecimal():
         end(BAD_WORDS, f"{rest[0]} is no epoch: FROM is a decimal number")
     book, folder = read(origin), Folder(pathlib.Path(root))
-    found = list(items(base_master(keys, book), book, origin, folder, int(rest[0]) if rest else 0))
+    base, first, begun = base_master(keys, book), int(rest[0]) if rest else 0, first_epoch(book)
+    if first < begun:
+        end(BAD_INPUT, f"{origin} begins at epoch {begun}: put a copy of both store files in place, and name its epoch as FROM")
+    found = list(items(base, book, origin, folder, first))
     for line, path in found:
         sys.stdout.buffer.write(line.encode() + b"\n" + (read(path) + b"\n" if path else b""))
 

@@ -52,7 +52,7 @@ def with_reference(parser, **more):
         help="has the package `oracle`, the independent reference",
         **more,
     )
-    parser.add_argument("--stage", type=int, default=18, help="which of its stages the program is at (18)")
+    parser.add_argument("--stage", type=int, default=20, help="which of its stages the program is at (20)")
 
 
 def with_jobs(parser):

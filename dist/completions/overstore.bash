@@ -2,7 +2,7 @@
 _overstore() {
     local word=${COMP_WORDS[COMP_CWORD]} words=
     case $COMP_CWORD,${COMP_WORDS[1]} in
-        1,*) words='run load audit --quiet --help --version' ;;
+        1,*) words='run load audit tidy --quiet --help --version' ;;
         2,run | 2,load) words='full delta' ;;
         2,--quiet) words=run ;;
         3,audit) words=server ;;

@@ -3,7 +3,7 @@
 
 local -a options numbers
 local behind='2:mode:((full\:"each file has a surface" delta\:"a file has one where more hold its key"))'
-local commands='1:command:((run\:"answer a script on standard input" load\:"answer the commands of a workload" audit\:"print what users could ever have read"))'
+local commands='1:command:((run\:"answer a script on standard input" load\:"answer the commands of a workload" audit\:"print what users could ever have read" tidy\:"write a shorter store beside the store"))'
 if (( CURRENT == 2 )); then
     options=(
         '(- *)--help[print a summary]'

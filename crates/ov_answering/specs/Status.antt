@@ -5,7 +5,7 @@ use Rattle.ov_answering.specs.declared.status.Status.TheVariants.{Done, Usage, B
 use Rattle.ov_answering.specs.declared.status.Status.TheVariants.{ReadFault, WriteFault}
 use Rattle.ov_answering.specs.declared.status.Status.TheVariants.{OutOfMemory, NotAStore}
 use Rattle.ov_answering.specs.declared.status.Status.TheVariants.{OtherStore, BadKeys, Long}
-use Rattle.ov_answering.specs.declared.status.Status.TheVariants.{WrongTag}
+use Rattle.ov_answering.specs.declared.status.Status.TheVariants.{WrongTag, NotEmpty}
 
 -- the number with which a run ends
 abbrev pub status_code : Status → ℕ
@@ -21,3 +21,4 @@ status_code OtherStore = 9
 status_code BadKeys = 10
 status_code Long = 11
 status_code WrongTag = 12
+status_code NotEmpty = 14

@@ -30,6 +30,8 @@ pub enum Status {
     Long,
     /// The tag of a file that was read is wrong.
     WrongTag,
+    /// The disk that is to take a new store isn't empty.
+    NotEmpty,
 }
 
 impl Status {
@@ -50,6 +52,7 @@ impl Status {
             Status::BadKeys => 10,
             Status::Long => 11,
             Status::WrongTag => 12,
+            Status::NotEmpty => 14,
         }
     }
 
@@ -71,6 +74,7 @@ impl Status {
             10 => Some(Status::BadKeys),
             11 => Some(Status::Long),
             12 => Some(Status::WrongTag),
+            14 => Some(Status::NotEmpty),
             _ => None,
         }
     }

@@ -19,6 +19,8 @@ pub enum Stage {
     Load,
     /// The program was asked for an audit.
     Audit,
+    /// The program was asked for a shorter store.
+    Tidy,
     /// The program had put no reply.
     Unanswered,
     /// The program had put replies.
@@ -26,7 +28,8 @@ pub enum Stage {
 }
 
 const WORDS: &str = "unknown words; use `overstore run full`, `overstore run delta`, \
-    `overstore load full|delta NUMBER COUNT`, `overstore audit LIST [server]` or `overstore --help`";
+    `overstore load full|delta NUMBER COUNT`, `overstore audit LIST [server]`, `overstore tidy` or \
+    `overstore --help`";
 
 const QUIET_WORD: &str = "`--quiet` stands before `run`, and nowhere else: \
     `overstore --quiet run full`";
@@ -36,6 +39,8 @@ const LOAD_WORDS: &str = "unknown words behind `load`; it takes full or delta, a
 
 const AUDIT_WORDS: &str = "unknown words behind `audit`; it takes a list of names, with one comma \
     between two, and then nothing or `server`";
+
+const TIDY_WORDS: &str = "unknown words behind `tidy`, which takes none";
 
 const BAD_LINE: &str = "standard output names a bad line of the script, where one command stands \
     on each line: `enrol USER`, `list FILE`, `read USER FILE`, `grant USER FILE`, \
@@ -55,7 +60,13 @@ const LOAD_DISK: &str = "store.book or store.blobs failed or is in use; what the
 const AUDIT_DISK: &str = "store.book or store.blobs failed or is in use; nothing was changed; run \
     the audit again";
 
+const TIDY_DISK: &str =
+    "a file of the store or of the new one failed or is in use; the store is as it \
+    was; remove tidy.book and tidy.blobs, and run again";
+
 const NOTHING_CHANGED: &str = "nothing was changed";
+
+const STORE_LASTS: &str = "the store is as it was";
 
 const LOAD_LASTS: &str = "what the load did before lasts";
 
@@ -102,6 +113,10 @@ const LOAD_WRITE: &str = "writing the lines or trace.bin failed; what the load d
 
 const AUDIT_WRITE: &str = "writing the findings failed; nothing was changed; run the audit again";
 
+const TIDY_WRITE: &str =
+    "writing the lines failed; the new store may be whole all the same; remove \
+    tidy.book and tidy.blobs, and run again";
+
 const READER_IS_GONE: &str = "whoever read the replies closed their end; what was put lasts; ask \
     for the epoch, and run the rest";
 
@@ -138,6 +153,14 @@ const LOAD_MEMORY: &str = "the system refused memory; what the load did before l
 const AUDIT_MEMORY: &str = "the system refused memory; nothing was changed; free some, and run the \
     audit again";
 
+const TIDY_MEMORY: &str = "the system refused memory; the store is as it was; free some, remove \
+    tidy.book and tidy.blobs, and run again";
+
+const NOT_EMPTY: &str =
+    "there is a tidy.book in this folder that isn't empty; the store is as it was; \
+    remove tidy.book and tidy.blobs, unless they are the shorter store that you want to put in place, \
+    and run again";
+
 const NOT_A_STORE: &str = "store.book is damaged or no store, or store.blobs is damaged; before \
     you put copies of both in place read Restoring in OPERATING.md";
 
@@ -159,6 +182,7 @@ fn on_words(stage: Stage) -> &'static str {
         Stage::Quiet => QUIET_WORD,
         Stage::Load => LOAD_WORDS,
         Stage::Audit => AUDIT_WORDS,
+        Stage::Tidy => TIDY_WORDS,
         _ => WORDS,
     }
 }
@@ -180,22 +204,25 @@ fn on_write(stage: Stage, reader_is_gone: bool) -> &'static str {
         (Stage::Load, false) => LOAD_WRITE,
         (Stage::Load, true) => LOAD_READER_IS_GONE,
         (Stage::Audit, _) => AUDIT_WRITE,
+        (Stage::Tidy, _) => TIDY_WRITE,
         (_, false) => WRITE,
         (_, true) => READER_IS_GONE,
     }
 }
 
-// The one of four texts that is right there.
+// The one of five texts that is right there.
 fn by_work(
     stage: Stage,
     load: &'static str,
     audit: &'static str,
+    tidy: &'static str,
     at_first: &'static str,
     behind_some: &'static str,
 ) -> &'static str {
     match stage {
         Stage::Load => load,
         Stage::Audit => audit,
+        Stage::Tidy => tidy,
         Stage::Answered => behind_some,
         _ => at_first,
     }
@@ -248,6 +275,7 @@ pub fn what_lasts(stage: Stage) -> &'static str {
         stage,
         LOAD_LASTS,
         NOTHING_CHANGED,
+        STORE_LASTS,
         NOTHING_LASTS,
         ANSWERS_LAST,
     )
@@ -259,13 +287,21 @@ pub fn advice_on(status: Status, stage: Stage, reader_is_gone: bool) -> Option<&
         Status::Done => None,
         Status::Usage => Some(on_words(stage)),
         Status::BadLine => Some(BAD_LINE),
-        Status::DiskFault => Some(by_work(stage, LOAD_DISK, AUDIT_DISK, DISK_AT_FIRST, DISK)),
+        Status::DiskFault => Some(by_work(
+            stage,
+            LOAD_DISK,
+            AUDIT_DISK,
+            TIDY_DISK,
+            DISK_AT_FIRST,
+            DISK,
+        )),
         Status::ReadFault => Some(on_read(stage)),
         Status::WriteFault => Some(on_write(stage, reader_is_gone)),
         Status::OutOfMemory => Some(by_work(
             stage,
             LOAD_MEMORY,
             AUDIT_MEMORY,
+            TIDY_MEMORY,
             MEMORY_AT_FIRST,
             MEMORY,
         )),
@@ -274,5 +310,6 @@ pub fn advice_on(status: Status, stage: Stage, reader_is_gone: bool) -> Option<&
         Status::BadKeys => Some(BAD_KEYS),
         Status::Long => Some(LONG),
         Status::WrongTag => Some(WRONG_TAG),
+        Status::NotEmpty => Some(NOT_EMPTY),
     }
 }

@@ -6,7 +6,8 @@
 //! real sources, sinks and disk, calls it, and ends with the status that it gives.
 //! `overstore load` answers the commands of a stated workload in a script's place, by [`load`],
 //! and prints their counts and one hash of their replies. `overstore audit` prints which files some
-//! users could ever have read, by [`audit`], and changes nothing.
+//! users could ever have read, by [`audit`], and changes nothing. `overstore tidy` writes a shorter
+//! store beside the store, by [`tidy`], and leaves the store as it is.
 //!
 //! Owner, server and readers are parties of their own in one process. They ask each other by
 //! frames, and each frame is put to the trace, the file `trace.bin`.
@@ -41,6 +42,7 @@ use ov_load::load;
 use ov_report::put_memory;
 use ov_retry::Retrying;
 use ov_run::{Tried, Watched, run};
+use ov_tidying::tidy;
 use progress::Counted;
 use recent::Recent;
 use std::alloc::Global;
@@ -49,8 +51,8 @@ use std::io::{ErrorKind, IsTerminal, Write};
 use std::process::ExitCode;
 use texts::{HELP, VERSION};
 use told::{
-    BLOBS_FILE, BOOK_FILE, KEY_FILE, TRACE_FILE, explain, explain_line, is_older_store, new_store,
-    no_places, open_keys,
+    BLOBS_FILE, BOOK_FILE, KEY_FILE, NEW_BLOBS_FILE, NEW_BOOK_FILE, TRACE_FILE, explain,
+    explain_line, is_older_store, new_store, no_places, open_keys,
 };
 
 // The word that a run without a count of replies begins with.
@@ -94,6 +96,8 @@ fn stage_by_words(words: &[String], answered: bool) -> Stage {
         Stage::Load
     } else if is_first("audit", words) {
         Stage::Audit
+    } else if is_first("tidy", words) {
+        Stage::Tidy
     } else if answered {
         Stage::Answered
     } else {
@@ -114,15 +118,28 @@ type StoreDisk = FileDisk<OwnFiles<HostRuntime>>;
 
 type TraceSink = FileSink<OwnFiles<HostRuntime>>;
 
-// The files of the folder: the key file, the store's two, and the trace.
-fn files_of(
-    rt: HostRuntime,
-) -> Result<(Tried<FileSource<HostRuntime>>, StoreDisk, TraceSink), Memory> {
+// The files of the folder: the key file, the store's two, the trace, and the two of a shorter store.
+#[derive(Drop)]
+struct Files {
+    keys: Tried<FileSource<HostRuntime>>,
+    disk: StoreDisk,
+    new: StoreDisk,
+    trace: TraceSink,
+}
+
+// The files by their names. None is opened yet.
+fn files_of(rt: HostRuntime) -> Result<Files, Memory> {
     let keys = Tried::new(FileSource::new(rt, KEY_FILE)?);
     let own = OwnFiles::beside(rt, KEY_FILE);
     let disk = FileDisk::new(own, BOOK_FILE, BLOBS_FILE)?;
+    let new = FileDisk::new(own, NEW_BOOK_FILE, NEW_BLOBS_FILE)?;
     let trace = FileSink::new(own, TRACE_FILE)?;
-    Ok((keys, disk, trace))
+    Ok(Files {
+        keys,
+        disk,
+        new,
+        trace,
+    })
 }
 
 /// How the program ended: its status, where it was then, whether a reply couldn't be put, and which
@@ -182,26 +199,65 @@ fn audit_store<W: Write>(
     audit(alloc, words, keys, out, disk)
 }
 
-// Calls `load`, `audit` or, with all other words, `run`: the status, and which line of the script
-// was bad.
-fn answer<W: Write>(
+// Calls `tidy`. Where no store was begun it looks at an empty disk in memory too.
+fn tidy_store<W: Write>(
     rt: &HostRuntime,
     words: &[String],
     keys: &mut Tried<FileSource<HostRuntime>>,
     out: &mut Counted<StdSink<&mut Watched<W>>>,
-    trace: &mut Frames<TraceSink>,
     disk: &mut StoreDisk,
-) -> (u8, Option<(u64, Lack)>) {
+    new: &mut StoreDisk,
+) -> u8 {
     let alloc = rt.alloc();
-    if is_first("load", words) {
-        return (load(alloc, words, keys, out, trace, disk), None);
+    if begins(rt, BOOK_FILE) {
+        return tidy(alloc, words, keys, out, &mut MemDisk::new(alloc), new);
+    }
+    tidy(alloc, words, keys, out, disk, new)
+}
+
+// Calls `load`, `audit`, `tidy` or, with all other words, `run`: the status, whether the key file
+// couldn't be read, and which line of the script was bad.
+fn answer<W: Write>(
+    rt: &HostRuntime,
+    words: &[String],
+    files: Files,
+    out: &mut Counted<StdSink<&mut Watched<W>>>,
+) -> (u8, bool, Option<(u64, Lack)>) {
+    let alloc = rt.alloc();
+    let Files {
+        mut keys,
+        mut disk,
+        mut new,
+        trace,
+    } = files;
+    if is_first("tidy", words) {
+        let code = tidy_store(rt, words, &mut keys, out, &mut disk, &mut new);
+        return (code, keys.failed(), None);
     }
     if is_first("audit", words) {
-        return (audit_store(rt, words, keys, out, disk), None);
+        let code = audit_store(rt, words, &mut keys, out, &mut disk);
+        return (code, keys.failed(), None);
+    }
+    let mut trace = Frames::new(trace, *rt, asks_for_older(rt, words, &mut disk));
+    if is_first("load", words) {
+        let code = load(alloc, words, &mut keys, out, &mut trace, &mut disk);
+        return (code, keys.failed(), None);
     }
     let mut script = Recent::new(alloc, StdSource::new(Retrying::new(rt.stdin())));
-    let code = run(alloc, words, keys, &mut script, out, trace, disk);
-    (code, bad_line_of(alloc, &script, out.bad_line()))
+    let code = run(
+        alloc,
+        words,
+        &mut keys,
+        &mut script,
+        out,
+        &mut trace,
+        &mut disk,
+    );
+    (
+        code,
+        keys.failed(),
+        bad_line_of(alloc, &script, out.bad_line()),
+    )
 }
 
 // Answers these words over the files of the folder.
@@ -213,17 +269,16 @@ fn answer_over_files<W: Write>(
 ) -> End {
     let no_store_before = begins(rt, BOOK_FILE);
     let mut out = Counted::new(StdSink::new(replies), *rt, shows);
-    let (mut keys, mut disk, trace) = match files_of(*rt) {
+    let files = match files_of(*rt) {
         Ok(files) => files,
         Err(Memory) => return end_at(put_memory(&mut out), stage_by_words(words, false)),
     };
-    let mut trace = Frames::new(trace, *rt, asks_for_older(rt, words, &mut disk));
-    let (code, bad_line) = answer(rt, words, &mut keys, &mut out, &mut trace, &mut disk);
+    let (code, keys_failed, bad_line) = answer(rt, words, files, &mut out);
     out.end();
     if no_store_before {
         new_store(rt);
     }
-    let stage = if keys.failed() {
+    let stage = if keys_failed {
         stage_by_keys(rt)
     } else {
         stage_by_words(words, out.answered())

@@ -5,6 +5,7 @@ pub const HELP: &str = "\
 Usage: overstore [--quiet] run full|delta < SCRIPT
        overstore load full|delta NUMBER COUNT
        overstore audit LIST [server]
+       overstore tidy
        overstore --help | -h | --version | -V
 
 Answers the script on standard input, one reply line for each command. In `full`
@@ -43,6 +44,11 @@ and its files until they are removed. Run it in an empty folder.
 everything, a line `exposed NUMBER FILE CAUSE EPOCH` each, and `end epoch EPOCH`; with
 `server`, which they could read with the help of the server. It changes nothing.
 
+`tidy` writes a shorter store to `tidy.book` and `tidy.blobs` in this folder: without
+the grants and revocations that undid each other, the bytes of files that are gone,
+and the older format. It prints `tidy OLD NEW`, how many updates both stores have, and
+`end epoch EPOCH`. It changes nothing of the store.
+
 Where standard error is a terminal and standard output isn't, `run` counts there
 the replies that were put, by thousands; with `--quiet` it doesn't. That word stands
 before `run`, and nowhere else.
@@ -51,7 +57,8 @@ The last line of `run` is `end epoch EPOCH`, or `error ..` where the script coul
 answered to its end. Exit status: 0 answered, 2 words not known, 3 bad line,
 4 disk failed, 5 read failed or no `keys.hex`, 6 write failed, 7 out of memory,
 8 the store's files are damaged or no store, 9 they are of other keys or the other mode,
-10 `keys.hex` is no key file, 11 script too long, 12 a file's tag is wrong.
+10 `keys.hex` is no key file, 11 script too long, 12 a file's tag is wrong,
+14 `tidy.book` isn't empty.
 ";
 
 /// What `--version` prints.

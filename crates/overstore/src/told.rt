@@ -19,6 +19,11 @@ pub const BOOK_FILE: &str = "store.book";
 
 pub const BLOBS_FILE: &str = "store.blobs";
 
+/// The files of a shorter store, which `tidy` makes in the same folder.
+pub const NEW_BOOK_FILE: &str = "tidy.book";
+
+pub const NEW_BLOBS_FILE: &str = "tidy.blobs";
+
 /// The frames between the parties, of the last run.
 pub const TRACE_FILE: &str = "trace.bin";
 
@@ -33,6 +38,8 @@ fn fault_beside(rt: &HostRuntime, path: &str) -> Option<FileFault> {
     match path {
         BOOK_FILE => fault_of(rt, path, &[KEY_FILE, BLOBS_FILE, TRACE_FILE]),
         BLOBS_FILE => fault_of(rt, path, &[KEY_FILE, BOOK_FILE, TRACE_FILE]),
+        NEW_BOOK_FILE => fault_of(rt, path, &[KEY_FILE, BOOK_FILE, BLOBS_FILE, NEW_BLOBS_FILE]),
+        NEW_BLOBS_FILE => fault_of(rt, path, &[KEY_FILE, BOOK_FILE, BLOBS_FILE, NEW_BOOK_FILE]),
         _ => fault_of(rt, path, &[KEY_FILE, BOOK_FILE, BLOBS_FILE]),
     }
 }
@@ -55,7 +62,10 @@ fn say_of_files(rt: &HostRuntime, paths: &[&str], stage: Stage) -> bool {
 // Says which file an end with this status is due to, where the system tells.
 fn names_file(rt: &HostRuntime, status: Status, stage: Stage, replies_failed: bool) -> bool {
     match status {
-        Status::DiskFault => say_of_files(rt, &[BOOK_FILE, BLOBS_FILE], stage),
+        Status::DiskFault => {
+            say_of_files(rt, &[BOOK_FILE, BLOBS_FILE], stage)
+                || stage == Stage::Tidy && say_of_files(rt, &[NEW_BOOK_FILE, NEW_BLOBS_FILE], stage)
+        }
         Status::WriteFault if stage != Stage::Telling && !replies_failed => {
             say_of_files(rt, &[TRACE_FILE], stage)
         }

@@ -40,17 +40,18 @@ pub struct Inputs {
     pub repeats: u32,
 }
 
-/// The inputs and the disk of the next call.
+/// The inputs and the disk of the next call, and the disk that takes a shorter store.
 #[derive(Drop)]
 pub struct Case {
     pub inputs: Inputs,
     pub is_asked: bool,
     pub fails: Fails,
     pub disk: MemDisk,
+    pub other: MemDisk,
 }
 
 impl Case {
-    /// No script, the usual key file, and a new disk. Sources give pieces of this length.
+    /// No script, the usual key file, and two new disks. Sources give pieces of this length.
     pub fn new(alloc: Global, piece: usize) -> Result<Case, AllocError> {
         let inputs = Inputs {
             script: Vec::new(alloc),
@@ -63,6 +64,7 @@ impl Case {
             is_asked: false,
             fails: Fails::none(),
             disk: MemDisk::new(alloc),
+            other: MemDisk::new(alloc),
         })
     }
 }

@@ -6,6 +6,7 @@ use crate::reading::says_disk_failed;
 use crate::recorder::Recorder;
 use crate::stops::{lines_over, tears};
 use crate::texts::number_of;
+use crate::tidying::{Side, wrong_tidies};
 use ov_disk::MemDisk;
 use std::alloc::Global;
 use std::test::Fail;
@@ -165,12 +166,26 @@ fn wrong_audits(alloc: Global, case: &Case, line: &str, count: u64) -> Result<u6
     Ok(wrong)
 }
 
-/// Prints how many of these runs, or audits, end otherwise than they should.
+// Of which disk the calls fail while a shorter store is made.
+fn side_of(word: &str) -> Option<Side> {
+    match word {
+        "old" => Some(Side::Old),
+        "new" => Some(Side::New),
+        _ => None,
+    }
+}
+
+/// Prints how many of these runs, audits, or shorter stores end otherwise than they should.
 pub fn print_each(rt: &HostRuntime, case: &Case, rest: &str) -> Result<(), Fail> {
     let alloc = rt.alloc();
     let (party, rest_of) = rest.split_once(' ').ok_or("disk, lines or frames")?;
     let (count, rest_of) = rest_of.split_once(' ').ok_or("a number of calls")?;
     let (kept, line) = rest_of.split_once(' ').ok_or("a number of bytes")?;
+    if let Some(side) = side_of(party) {
+        let wrong = wrong_tidies(alloc, case, side, number_of(count)?, line)?;
+        println!(rt; "each {rest}: {wrong} are wrong")?;
+        return Ok(());
+    }
     let each = Each {
         party: party_of(party)?,
         count: number_of(count)?,

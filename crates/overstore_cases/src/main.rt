@@ -1,4 +1,5 @@
-//! Cases: small files of scripts, disks and faults, and what `run`, `audit` and `load` make of them.
+//! Cases: small files of scripts, disks and faults, and what `run`, `audit`, `load` and `tidy` make
+//! of them.
 //!
 //! Each file of `data/` that `data/all` names is read line by line, and each line says one thing.
 //!
@@ -23,11 +24,15 @@
 //! | `book< length`, `blobs< ..` | cuts an area |
 //! | `book?`, `blobs?` | prints how long an area is, and its last bytes |
 //! | `run ..`, `audit ..`, `load ..` | makes this call, and prints its lines, its status, and what it left |
+//! | `tidy` | makes a shorter store on another disk, and prints its lines, its status, and what it left of both |
+//! | `other-book text` | appends to the Book of that disk, as `book text` does; so `other-book=`, .. |
+//! | `in-place` | puts that disk in the place of the first |
 //! | `modes` | the same as `run full` and `run delta`, each over a new disk |
 //! | `sizes count run ..` | runs it over a new disk with inputs in pieces of each size |
 //! | `stops count run ..` | runs it over what a stop leaves after each of the last calls, with each tear |
 //! | `each party count kept run ..` | runs it over a new disk for each of so many calls of the `disk`, the `lines` or the `frames`, which fails |
 //! | `each disk count 0 audit ..` | audits the disk for each of so many calls, which fails |
+//! | `each old count 0 run ..`, `each new ..` | makes a shorter store for each of so many calls of one of its disks, which fails, and runs it over what each tear leaves of the new disk |
 //! | `read-only audit ..` | audits a disk that can't be written |
 //! | `counted run ..` | runs it over such a disk, and prints how many calls that had |
 //! | `flips first place bits run ..` | runs it over such a disk, and once more where the first, or `last`, read of a byte of Book gives it with these bits changed |
@@ -55,6 +60,7 @@ mod sizes;
 mod steps;
 mod stops;
 mod texts;
+mod tidying;
 mod watched;
 
 use case::Case;

@@ -7,6 +7,7 @@ use crate::inputs::set_inputs;
 use crate::reading::{print_counted, print_flips, print_read};
 use crate::sizes::print_sizes;
 use crate::stops::print_stops;
+use crate::tidying::{print_tidied, put_in_place};
 use crate::watched::print_watched;
 use ov_disk::MemDisk;
 use std::alloc::Global;
@@ -40,6 +41,14 @@ fn begin(rt: &HostRuntime, case: &mut Case, title: &str) -> Result<(), Fail> {
 fn set_disk(alloc: Global, case: &mut Case, word: &str, rest: &str) -> Result<bool, Fail> {
     if word == "new" {
         case.disk = MemDisk::new(alloc);
+        return Ok(true);
+    }
+    if word == "in-place" {
+        put_in_place(alloc, case)?;
+        return Ok(true);
+    }
+    if let Some(how) = word.strip_prefix("other-book") {
+        case.other = with_book(alloc, &case.other, how, rest)?;
         return Ok(true);
     }
     if word == "synced" {
@@ -76,6 +85,7 @@ fn print(
         "counted" => print_counted(rt, case, rest),
         "flips" => print_flips(rt, case, rest),
         "watched" => print_watched(rt, rest),
+        "tidy" => print_tidied(rt, case, line),
         _ => call(rt, case, line),
     }
 }

@@ -1,0 +1,5 @@
+pub mod Lines
+pub mod Taking
+pub mod Shorter
+pub mod Promises
+pub mod Writing
