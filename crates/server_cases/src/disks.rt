@@ -45,8 +45,9 @@ fn changed(alloc: Global, disk: &MemDisk, words: &str) -> Result<MemDisk, Fail> 
     let (place, rest) = words.split_once(' ').ok_or("a place")?;
     let (byte, rest) = rest.split_once(' ').ok_or("a byte")?;
     let (length, length_of_blobs) = rest.split_once(' ').ok_or("two lengths")?;
-    match book.get_mut(number_of(place)? as usize) {
-        Some(old) => *old = byte_of(byte)?,
+    let (place, byte) = (number_of(place)? as usize, byte_of(byte)?);
+    match book.get_mut(place) {
+        Some(old) => *old = byte,
         None => return Err(Fail::from("a place in Book was expected")),
     }
     book.truncate(number_of(length)? as usize);

@@ -64,19 +64,24 @@ fn replies_to<A: Answerer>(
     Ok(replies)
 }
 
-// The first record of a store that isn't of this owner.
+// The first record of a store that isn't of this owner, if that is wanted.
 fn false_record<D: Disk>(
     alloc: Global,
     store: &mut Store<D>,
     keys: &Keys,
+    looks: bool,
 ) -> Result<Option<u64>, Fail> {
+    if !looks {
+        return Ok(None);
+    }
     match store.check(alloc, &keys.owner) {
         Ok(found) => Ok(found),
         Err(_) => Err(Fail::from("a store couldn't be looked at")),
     }
 }
 
-// What came of this server, whose records are looked at in the end, if that is wanted.
+// What came of this server, whose records are looked at in the end, if that is wanted. No call is left
+// early while the store is there: each exit would let go of it, and is proved for itself.
 fn asked<D: Disk + Drop>(
     alloc: Global,
     server: Server<D>,
@@ -85,15 +90,13 @@ fn asked<D: Disk + Drop>(
     looks: bool,
 ) -> Result<Outcome, Fail> {
     let mut server = server;
-    let replies = replies_to(alloc, &mut server, keys, frames)?;
+    let replies = replies_to(alloc, &mut server, keys, frames);
     let epoch = server.epoch();
     let mut store = server.into_store();
     let is_first_form = store.is_to_be_carried_over();
-    let false_record = match looks {
-        true => false_record(alloc, &mut store, keys)?,
-        false => None,
-    };
+    let found = false_record(alloc, &mut store, keys, looks);
     drop(store.close());
+    let (replies, false_record) = (replies?, found?);
     Ok(Outcome {
         error: String::new(alloc),
         replies,
@@ -151,11 +154,11 @@ pub fn calls_of(
     Ok(disk.calls().saturating_sub(before))
 }
 
-// The places of the first gates of a server's store, in a line.
-fn gates_of<D: Disk + Drop>(alloc: Global, server: Server<D>, count: u64) -> Result<String, Fail> {
+// The places of the first gates of a store, in a line.
+fn gates_of<D: Disk>(alloc: Global, store: &Store<D>, count: u64) -> Result<String, Fail> {
     let mut line = String::from_str(alloc, "gates")?;
     for record in 0..count {
-        let gate = server.store().gate(record);
+        let gate = store.gate(record);
         line.push_str(&format!(in alloc; " {gate}")?)?;
     }
     Ok(line)
@@ -169,7 +172,7 @@ pub fn gates<D: Disk>(
     disk: &mut D,
 ) -> Result<String, Fail> {
     match begun(alloc, disk, keys) {
-        Ok(server) => gates_of(alloc, server, count),
+        Ok(server) => gates_of(alloc, server.store(), count),
         Err(_) => Err(Fail::from("a store was expected")),
     }
 }

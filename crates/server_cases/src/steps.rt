@@ -1,5 +1,5 @@
 //! One line of a case.
-use crate::case::Case;
+use crate::case::{Case, Keys};
 use crate::disks::{copy_of, print_book, print_changed, with_blobs, with_book};
 use crate::faults::{print_faults, print_stops};
 use crate::hosts::print_host;
@@ -97,8 +97,8 @@ fn print_gates(rt: &HostRuntime, case: &mut Case, count: &str) -> Result<(), Fai
     Ok(())
 }
 
-// A line that sets something for later lines, and whether it is one.
-fn set(alloc: Global, case: &mut Case, word: &str, rest: &str) -> Result<bool, Fail> {
+// A line with frames or questions, and whether it is one.
+fn set_frames(alloc: Global, case: &mut Case, word: &str, rest: &str) -> Result<bool, Fail> {
     match word {
         ">" => {
             let words = String::from_str(alloc, rest)?;
@@ -106,22 +106,52 @@ fn set(alloc: Global, case: &mut Case, word: &str, rest: &str) -> Result<bool, F
         }
         "%" => push_numbered(alloc, frames(case), rest)?,
         "?" => case.questions.push(String::from_str(alloc, rest)?)?,
-        "mode" => case.keys.mode = mode_of(rest)?,
-        "surface" => case.keys.surface = Key {
+        _ => return Ok(false),
+    }
+    Ok(true)
+}
+
+// A line that sets with what a store is begun, and whether it is one.
+fn set_store(alloc: Global, keys: &mut Keys, word: &str, rest: &str) -> Result<bool, Fail> {
+    match word {
+        "mode" => keys.mode = mode_of(rest)?,
+        "surface" => keys.surface = Key {
             bytes: block_of(alloc, rest)?,
         },
-        "check" => case.keys.base_check = block_of(alloc, rest)?,
-        "owner" => case.keys.owner = Key {
+        "check" => keys.base_check = block_of(alloc, rest)?,
+        "owner" => keys.owner = Key {
             bytes: block_of(alloc, rest)?,
         },
-        "new" => case.disk = MemDisk::new(alloc),
-        "book" => case.disk = with_book(alloc, &case.disk, rest)?,
-        "blobs" => case.disk = with_blobs(alloc, &case.disk, rest)?,
+        _ => return Ok(false),
+    }
+    Ok(true)
+}
+
+// A line that sets what is on the disk, and whether it is one.
+fn set_disk(alloc: Global, disk: &mut MemDisk, word: &str, rest: &str) -> Result<bool, Fail> {
+    match word {
+        "new" => *disk = MemDisk::new(alloc),
+        "synced" => *disk = copy_of(alloc, disk)?,
+        "book" => *disk = with_book(alloc, disk, rest)?,
+        "blobs" => *disk = with_blobs(alloc, disk, rest)?,
+        _ => return Ok(false),
+    }
+    Ok(true)
+}
+
+// A line that sets something for later lines, and whether it is one.
+fn set(alloc: Global, case: &mut Case, word: &str, rest: &str) -> Result<bool, Fail> {
+    if set_frames(alloc, case, word, rest)?
+        || set_store(alloc, &mut case.keys, word, rest)?
+        || set_disk(alloc, &mut case.disk, word, rest)?
+    {
+        return Ok(true);
+    }
+    match word {
         "fails" => set_fails(case, rest)?,
         "usual" => push_usual(alloc, case, rest)?,
         "words" => case.words = small_of(rest)?,
         "padded" => case.padded = number_of(rest)? as usize,
-        "synced" => case.disk = copy_of(alloc, &case.disk)?,
         _ => return Ok(false),
     }
     Ok(true)
