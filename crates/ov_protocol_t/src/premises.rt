@@ -38,9 +38,14 @@ pub fn a_new_store_is_one_of_its_masters(
         (masters base.now.bytes surface.bytes) (no_updates mode)) }
 {
     a_server_in_this_process_is_alone::<MemDisk>();
-    let base_check = check_value(&Master::new(base));
-    match Store::begin(alloc, MemDisk::new(alloc), surface, base_check, mode) {
-        Ok(store) => Some(LocalPeer::new(Server::new(store, surface))),
+    let disk = MemDisk::new(alloc);
+    let master = Master::new(base);
+    let base_check = check_value(&master);
+    match Store::begin(alloc, disk, surface, base_check, mode) {
+        Ok(store) => {
+            let server = Server::new(store, surface);
+            Some(LocalPeer::new(server))
+        }
         Err(_) => None,
     }
 }
@@ -80,9 +85,12 @@ pub fn the_line_of_the_only_user_is_right(
     let Some(name) = Name::read(b"a") else {
         return Err(Memory);
     };
-    let base_key = Base::key_of(&Master::new(base), 0);
-    let surface_key = Surface::key_of(&Master::new(surface), 0);
+    let base_master = Master::new(base);
+    let base_key = Base::key_of(&base_master, 0);
+    let surface_master = Master::new(surface);
+    let surface_key = Surface::key_of(&surface_master, 0);
+    let client = Client::new(name, 0, base_key, 0, surface_key);
     let mut line = Vec::new(alloc);
-    Client::new(name, 0, base_key, 0, surface_key).line(&mut line)?;
+    client.line(&mut line)?;
     Ok(line)
 }
