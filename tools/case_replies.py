@@ -130,8 +130,10 @@ class Reference:
         )
 
     def called(self, words, keys, script, book, blobs, fails):
-        """The status, the lines, the frames and the disk of a call."""
+        """The status, the lines, the frames and the disk of a call. Where `fails` names the disk, each write fails."""
         device = self.image.Device(book, blobs)
+        if "disk" in fails:
+            device.write = self.fail_write
         lines, frames = Sink(self.run.WriteFault, fails.get("lines")), Sink(self.run.WriteFault, fails.get("frames"))
         put_frame = lambda frame: [frames.put(part) for part in parts(frame)]
         try:
@@ -148,6 +150,9 @@ class Reference:
         except self.run.WriteFault:
             status = 6
         return status, bytes(lines.data), bytes(frames.data), device
+
+    def fail_write(self, area, at, data):
+        raise self.run.DiskFault
 
 
     def tidied(self, words, case, lines, fresh):
@@ -345,8 +350,10 @@ class Replies:
         self.out += b"watched %s: the line fails, the reader %s\n" % (rest.encode(), reader)
 
     def read_only(self, rest):
-        status, lines, _, device = self.called(rest.split(" "), self.case.script)
-        if device.log:
+        """A load whose write fails says so. An audit writes nothing."""
+        words = rest.split(" ")
+        status, lines, _, device = self.called(words, self.case.script, {"disk": None})
+        if device.log or (status == 4 and words[0] != "load"):
             sys.exit(f"{rest} writes")
         self.out += b"read-only %s\n%s  status %d\n" % (rest.encode(), shown(lines), status)
 

@@ -1,17 +1,21 @@
 #!/usr/bin/env python3
-"""Prints the rows of crates/ov_store_t/src/store/damage.rt: where a disk whose book was changed is damaged.
+"""Reads the damaged books of crates/server_cases/data/damage.case, and compares where they are damaged with stdout.
 
-It reads books by docs/FORMATS.md, and shares nothing with the crates. The book is that of a small
-store in Delta: two users, a file for both, a third user, a grant and a revocation, with tokens and a
-tag of zeros. The creation puts the file in block 0, and the revocation, which coats it, in block 1; no
-place of damage depends on the bytes there. Run it from the top of the repository:
+It reads books by docs/FORMATS.md, and shares nothing with the crates, nor with the independent reference that made the
+lines of stdout. The book is that of a small store in Delta: two users, a file for both, a third user, a grant and a
+revocation, with tokens and a tag of zeros. The creation puts the file in block 0, and the revocation, which coats it,
+in block 1; no place of damage depends on the bytes there. Run it from the top of the repository:
 
     python3 tools/damaged_books.py
 """
 
 import hashlib
 import hmac
+import pathlib
 import struct
+import sys
+
+CASES = pathlib.Path("crates/server_cases/stdout")
 
 ZEROS = bytes(32)
 MAX_RECORD, MAX_FILE, MAX_TOKENS, SET = 1_114_112, 16_777_216, 1_024, 128
@@ -182,17 +186,18 @@ class Machine:
 
 
 def read(book, blobs):
-    """Damaged, with area and place, unless a store is begun on the book and a Blobs of this length."""
+    """How many records a store has that is begun on the book and a Blobs of this length, or Damaged."""
     if book[9] > 1:
         raise Damaged("book", 9)
-    machine, gate = Machine(), 78
+    machine, gate, count = Machine(), 78, 0
     while book[gate] == 1:
         length = int.from_bytes(book[gate + 1:gate + 5], "big")
         body = book[gate + 5:gate + 5 + length]
         if len(book) < gate + 5 or not 1 <= length <= MAX_RECORD or len(book) < gate + 6 + length:
             raise Damaged("book", gate + 1)
         machine.lay(read_body(machine, gate, body), blobs)
-        gate += 5 + length
+        gate, count = gate + 5 + length, count + 1
+    return count
 
 
 def read_body(machine, gate, body):
@@ -210,26 +215,22 @@ def read_body(machine, gate, body):
     return places
 
 
-def damaged_at(place, byte, length, blobs):
+def line(place, byte, length, blobs):
+    """What `server_cases` has to print of the book with this change."""
     book = bytearray(small_book())
     book[place] = byte
     try:
-        read(bytes(book[:length]), blobs)
+        found = "epoch %d" % read(bytes(book[:length]), blobs)
     except Damaged as wrong:
-        return wrong.args
-    return None
-
-
-def print_row(place, byte, cut, whole, area, found):
-    assert found is None or found[0] == area, (place, byte, cut, found)
-    cut = whole if cut == {"ALL": ALL, "ALL_BLOBS": ALL_BLOBS}[whole] else cut
-    print(f"({place}, {byte}, {cut}, {'None' if found is None else f'Some({found[1]})'}),")
+        found = "error damaged %s %d" % wrong.args
+    return f"changed {place} {byte} {length} {blobs}: {found}"
 
 
 if __name__ == "__main__":
     assert len(small_book()) == ALL
-    for place, byte, length in CHANGES:
-        print_row(place, byte, length, "ALL", "book", damaged_at(place, byte, length, ALL_BLOBS))
-    print("// Blobs")
-    for place, byte, blobs in BLOBS_CHANGES:
-        print_row(place, byte, blobs, "ALL_BLOBS", "blobs", damaged_at(place, byte, ALL, blobs))
+    wanted = [line(place, byte, length, ALL_BLOBS) for place, byte, length in CHANGES]
+    wanted += [line(place, byte, ALL, blobs) for place, byte, blobs in BLOBS_CHANGES]
+    printed = {*CASES.read_text().split("\n")}
+    wrong = [row for row in wanted if row not in printed]
+    print("\n".join(wrong + [f"{len(wanted)} rows, {len(wrong)} wrong"]))
+    sys.exit(bool(wrong))

@@ -1,7 +1,7 @@
-//! Tests of `ov_session` and `ov_settings`: sessions in memory and over a port of this machine,
-//! with each fault of a stream, over a socket that signals interrupt, and settings files with each
-//! key left out or out of form. The bytes
-//! of the sessions were written by hand.
+//! Tests of `ov_session` and `ov_settings`: what a gate is told, what a door gives back, what a peer
+//! keeps of a reply that doesn't come, sessions over a port of this machine, and over a socket that
+//! signals interrupt. Sessions in memory and settings files are in the cases of `server_cases`, and a
+//! peer behind a stream in those of `client_cases`.
 //!
 //! Code and definition could be wrong together. So `rows` has functions with empty bodies, whose
 //! contracts are rows: what a definition that contracts cite gives at one value. Where the definition
@@ -20,8 +20,6 @@ mod port;
 mod rows;
 #[cfg(test)]
 mod session;
-#[cfg(test)]
-mod settings;
 #[cfg(test)]
 mod signals;
 

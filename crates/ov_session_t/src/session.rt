@@ -1,9 +1,8 @@
-//! Sessions in memory, against bytes that were written by hand.
+//! Sessions in memory: what a gate is told, and what a door gives back.
 ghost use Rattle.std.specs.Prelude.{◌≡◌, ◌∷◌, [], false, length};
 
 use crate::memory::stream;
 use ov_base::{Memory, Octets};
-use ov_io::MemStream;
 use ov_peer::Answerer;
 use ov_session::{Alone, Door, Gate, MemDoor, OpenGate, SessionEnd, serve_each, serve_one};
 use std::alloc::Global;
@@ -53,81 +52,6 @@ fn serve_memory<R: Wait>(
     ensures { length door.new.gave ≡ result.0 }
 {
     serve_each(rt, alloc, door, parrot, sessions)
-}
-
-/// Serves a stream alone.
-fn serve<R: Wait>(rt: &R, alloc: Global, stream: &mut MemStream) -> SessionEnd {
-    let mut parrot = Parrot { epoch: 0 };
-    let mut asker = Alone { value: &mut parrot };
-    serve_one(rt, alloc, 0, stream, &mut asker, &OpenGate)
-}
-
-/// The input of a session, its end, and what is written.
-struct Row {
-    input: &'static [u8],
-    end: SessionEnd,
-    written: &'static [u8],
-}
-
-const ROWS: [Row; 9] = [
-    Row {
-        input: &[],
-        end: SessionEnd::End,
-        written: &[],
-    },
-    Row {
-        input: &[0, 0, 0, 1, 7, 0, 0, 0, 2, 8, 9],
-        end: SessionEnd::End,
-        written: &[0, 0, 0, 2, 0x86, 7, 0, 0, 0, 3, 0x86, 8, 9],
-    },
-    Row {
-        input: &[0, 0, 0, 1, 0xff, 0, 0, 0, 1, 7],
-        end: SessionEnd::End,
-        written: &[0, 0, 0, 1, 0x8e, 0, 0, 0, 2, 0x86, 7],
-    },
-    Row {
-        input: &[0, 0],
-        end: SessionEnd::Bad { at: 2 },
-        written: &[],
-    },
-    Row {
-        input: &[0, 0, 0, 1, 7, 0, 0, 0, 2, 8],
-        end: SessionEnd::Bad { at: 10 },
-        written: &[0, 0, 0, 2, 0x86, 7],
-    },
-    Row {
-        input: &[0, 0, 0, 0, 1],
-        end: SessionEnd::Bad { at: 0 },
-        written: &[],
-    },
-    Row {
-        input: &[0, 0, 0, 1, 7, 0, 0, 0, 0, 0, 0, 0, 1, 7],
-        end: SessionEnd::Bad { at: 5 },
-        written: &[0, 0, 0, 2, 0x86, 7],
-    },
-    Row {
-        input: &[255, 255, 255, 255],
-        end: SessionEnd::Bad { at: 0 },
-        written: &[],
-    },
-    Row {
-        input: &[1, 1, 0, 1, 7],
-        end: SessionEnd::Bad { at: 0 },
-        written: &[],
-    },
-];
-
-#[test]
-fn each_row_in_pieces_of_each_size(rt: HostRuntime) -> Result<(), Fail> {
-    let alloc = rt.alloc();
-    for row in &ROWS {
-        for piece in 1..16usize {
-            let mut stream = stream(alloc, row.input, piece, &[], &[])?;
-            assert_eq!(rt; serve(&rt, alloc, &mut stream), row.end);
-            assert_eq!(rt; stream.sink.written(), row.written);
-        }
-    }
-    Ok(())
 }
 
 /// A gate that counts the requests that come to it, and keeps the numbers of the last one.
@@ -194,38 +118,6 @@ fn each_request_comes_to_the_gate_before_it_is_asked(rt: HostRuntime) -> Result<
     ];
     assert_eq!(rt; stream.sink.written(), numbers.as_slice());
     assert_eq!(rt; gate.last.get(), (5, 2));
-    Ok(())
-}
-
-#[test]
-fn a_fault_at_each_call(rt: HostRuntime) -> Result<(), Fail> {
-    let alloc = rt.alloc();
-    let input: [u8; 11] = [0, 0, 0, 1, 7, 0, 0, 0, 2, 8, 9];
-    let whole: [u8; 13] = [0, 0, 0, 2, 0x86, 7, 0, 0, 0, 3, 0x86, 8, 9];
-    // How many bytes were written before each of the two calls that write.
-    let fronts: [usize; 2] = [0, 6];
-    for call in 0..3u8 {
-        let mut stream = stream(alloc, &input, 6, &[call], &[])?;
-        assert_eq!(rt; serve(&rt, alloc, &mut stream), SessionEnd::LinkFault);
-        let written = stream.sink.written();
-        assert_eq!(rt; written, &whole[..written.len().min(13)]);
-    }
-    for call in 0..2u8 {
-        let mut stream = stream(alloc, &input, 64, &[], &[call])?;
-        assert_eq!(rt; serve(&rt, alloc, &mut stream), SessionEnd::LinkFault);
-        assert_eq!(rt; stream.sink.written().len(), fronts[call as usize]);
-    }
-    Ok(())
-}
-
-#[test]
-fn a_fault_between_a_length_and_its_long_frame(rt: HostRuntime) -> Result<(), Fail> {
-    let alloc = rt.alloc();
-    let mut input = [7; 604];
-    input[..4].copy_from_slice(&[0, 0, 2, 88]);
-    let mut stream = stream(alloc, &input, 64, &[], &[1])?;
-    assert_eq!(rt; serve(&rt, alloc, &mut stream), SessionEnd::LinkFault);
-    assert_eq!(rt; stream.sink.written(), [0, 0, 2, 89].as_slice());
     Ok(())
 }
 

@@ -1,7 +1,6 @@
-//! Tests of `ov_store`: a small store at each stop with each tear, at each fault of its disk, and
-//! with its book damaged; and stores of the first format, which are carried over. The places of
-//! damage come from `tools/damaged_books.py`, which shares nothing with the crates, and the stored
-//! bytes from Python and OpenSSL.
+//! Tests of `ov_store`: callers that go from call to call by its contracts alone, a store whose disk
+//! failed, and a store on two files. What a store answers and leaves on its disk is in the cases of
+//! `server_cases`.
 #![tactic(auto)]
 
 #[cfg(test)]
