@@ -1,5 +1,5 @@
 -- What the new disk gets while a store is copied to it.
-use Rattle.std.proofs.Common.{ℕ, zero, suc, ◌+◌, ◌∙◌, ◌≡◌, ◌≤◌, Bool, true, false, List, [], ◌∷◌, ◌++◌, Option, Some, ap, arith, inl, inr, length, length-append, refl, subst, sym, take, ⊎_elim}
+use Rattle.std.proofs.Common.{ℕ, zero, suc, ◌+◌, ◌∙◌, ◌≡◌, ◌≤◌, Bool, true, false, List, [], ◌∷◌, ◌++◌, Some, ap, arith, inl, inr, length, length-append, refl, subst, sym, take, ⊎_elim}
 use Rattle.ov_base.specs.declared.mode.Mode.{Mode}
 use Rattle.ov_disk.proofs.Runs.{then_on, weaker}
 use Rattle.ov_disk.specs.Disk.{Image, Only, Told}
@@ -7,7 +7,7 @@ use Rattle.ov_disk.specs.Moments.{LeavesOnly}
 use Rattle.ov_disk.specs.Tells.{DiskTells}
 use Rattle.ov_history.specs.Fading.{is_gone_from}
 use Rattle.ov_history.specs.History.{Update}
-use Rattle.ov_history.specs.Sealed.{IsSealed, SealedHistory, blank, outer_all, outer_of, with_sealed}
+use Rattle.ov_history.specs.Sealed.{IsSealed, SealedHistory, blank, outer_of, with_sealed}
 use Rattle.ov_history.specs.Sent.{SealedUpdate}
 use Rattle.ov_history.specs.Texts.{BriefHistory, brief_of}
 use Rattle.ov_images.proofs.Keeping.{keeps_once}

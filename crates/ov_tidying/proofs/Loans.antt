@@ -1,18 +1,14 @@
 -- What is promised over loans of both disks is promised of the disks.
 use Rattle.std.proofs.Common.{MutBor, ℕ, ◌∙◌, ◌≡◌, ◌⊎◌, List, None, Option, Some, ap, inl, inr, subst, sym, ⊎_elim}
-use Rattle.std.specs.Prelude.{IfSome}
 use Rattle.ov_answering.proofs.Loans.{lent_disk, lent_leaves}
 use Rattle.ov_answering.specs.Ending.{LeavesAsAtStart}
 use Rattle.ov_base.specs.Causes.{Rose}
-use Rattle.ov_disk.specs.Disk.{Image, Told}
-use Rattle.ov_disk.specs.Moments.{LeavesOnly}
+use Rattle.ov_disk.specs.Disk.{Image}
 use Rattle.ov_disk.specs.Tells.{DiskTells}
-use Rattle.ov_history.specs.FadingLaws.{IsRight}
 use Rattle.ov_history.specs.Masters.{Masters}
 use Rattle.ov_history.specs.Plain.{PlainHistory}
 use Rattle.ov_history.specs.Sealed.{SealedHistory}
-use Rattle.ov_images.specs.Images.{Keeps, Keys, keys_of}
-use Rattle.ov_machine.specs.Machine.{AreMasters}
+use Rattle.ov_images.specs.Images.{Keys, keys_of}
 use Rattle.ov_store.specs.Beginning.{WritesNoBorn}
 use Rattle.ov_tidying.proofs.Endings.{by_more}
 use Rattle.ov_tidying.specs.Promises.{EndsEarly, ForEachRight, ForImage, ForOldImage, JudgesOld, Tidies, WritesShorter}

@@ -4,7 +4,7 @@ use Rattle.ov_answering.proofs.Judging.{call_so}
 use Rattle.ov_base.specs.Causes.{Rose}
 use Rattle.ov_base.specs.declared.mode.Mode.{Mode}
 use Rattle.ov_disk.specs.Calls.{IsDiskCall}
-use Rattle.ov_disk.specs.Disk.{Image, StaysTold, Told}
+use Rattle.ov_disk.specs.Disk.{StaysTold, Told}
 use Rattle.ov_disk.specs.Moments.{LeavesOnly}
 use Rattle.ov_disk.specs.Tells.{DiskTells}
 use Rattle.ov_history.proofs.Showing.{history_is_shown}
@@ -23,7 +23,7 @@ use Rattle.ov_store.specs.declared.fault.BeginFault.{BeginFault}
 use Rattle.ov_store.specs.declared.fault.BeginFault.TheVariants.{Disk as DiskFailed}
 use Rattle.ov_thinning.specs.SealedThin.{thinned_sealed}
 use Rattle.ov_tidy.specs.Copies.{BeginsFor, ForEachThinned, KeepsFirst, LeavesCopy}
-use Rattle.ov_tidying.proofs.Endings.{copied_by, no_disk_call}
+use Rattle.ov_tidying.proofs.Endings.{copied_by}
 use Rattle.ov_tidying.proofs.Images.{gets_copy, gets_none, keeps_it, whole_copy}
 use Rattle.ov_tidying.proofs.Unbegun.{not_empty, unbegun_by, unbegun_call, unbegun_kept, unbegun_not_read, unbegun_not_whole}
 use Rattle.ov_tidying.specs.Promises.{EndsKept, EndsOnBoth, tidied}

@@ -1,5 +1,5 @@
 -- Updates are taken of a store that is read, one after the other.
-use Rattle.std.proofs.Common.{ℕ, ◌+◌, ◌-◌, ◌∙◌, ◌≡◌, Err, List, Ok, Option, Result, Some, ap, arith, length, subst, sym}
+use Rattle.std.proofs.Common.{ℕ, ◌+◌, ◌-◌, ◌∙◌, ◌≡◌, Err, List, Ok, Option, Result, ap, arith, length, subst, sym}
 use Rattle.std.proofs.Common.{IfErr, IfOk, IsErrOf, OnOk}
 use Rattle.ov_base.specs.declared.mode.Mode.{Mode}
 use Rattle.ov_disk.specs.Disk.{Image, Told}

@@ -7,7 +7,7 @@ use Rattle.ov_disk.specs.Tells.{DiskTells}
 use Rattle.ov_history.specs.Briefs.{Brief, brief, numbered_brief, outer}
 use Rattle.ov_history.specs.Catalogue.{file_names_shown, outline}
 use Rattle.ov_history.specs.History.{History, Update}
-use Rattle.ov_history.specs.Sealed.{IsSealed, SealedHistory, StandsFor, outer_all, outer_of, with_sealed}
+use Rattle.ov_history.specs.Sealed.{IsSealed, SealedHistory, StandsFor, outer_all, outer_of}
 use Rattle.ov_history.specs.Sent.{SealedUpdate}
 use Rattle.ov_history.specs.Texts.{BriefHistory, brief_all, brief_of, with_brief}
 use Rattle.ov_history.proofs.Briefly.{brief_of-push, stands_fully}

@@ -12,7 +12,7 @@ use Rattle.ov_report.specs.Faults.{disk_line, memory_line}
 use Rattle.ov_store.specs.Beginning.{IsBeginAtFault}
 use Rattle.ov_store.specs.declared.fault.BeginFault.{BeginFault}
 use Rattle.ov_store.specs.declared.fault.BeginFault.TheVariants.{BaseDiffers, Damaged, Disk as DiskFailed, Memory as NoMemory, ModeDiffers, NotAStore, SurfaceDiffers}
-use Rattle.ov_tidying.proofs.Endings.{in_never, in_seven}
+use Rattle.ov_tidying.proofs.Endings.{in_seven}
 use Rattle.ov_tidying.specs.Lines.{notempty_line}
 use Rattle.ov_tidying.specs.Promises.{EndsBy, EndsKept}
 use Rattle.ov_tidying.specs.Writing.{begin_line, begin_status}

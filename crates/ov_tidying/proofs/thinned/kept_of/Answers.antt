@@ -1,7 +1,7 @@
 use Rattle.std.proofs.Common.{rules, ◌≡◌, ◌∙◌, ◌-◌, ◌≤◌, Err, List, ℕ, ap, arith, length, subst, sym}
 use Rattle.std.proofs.lemmas.Result.{err_from_is_err_and}
 use Rattle.ov_store.specs.declared.fault.BeginFault.TheVariants.{Disk as DiskFailed}
-use Rattle.ov_replaying.proofs.Stores.{begins_still, stays_for}
+use Rattle.ov_replaying.proofs.Stores.{stays_for}
 use Rattle.ov_tidying.specs.Taking.{KeepsPlaces}
 use Rattle.ov_tidying.proofs.Steps.{begins_each, memory_alone, memory_of_store, ok_so}
 use Rattle.ov_tidying.proofs.Taken.{all_taken}

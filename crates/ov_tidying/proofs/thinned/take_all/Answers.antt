@@ -1,4 +1,4 @@
-use Rattle.std.proofs.Common.{ℕ, rules, ◌≡◌, ◌∙◌, ◌+◌, ◌≤◌, Err, Option, ap, arith, length, subst, sym}
+use Rattle.std.proofs.Common.{ℕ, rules, ◌≡◌, ◌∙◌, Err, Option, ap, arith, subst, sym}
 use Rattle.std.proofs.lemmas.Result.{err_from_is_err_and}
 use Rattle.ov_disk.specs.Disk.{Image}
 use Rattle.ov_store.specs.declared.fault.BeginFault.{BeginFault}

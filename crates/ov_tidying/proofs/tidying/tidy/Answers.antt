@@ -1,12 +1,11 @@
 use Rattle.std.proofs.Common.{arith, inl, inr, refl, rules, ℕ}
-use Rattle.ov_answering.proofs.KeyFiles.{image_all}
 use Rattle.ov_answering.proofs.Statuses.{ends_so, judged_unasked, not_code, words_known, words_refused}
 use Rattle.ov_disk.proofs.Runs.{started}
 use Rattle.ov_replaying.proofs.Endings.{fault_six}
 use Rattle.ov_replaying.proofs.Judged.{file_asked, file_judged}
 use Rattle.ov_tidying.proofs.Endings.{not_asked_usage}
 use Rattle.ov_tidying.proofs.Loans.{image_so, judged_so, lent_born, lent_disks, lent_quiet, lent_same, lent_tells}
-use Rattle.ov_tidying.specs.Promises.{IsTidyStatus, JudgesOld}
+use Rattle.ov_tidying.specs.Promises.{IsTidyStatus}
 use Rattle.ov_tidying.proofs.tidying.tidy.Goals as goal
 
 pub returns-then-is_tidy-clause-tells : goal.returns-then-is_tidy-clause-tells

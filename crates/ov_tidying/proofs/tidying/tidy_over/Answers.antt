@@ -1,4 +1,4 @@
-use Rattle.std.proofs.Common.{◌≡◌, ◌⊎◌, arith, inl, inr, refl, subst, sym, ⊎_elim}
+use Rattle.std.proofs.Common.{arith, inl, inr, refl, subst, sym, ⊎_elim}
 use Rattle.ov_base.specs.Causes.{Rose}
 use Rattle.ov_answering.specs.Ending.{LeavesAsAtStart}
 use Rattle.ov_images.specs.Images.{keys_of}

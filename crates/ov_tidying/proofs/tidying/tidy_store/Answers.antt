@@ -1,6 +1,5 @@
-use Rattle.std.proofs.Common.{rules, ℕ, ◌≡◌, ◌∙◌, ◌⊎◌, Err, List, ap, arith, inl, inr, refl, subst, sym}
+use Rattle.std.proofs.Common.{ℕ, ◌∙◌, Err, List, ap, arith, inl, inr, refl, subst, sym}
 use Rattle.ov_base.specs.declared.key.Key.{Key}
-use Rattle.ov_history.specs.Catalogue.{Catalogue}
 use Rattle.ov_images.specs.Images.{Keys}
 use Rattle.ov_store.specs.Opened.{Opened}
 use Rattle.ov_replaying.proofs.Endings.{disk_call, fault_call, fault_line_found, fault_low}

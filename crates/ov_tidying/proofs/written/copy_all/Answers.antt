@@ -1,8 +1,6 @@
-use Rattle.std.proofs.Common.{◌≡◌, ◌∙◌, ◌⊎◌, Err, ap, arith, inl, length, refl, sym}
-use Rattle.ov_base.specs.Causes.{Rose}
+use Rattle.std.proofs.Common.{◌∙◌, Err, ap, length, refl}
 use Rattle.ov_history.proofs.Showing.{history_is_shown}
 use Rattle.ov_history.specs.Catalogue.{Catalogue}
-use Rattle.ov_store.specs.Opened.{Opened}
 use Rattle.ov_replaying.proofs.Endings.{fault_low, line_low}
 use Rattle.ov_tidying.proofs.Copying.{call_failed, copy_fault, fault_causes, fault_ends, some_fault, whole_causes, whole_ends}
 use Rattle.ov_tidying.proofs.written.copy_all.Goals as goal

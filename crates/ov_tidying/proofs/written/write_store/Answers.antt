@@ -1,9 +1,6 @@
-use Rattle.std.proofs.Common.{rules, ◌≡◌, ◌∙◌, ◌-◌, ◌⊎◌, ap, arith, inl, inr, length, refl, subst, sym}
-use Rattle.ov_base.specs.Causes.{Rose}
-use Rattle.ov_disk.specs.Disk.{Told}
+use Rattle.std.proofs.Common.{rules, ◌≡◌, ◌∙◌, ◌-◌, ap, inl, inr, length, subst, sym}
 use Rattle.ov_history.specs.Catalogue.{Catalogue}
-use Rattle.ov_images.specs.Images.{Keys, keys, keys_of}
-use Rattle.ov_machine.specs.Machine.{plain_masters}
+use Rattle.ov_images.specs.Images.{Keys, keys}
 use Rattle.ov_store.specs.Beginning.{LeavesBlank}
 use Rattle.ov_replaying.proofs.Stores.{begins_still}
 use Rattle.ov_tidying.proofs.Made.{begins_for, copied_made, copied_on_both, unbegun_made, unbegun_on_both}
