@@ -9,7 +9,7 @@ use Rattle.ov_base.proofs.NamePlaces.{take_push}
 use Rattle.ov_history.specs.Asking.{file_named}
 use Rattle.ov_history.specs.Catalogue.{Catalogue, Filed, file_shown, files_shown, matrix_shown, outline}
 use Rattle.ov_history.specs.History.{File, Matrix}
-use Rattle.ov_history.specs.Lists.{file_names, file_number, is_file}
+use Rattle.ov_history.specs.Lists.{file_names, file_number, is_file, name_left}
 use Rattle.ov_history.specs.Places.{living_at, place_of}
 use Rattle.ov_history.specs.Refusals.{first_of_tests, list_refusal}
 use Rattle.ov_history.proofs.NamesOnce.{named_there}
@@ -121,6 +121,23 @@ some_name : (x : Option File) (name : List ℕ) → Some name ≡ option_map (λ
     → (f : File) × (x ≡ Some f) × (f.name ≡ name)
 some_name None name is = absurd (cc)
 some_name (Some f) name is = (f, refl, cc)
+
+-- the name of a file that isn't gone
+pub named_file : (c : Catalogue) (n : ℕ) (name : List ℕ)
+    → Some name ≡ option_map (λ (f : Filed). f.name) (living_at c.files n)
+    → name_left (living_at (matrix_shown c).files n) ≡ name
+named_file c n name there =
+    let found = some_name (living_at (matrix_shown c).files n) name (shown_name c n (Some name) there) in
+    ap name_left found.1 ∙ found.2
+
+-- one that is gone has none
+pub unnamed_file : (c : Catalogue) (n : ℕ)
+    → None ≡ option_map (λ (f : Filed). f.name) (living_at c.files n)
+    → name_left (living_at (matrix_shown c).files n) ≡ []
+unnamed_file c n gone = none (living_at (matrix_shown c).files n) (shown_name c n None gone) where
+  none : (x : Option File) → None ≡ option_map (λ (f : File). f.name) x → name_left x ≡ []
+  none None is = refl
+  none (Some f) is = absurd (cc is)
 
 no_name : (name : List ℕ) → IsName name → name ≡ [] → ⊥
 no_name [] is none = absurd (cc is)

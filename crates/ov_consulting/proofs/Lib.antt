@@ -6,3 +6,4 @@ pub mod Opening
 pub mod Roots
 pub mod Shown
 pub mod Texts
+pub mod Told

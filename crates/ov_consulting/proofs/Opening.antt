@@ -37,8 +37,8 @@ long_is_begun book n is long = (λ same. absurd (cc same), λ unborn. absurd (be
   begun (inr shut) = omega (arith, is, long, shut.0)
 
 -- a Book between them, by its first gate
-pub gate_says : (book : List ℕ) (n : ℕ) (open : Bool) → n ≡ length book → 1 < n → n ≤ 79
-    → (open ≡ true) ↔ (slice_index book 0 ≡ 1) → (open ≡ false) ↔ IsUnborn book
+pub gate_says : (book : List ℕ) (n : ℕ) (is_open : Bool) → n ≡ length book → 1 < n → n ≤ 79
+    → (is_open ≡ true) ↔ (slice_index book 0 ≡ 1) → (is_open ≡ false) ↔ IsUnborn book
 gate_says book n true is low high says =
     (λ same. absurd (cc same), λ unborn. absurd (begun unborn)) where
       begun : IsUnborn book → ⊥
@@ -89,11 +89,11 @@ module _ {D : Type 0} (tells : DiskTells D) (k : Masters) (mode : Mode) where
 
   module _ (q : Question) where
     -- what the open book says
-    pub by_answer : (d e : D) (s : Opened D) (end : End) → IsBegun tells k mode (tells.reads d) s
+    pub by_answer : (d : D) (s : Opened D) (end : End) → IsBegun tells k mode (tells.reads d) s
         → Told (tells.reads d) (λ i. IsUnborn i.book → ⊥) → (b : Booked) × Holds tells b s
         → ((b : Booked) → Holds tells b s → Says (answer_by s.masters b q) end)
         → Ends k mode (tells.reads d) q end
-    by_answer d e s end is begun some says =
+    by_answer d s end is begun some says =
         let found = finds (tells.reads d) s is begun some in
         ends_by k mode (tells.reads d) q found.book end found.holds.is_book found.mode_is found.kept
         (subst (λ (m : Masters). Says (answer_by m found.book q) end) is.new.0

@@ -1,6 +1,7 @@
 -- What an open book's catalogue shows: the settled history of the book for which it stands.
 use Rattle.std.proofs.Common.{◌≡◌, ◌∙◌, ℕ, List, length, sym, ap, subst}
-use Rattle.std.specs.Prelude.{IfSome, Option, Some, None, option_map}
+use Rattle.std.specs.Prelude.{IfOk, IfSome, Option, Some, None, Result, Ok, Err, option_map}
+use Rattle.ov_base.specs.declared.memory.Memory.{Memory as Refused}
 use Rattle.ov_base.specs.NameLists.{AreDistinct}
 use Rattle.ov_base.specs.declared.mode.Mode.{Mode}
 use Rattle.ov_book.specs.Opened.{Holds, IsPendingIn, Opened, Pending}
@@ -20,7 +21,7 @@ use Rattle.ov_record.specs.Forms.{second_form}
 use Rattle.ov_record.specs.Stored.{HasBriefForm}
 use Rattle.ov_consulting.specs.Answers.{Answer, answer_at, answer_by}
 use Rattle.ov_consulting.specs.Endings.{End}
-use Rattle.ov_consulting.specs.Saying.{IsSpelled, Says}
+use Rattle.ov_consulting.specs.Saying.{IsSpelled, Says, given}
 use Rattle.ov_consulting.specs.declared.job.Question.{Question}
 use Rattle.ov_consulting.proofs.Distinct.{users_are_distinct}
 
@@ -41,6 +42,12 @@ answer_is k c b q epoch is =
     ap (λ (m : Matrix). answer_at k m (outline c) c.epoch b.pending q) is.matrix
     ∙ ap (λ (y : Layers). answer_at k (matrix_of h) y c.epoch b.pending q) is.layers
     ∙ ap (λ n. answer_at k (matrix_of h) (layers_of h) n b.pending q) epoch
+
+-- bytes that were made are this answer
+pub says_given : (r : Result (List ℕ) Refused) (text : List ℕ)
+    → IfOk r (λ (bytes : List ℕ). bytes ≡ text) → Says (Ok text) (given r)
+says_given (Ok bytes) text is = ap (λ (t : List ℕ). Ok t) (sym is)
+says_given (Err refused) text is = tt
 
 module _ {D : Type 0} (tells : DiskTells D) (s : Opened D) (b : Booked) (holds : Holds tells b s)
   where

@@ -63,6 +63,7 @@ fn ask_begun<D: Disk + Drop>(
 {
     match Book::begin(alloc, disk, masters.base, masters.surface, mode) {
         Ok(book) => {
+            book.known();
             let end = answer(alloc, question, &book);
             (end, book.close())
         }

@@ -36,6 +36,7 @@ mod answering;
 mod consulting;
 mod ending;
 mod job;
+mod lines;
 mod names;
 mod pending;
 mod stop;

@@ -182,7 +182,7 @@ pub fn tell_pending(
     requires distinct { AreDistinct state.now.catalogue.users }
     requires brief { (u : Option SpelledBrief) × IsSpelled u (option_map (λ b. b.now) brief) }
     ensures { let c = state.now.catalogue in (u : Option SpelledBrief)
-        → IsSpelled u (option_map (λ b. b.now) brief)
+        → IsSpelled u (option_map (λ b. b.now) brief.entry)
         → IfOk result (λ bytes. bytes ≡ pending_line (matrix_shown c) c.epoch u) }
 {
     match brief {

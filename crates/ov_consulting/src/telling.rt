@@ -13,13 +13,13 @@ ghost use Rattle.ov_script.specs.declared.reply.Reply.TheVariants.{List as ListR
 ghost use Rattle.ov_consulting.specs.Answers.{files_of_answer, key_answer, list_answer};
 ghost use Rattle.ov_consulting.specs.Saying.{Says};
 
+use crate::lines::{put_files, put_files_of, put_users};
 use crate::names::{files_of, names_of, users_of};
 use crate::stop::BookStop;
 use ov_base::{Memory, Name, Octets, Refusal, Users};
 use ov_book::{Book, Roots};
 use ov_client::Client;
 use ov_disk::Disk;
-use ov_listing::{put_files, put_files_of, put_users};
 use ov_script::{Reply, line};
 use ov_state::Catalogue;
 use std::alloc::Global;

@@ -31,8 +31,6 @@
 //! | `Reasons` | where a reply is a bad one, and where the store is said to have changed |
 //! | `Texts`, `Answers` | the lines of a listing, and the text that answers a question |
 //!
-//! [`put_users`], [`put_files`] and [`put_files_of`] make these lines of whatever names are there.
-//!
 //! Nothing is claimed of a peer that tells nothing: it may show any users and any lists.
 #![tactic(auto)]
 
@@ -50,5 +48,4 @@ pub use answering::{Question, answer};
 pub use asking::ask_welcome;
 pub use fault::ListingFault;
 pub use listing::{Listed, Listing, Wanted};
-pub use texts::{put_files, put_files_of, put_users};
 pub use trying::ask_listing;
