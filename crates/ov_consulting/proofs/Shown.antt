@@ -49,6 +49,13 @@ pub says_given : (r : Result (List ℕ) Refused) (text : List ℕ)
 says_given (Ok bytes) text is = ap (λ (t : List ℕ). Ok t) (sym is)
 says_given (Err refused) text is = tt
 
+-- bytes that were made by a catalogue are this answer by the same one
+pub gives_text : (r : Result (List ℕ) Refused) (text : Catalogue → List ℕ) (x y : Catalogue) → x ≡ y
+    → IfOk r (λ (bytes : List ℕ). bytes ≡ text x) → Says (Ok (text y)) (given r)
+gives_text r text x y same is =
+    says_given r (text y)
+    (subst (λ (c : Catalogue). IfOk r (λ (bytes : List ℕ). bytes ≡ text c)) same is)
+
 module _ {D : Type 0} (tells : DiskTells D) (s : Opened D) (b : Booked) (holds : Holds tells b s)
   where
   abbrev shown : ShowsHistory (outline_of (settled_of b)) s.settled

@@ -1,5 +1,5 @@
 -- A pending update that is read from its encoding.
-use Rattle.std.proofs.Common.{◌≡◌, ◌∙◌, ℕ, List, [], ◌++◌, length, Result, Ok, Err, Some, sym, subst}
+use Rattle.std.proofs.Common.{◌≡◌, ◌∙◌, ℕ, List, [], ◌++◌, length, Result, Ok, Err, Some, sym, subst, ap}
 use Rattle.std.proofs.lemmas.List.{append-nil}
 use Rattle.ov_fields.specs.Answers.{Gives}
 use Rattle.ov_record.specs.Briefs.{Brief as SpelledBrief, plain_brief, plain_front}
@@ -32,6 +32,11 @@ never_bad {W = W} bytes (Err (BadRecord other)) place is only (u, form, same) =
     absurd (cc (read_alone {W = W} bytes (Err (BadRecord other)) only u form same))
 never_bad {W = W} bytes (Err why) place is only (u, form, same) = absurd (cc is)
 
+-- the update that is read, or this one
+abbrev first_of : SpelledBrief → Result (SpelledBrief × ℕ) ℕ → SpelledBrief
+first_of u (Ok x) = x.0
+first_of u (Err place) = u
+
 -- what is read is what is spelled
 pub is_read : {W : ℕ} (bytes : List ℕ) (r : Result (BriefOf W × ℕ) RecordFault) (x : BriefOf W) (n : ℕ)
     → r ≡ Ok (x, n)
@@ -46,4 +51,4 @@ is_read {W = W} bytes r x n is only u form same =
     subst (λ (q : Result (BriefOf W × ℕ) RecordFault).
     Gives place_of plain_front q (Ok (u, length (brief_spelling second_form u)))) is
     (read_alone {W = W} bytes r only u form same) in
-    cc gives
+    sym (ap (λ (q : Result (SpelledBrief × ℕ) ℕ). first_of u q) gives)
