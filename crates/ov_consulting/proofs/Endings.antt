@@ -1,5 +1,5 @@
 -- Which causes an end has.
-use Rattle.std.proofs.Common.{◌≡◌, ℕ, Option, Some, None, Result, Ok, Err, inl, inr, refl, sym, subst, ap}
+use Rattle.std.proofs.Common.{◌≡◌, Option, Ok, Err, inr, refl, sym, subst, ap}
 use Rattle.ov_base.specs.declared.mode.Mode.{Mode}
 use Rattle.ov_book.specs.Beginning.{IsBeginFault}
 use Rattle.ov_book.specs.declared.fault.BookBegin.{BookBegin}
@@ -9,11 +9,10 @@ use Rattle.ov_books.specs.Images.{Keeps}
 use Rattle.ov_disk.specs.Disk.{Image, Told}
 use Rattle.ov_history.specs.Masters.{Masters}
 use Rattle.ov_consulting.specs.Answers.{Answer, answer_by}
-use Rattle.ov_consulting.specs.Consulting.{Ends, IsOfBook, end_of}
+use Rattle.ov_consulting.specs.Consulting.{Ends, end_of}
 use Rattle.ov_consulting.specs.Endings.{End, StopsForKeys, unopened}
 use Rattle.ov_consulting.specs.Saying.{Says}
 use Rattle.ov_consulting.specs.declared.job.Question.{Question}
-use Rattle.ov_consulting.specs.declared.stop.BookStop.{BookStop}
 use Rattle.ov_consulting.specs.declared.stop.BookStop.TheVariants as stops
 
 -- only a fault of the disk is told as one

@@ -1,16 +1,16 @@
 -- Users and files, gathered one by one.
-use Rattle.std.proofs.Common.{◌≡◌, ◌∙◌, ℕ, zero, suc, ◌+◌, ◌<◌, ◌≤◌, Bool, true, false, List, [], ◌∷◌, ◌++◌, length, map, take, refl, sym, ap, arith, take_all}
-use Rattle.std.specs.Prelude.{Option, Some, None, is_some, option_map, slice_get, not}
+use Rattle.std.proofs.Common.{◌≡◌, ◌∙◌, ℕ, zero, suc, ◌+◌, ◌<◌, Bool, true, false, List, [], ◌∷◌, ◌++◌, length, map, take, refl, sym, ap, arith, take_all}
+use Rattle.std.specs.Prelude.{Option, Some, None, option_map, slice_get, not}
 use Rattle.std.proofs.lemmas.List.{append-nil, map-append}
 use Rattle.ov_base.specs.Names.{IsName}
 use Rattle.ov_base.specs.declared.refusal.Refusal.{Refusal}
 use Rattle.ov_base.specs.declared.refusal.Refusal.TheVariants.{NoFile}
 use Rattle.ov_base.proofs.NamePlaces.{take_push}
 use Rattle.ov_history.specs.Asking.{file_named}
-use Rattle.ov_history.specs.Catalogue.{Catalogue, Filed, file_shown, files_shown, matrix_shown, outline}
+use Rattle.ov_history.specs.Catalogue.{Catalogue, Filed, file_shown, matrix_shown, outline}
 use Rattle.ov_history.specs.History.{File, Matrix}
-use Rattle.ov_history.specs.Lists.{file_names, file_number, is_file, name_left}
-use Rattle.ov_history.specs.Places.{living_at, place_of}
+use Rattle.ov_history.specs.Lists.{is_file, name_left}
+use Rattle.ov_history.specs.Places.{living_at}
 use Rattle.ov_history.specs.Refusals.{first_of_tests, list_refusal}
 use Rattle.ov_history.proofs.NamesOnce.{named_there}
 use Rattle.ov_history.proofs.SoundTests.{files_shown-length, shown_there}

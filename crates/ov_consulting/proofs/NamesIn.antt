@@ -75,4 +75,3 @@ pub passed : (set : ℕ) (users : List (List ℕ)) (n : ℕ) (name : List ℕ) (
 passed set users n name names at_n so_far out =
     so_far
     ∙ sym (next_names set users n name false at_n out ∙ append-nil (names_in set (take n users)))
-

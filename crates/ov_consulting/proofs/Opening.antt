@@ -1,5 +1,5 @@
 -- How the parts of a question make all of it.
-use Rattle.std.proofs.Common.{◌≡◌, ◌∙◌, ℕ, ◌<◌, ◌≤◌, Bool, true, false, List, length, Option, Some, None, Err, inl, inr, refl, sym, ap, subst, arith}
+use Rattle.std.proofs.Common.{◌≡◌, ◌∙◌, ℕ, ◌<◌, ◌≤◌, Bool, true, false, List, length, Option, Some, None, inl, inr, refl, sym, subst, arith}
 use Rattle.std.specs.Prelude.{◌↔◌, slice_index}
 use Rattle.ov_base.specs.declared.mode.Mode.{Mode}
 use Rattle.ov_book.specs.Beginning.{FindsBook, IsBegun}
@@ -7,7 +7,7 @@ use Rattle.ov_book.specs.Opened.{Holds, Opened}
 use Rattle.ov_books.specs.Books.{Booked}
 use Rattle.ov_books.specs.Images.{IsImageOf, Keeps}
 use Rattle.ov_disk.specs.Disk.{Image, Told}
-use Rattle.ov_disk.specs.Moments.{IsUntouched, LeavesOnly}
+use Rattle.ov_disk.specs.Moments.{IsUntouched}
 use Rattle.ov_disk.specs.Tells.{DiskTells}
 use Rattle.ov_disk.proofs.Runs.{then_on}
 use Rattle.ov_history.specs.Masters.{Masters}
@@ -17,7 +17,6 @@ use Rattle.ov_consulting.specs.Consulting.{ConsultsUnder, Ends}
 use Rattle.ov_consulting.specs.Endings.{End}
 use Rattle.ov_consulting.specs.Saying.{Says}
 use Rattle.ov_consulting.specs.declared.job.Question.{Question}
-use Rattle.ov_consulting.specs.declared.stop.BookStop.TheVariants as stops
 use Rattle.ov_consulting.proofs.Endings.{ends_by}
 use Rattle.ov_consulting.proofs.Shown.{mode_is}
 

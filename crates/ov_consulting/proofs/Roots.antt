@@ -1,5 +1,5 @@
 -- The roots of a user are nodes of a store.
-use Rattle.std.proofs.Common.{◌≡◌, ℕ, ◌<◌, ◌≤◌, false, List, ◌∷◌, [], length, arith}
+use Rattle.std.proofs.Common.{◌≡◌, ℕ, ◌<◌, ◌∷◌, [], length, arith}
 use Rattle.std.specs.Prelude.{None, not}
 use Rattle.ov_base.specs.Sets.{single}
 use Rattle.ov_base.specs.declared.limits.TheConstants.{MAX_LAYER_NODES}

@@ -3,7 +3,6 @@ use Rattle.std.proofs.Common.{◌≡◌, ◌∙◌, ℕ, List, length, sym, ap, 
 use Rattle.std.specs.Prelude.{IfOk, IfSome, Option, Some, None, Result, Ok, Err, option_map}
 use Rattle.ov_base.specs.declared.memory.Memory.{Memory as Refused}
 use Rattle.ov_base.specs.NameLists.{AreDistinct}
-use Rattle.ov_base.specs.declared.mode.Mode.{Mode}
 use Rattle.ov_book.specs.Opened.{Holds, IsPendingIn, Opened, Pending}
 use Rattle.ov_book.proofs.Begun.{shown_by}
 use Rattle.ov_books.specs.Books.{Booked, outline_of, settled_of}
@@ -58,37 +57,37 @@ gives_text r text x y same is =
 
 module _ {D : Type 0} (tells : DiskTells D) (s : Opened D) (b : Booked) (holds : Holds tells b s)
   where
-  abbrev shown : ShowsHistory (outline_of (settled_of b)) s.settled
-  shown = shows s.masters.surface s.settled b holds.settled
+    abbrev shown : ShowsHistory (outline_of (settled_of b)) s.settled
+    shown = shows s.masters.surface s.settled b holds.settled
 
-  -- what an open book says by its catalogue is what the book says
-  pub says_by : (q : Question) (end : End)
-      → Says (answer_at s.masters (matrix_shown s.settled) (outline s.settled) s.settled.epoch
-      b.pending q) end
-      → Says (answer_by s.masters b q) end
-  says_by q end says =
-      subst (λ (a : Answer). Says a end)
-      (answer_is s.masters s.settled b q (shown_by s.masters.surface s.settled b holds.settled).epoch shown)
-      says
+    -- what an open book says by its catalogue is what the book says
+    pub says_by : (q : Question) (end : End)
+        → Says (answer_at s.masters (matrix_shown s.settled) (outline s.settled) s.settled.epoch
+        b.pending q) end
+        → Says (answer_by s.masters b q) end
+    says_by q end says =
+        subst (λ (a : Answer). Says a end)
+        (answer_is s.masters s.settled b q (shown_by s.masters.surface s.settled b holds.settled).epoch shown)
+        says
 
-  -- the users of an open book are distinct
-  pub users_differ : AreDistinct s.settled.users
-  users_differ =
-      subst (λ (m : Matrix). AreDistinct m.users) (sym shown.matrix)
-      (users_are_distinct (settled_of b) holds.settled.0)
+    -- the users of an open book are distinct
+    pub users_differ : AreDistinct s.settled.users
+    users_differ =
+        subst (λ (m : Matrix). AreDistinct m.users) (sym shown.matrix)
+        (users_are_distinct (settled_of b) holds.settled.0)
 
-  spelled : (pending : Option SpelledBrief) (p : Option Pending)
-      → IfSome pending (HasBriefForm second_form) → IsPendingIn pending p
-      → IsSpelled pending (option_map (λ (x : Pending). x.front) p)
-  spelled None None form is = tt
-  spelled None (Some p) form is = is
-  spelled (Some u) None form is = is
-  spelled (Some u) (Some p) form is = (form, is.0)
+    spelled : (pending : Option SpelledBrief) (p : Option Pending)
+        → IfSome pending (HasBriefForm second_form) → IsPendingIn pending p
+        → IsSpelled pending (option_map (λ (x : Pending). x.front) p)
+    spelled None None form is = tt
+    spelled None (Some p) form is = is
+    spelled (Some u) None form is = is
+    spelled (Some u) (Some p) form is = (form, is.0)
 
-  -- the pending update in memory is spelled so
-  pub pending_is_spelled : IsSpelled b.pending (option_map (λ (x : Pending). x.front) s.pending)
-  pending_is_spelled = spelled b.pending s.pending holds.is_book.noted.pending holds.pending
+    -- the pending update in memory is spelled so
+    pub pending_is_spelled : IsSpelled b.pending (option_map (λ (x : Pending). x.front) s.pending)
+    pending_is_spelled = spelled b.pending s.pending holds.is_book.noted.pending holds.pending
 
-  -- the mode of an open book is the book's
-  pub mode_is : s.settled.mode ≡ b.mode
-  mode_is = (shown_by s.masters.surface s.settled b holds.settled).mode_is
+    -- the mode of an open book is the book's
+    pub mode_is : s.settled.mode ≡ b.mode
+    mode_is = (shown_by s.masters.surface s.settled b holds.settled).mode_is

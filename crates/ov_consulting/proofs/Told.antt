@@ -1,5 +1,5 @@
 -- A pending update that is read from its encoding.
-use Rattle.std.proofs.Common.{◌≡◌, ◌∙◌, ℕ, List, [], ◌++◌, length, Result, Ok, Err, Some, sym, subst, ap}
+use Rattle.std.proofs.Common.{◌≡◌, ◌∙◌, ℕ, List, [], ◌++◌, length, Result, Ok, Err, sym, subst, ap}
 use Rattle.std.proofs.lemmas.List.{append-nil}
 use Rattle.ov_fields.specs.Answers.{Gives}
 use Rattle.ov_record.specs.Briefs.{Brief as SpelledBrief, plain_brief, plain_front}
@@ -47,7 +47,7 @@ pub is_read : {W : ℕ} (bytes : List ℕ) (r : Result (BriefOf W × ℕ) Record
     → plain_brief x ≡ u
 is_read {W = W} bytes r x n is only u form same =
     let gives : Gives place_of (plain_front {W = W}) (Ok (x, n))
-        (Ok (u, length (brief_spelling second_form u))) =
+    (Ok (u, length (brief_spelling second_form u))) =
     subst (λ (q : Result (BriefOf W × ℕ) RecordFault).
     Gives place_of plain_front q (Ok (u, length (brief_spelling second_form u)))) is
     (read_alone {W = W} bytes r only u form same) in

@@ -1,5 +1,5 @@
 -- What a question to the owner's book puts to standard output, and its status.
-use Rattle.std.specs.Prelude.{◌⊎◌, ℕ, List, [], Option, Ok, Err, codes}
+use Rattle.std.specs.Prelude.{◌⊎◌, ℕ, List, Option, Ok, Err, codes}
 use Rattle.ov_acts.specs.Printing.{Puts, PutsNone}
 use Rattle.ov_script.specs.Lines.{reply_line}
 use Rattle.ov_script.specs.declared.reply.Reply.TheVariants.{Refused as RefusedReply}

@@ -64,11 +64,7 @@ fn client_of(user: &Name, roots: &Roots) -> Client
 }
 
 /// The key line of a user.
-pub fn tell_key<D: Disk>(
-    alloc: Global,
-    book: &Book<D>,
-    user: &Name,
-) -> Result<Octets, BookStop>
+pub fn tell_key<D: Disk>(alloc: Global, book: &Book<D>, user: &Name) -> Result<Octets, BookStop>
     ensures { let c = book.now.settled in
         Says (key_answer book.now.masters (matrix_shown c) (outline c) user.now) result }
 {
@@ -84,7 +80,12 @@ pub fn tell_key<D: Disk>(
 }
 
 /// The line on the list of a file.
-fn line_on_list(alloc: Global, state: &Catalogue, file: &Name, set: &Users) -> Result<Octets, Memory>
+fn line_on_list(
+    alloc: Global,
+    state: &Catalogue,
+    file: &Name,
+    set: &Users,
+) -> Result<Octets, Memory>
     requires { AreDistinct state.now.catalogue.users }
     ensures { IfOk result (λ bytes. bytes
         ≡ reply_line (ListReply file.now (names_in set.now state.now.catalogue.users))) }

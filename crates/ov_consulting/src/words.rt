@@ -122,13 +122,7 @@ fn job_of(alloc: Global, words: &[String]) -> Result<Option<BookJob>, Memory>
                 return Ok(None);
             }
             let (_, rest) = words.split_at(4);
-            job_behind(
-                alloc,
-                keys.as_str(),
-                book.as_str(),
-                mode.as_str(),
-                rest,
-            )
+            job_behind(alloc, keys.as_str(), book.as_str(), mode.as_str(), rest)
         }
         _ => Ok(None),
     }

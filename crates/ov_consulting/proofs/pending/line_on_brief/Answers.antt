@@ -1,4 +1,4 @@
-use Rattle.std.proofs.Common.{◌≡◌, ◌∙◌, List, ℕ, Err, Some, ap, sym, subst}
+use Rattle.std.proofs.Common.{◌≡◌, ◌∙◌, List, ℕ, Err, Some, ap, subst}
 use Rattle.std.specs.Prelude.{IfOk}
 use Rattle.ov_history.specs.Catalogue.{matrix_shown}
 use Rattle.ov_record.specs.Briefs.{Brief as SpelledBrief}
