@@ -1,6 +1,6 @@
 //! A result that is to be a file: it is written under another name beside that file, and takes its
 //! place only as a whole.
-ghost use Rattle.std.specs.Prelude.{None, ⊤};
+ghost use Rattle.std.specs.Prelude.{◌≡◌, None, ⊤};
 
 use ov_base::Memory;
 use ov_io::{Fault, Sink};

@@ -154,7 +154,7 @@ fn read_word(word: &str) -> Word<'_> {
 
 // The seconds that a word is.
 fn seconds_in(word: &str) -> Option<u32> {
-    if word.bytes().all(|byte| byte.is_ascii_digit()) {
+    if word.as_bytes().iter().all(|byte| byte.is_ascii_digit()) {
         let seconds = word.parse::<u32>().ok()?;
         (1 <= seconds && seconds <= MOST_SECONDS).then_some(seconds)
     } else {

@@ -74,16 +74,21 @@ fn drafted(rt: &HostRuntime, job: &Job, options: &Options<'_>, draft: &mut Draft
     }
 }
 
+// Puts the result in the place of its file, and gives the status.
+fn settle(rt: &HostRuntime, path: &str, draft: &mut Draft) -> u8 {
+    match draft.settle() {
+        Ok(()) => Status::Done.code(),
+        Err(Fault) => say_unwritten(rt, Unwritten::Failed(path, draft.reason())),
+    }
+}
+
 // Does the job, and puts its result in the place of the file, where it has one.
 fn save(rt: &HostRuntime, job: &Job, options: &Options<'_>, path: &str, draft: &mut Draft) -> u8
     requires list { HasListLimits job.now.act }
 {
     let mut outcome = drafted(rt, job, options, draft);
     match Status::from_code(outcome.code) {
-        Some(Status::Done) => match draft.settle() {
-            Ok(()) => return outcome.code,
-            Err(Fault) => return say_unwritten(rt, Unwritten::Failed(path, draft.reason())),
-        },
+        Some(Status::Done) => return settle(rt, path, draft),
         Some(Status::WriteFault) => {
             draft.discard();
             return say_unwritten(rt, Unwritten::Failed(path, draft.reason()));
