@@ -1,9 +1,10 @@
 //! Waits for a server: what is said of a long one, and when one ends.
 //!
-//! A stream is read and written by calls that last a second at most. So whoever waits counts the
-//! seconds in which nothing came, needs no clock for it, and is told of each by the system. The
-//! system's own limits are those of the runtime's net, as without this.
+//! A stream is read and written by calls that wait for a second at most, and are made again. So the
+//! seconds of a wait are counted without a clock, and a signal that interrupts a call costs a second
+//! of the count at most.
 
+use ov_retry::{read_retrying, write_retrying};
 use std::io;
 use std::io::{ErrorKind, Read, Write};
 use std::net::{Net, OpenListener, OpenStream, SocketAddr};
@@ -167,8 +168,8 @@ impl<S, R: Eprint> PatientStream<S, R> {
 
 impl<S: Read, R: Eprint> Read for PatientStream<S, R> {
     fn read(&mut self, buf: &mut [u8]) -> io::Result<usize> {
-        'seconds: for before in 0..self.seconds {
-            let taken = self.stream.read(buf);
+        for before in 0..self.seconds {
+            let taken = read_retrying(&mut self.stream, buf);
             if !is_late(&taken) {
                 return taken;
             }
@@ -180,8 +181,8 @@ impl<S: Read, R: Eprint> Read for PatientStream<S, R> {
 
 impl<S: Write, R: Eprint> Write for PatientStream<S, R> {
     fn write(&mut self, buf: &[u8]) -> io::Result<usize> {
-        'seconds: for before in 0..self.seconds {
-            let written = self.stream.write(buf);
+        for before in 0..self.seconds {
+            let written = write_retrying(&mut self.stream, buf);
             if !is_late(&written) {
                 return written;
             }
