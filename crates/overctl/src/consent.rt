@@ -4,16 +4,18 @@ use crate::asks::text_of;
 use crate::real::text_of as text_of_word;
 use ov_acts::{Act, Job, Status};
 use ov_owning::{OwnAct, OwnJob};
-use std::fmt;
 use std::fmt::{Display, Formatter, Write};
-use std::fs;
 use std::io::{Input, IsTerminal};
+use std::{fmt, fs};
 
 /// What a command makes unreadable for good.
 #[derive(Clone, Copy)]
 pub enum Loss<'a> {
     /// A file of the store, which is removed.
-    File { file: &'a str, address: &'a str },
+    File {
+        file: &'a str,
+        address: &'a str,
+    },
     /// The bytes of a file of the store, in whose place come those of an empty file at a path.
     Bytes {
         file: &'a str,

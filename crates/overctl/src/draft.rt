@@ -4,11 +4,10 @@ ghost use Rattle.std.specs.Prelude.{◌≡◌, None, ⊤};
 
 use ov_base::Memory;
 use ov_io::{Fault, Sink};
-use std::fs;
 use std::fs::{File, OpenOptions};
-use std::io;
 use std::io::{ErrorKind, Write};
 use std::os::unix::fs::{MetadataExt, OpenOptionsExt, PermissionsExt};
+use std::{fs, io};
 
 // Bytes that are kept in memory at first, more than the line of a refusal has.
 const SHORT: usize = 64;

@@ -4,8 +4,9 @@ use crate::consent::{goes_on, loss_of_own};
 use crate::options::Options;
 use crate::own_texts::{OwnEnding, OwnHint};
 use crate::patience::PatientNet;
-use crate::real::{INPUT_NAME, STANDARD_INPUT, fault_of, link_fault, text_of, warn_of_mode};
-use crate::real::say_not_agreed;
+use crate::real::{
+    INPUT_NAME, STANDARD_INPUT, fault_of, link_fault, say_not_agreed, text_of, warn_of_mode,
+};
 use crate::texts::{FREE_SOME, OUT_OF_MEMORY};
 use crate::usage::say;
 use ov_base::Memory;

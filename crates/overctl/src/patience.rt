@@ -14,8 +14,8 @@ use std::time::Duration;
 /// After how many seconds of waiting a line says what is waited for.
 const SPEAKS_AFTER: u64 = 5;
 
-// How long one call waits.
-const TICK: Duration = Duration::from_secs(1);
+// How many seconds one call waits.
+const CALL_SECONDS: u64 = 1;
 
 /// A net that says on standard error what is waited for, once a wait has lasted five seconds, and
 /// ends a wait after so many seconds, where a number is given. Its streams wait in the same way.
@@ -104,7 +104,7 @@ pub struct PatientListener<L, R> {
 
 impl<L: OpenListener, R: Eprint + Copy + Drop> OpenListener for PatientListener<L, R>
 where
-    L::Stream: OpenStream,
+    L::Stream: OpenStream + Drop,
 {
     type Stream = PatientStream<L::Stream, R>;
 
@@ -132,11 +132,12 @@ pub struct PatientStream<S, R> {
     has_spoken: bool,
 }
 
-impl<S: OpenStream, R> PatientStream<S, R> {
+impl<S: OpenStream + Drop, R: Drop> PatientStream<S, R> {
     // This stream, with the limit of a call.
     fn new(stream: S, rt: R, addr: SocketAddr, seconds: u64) -> io::Result<PatientStream<S, R>> {
-        stream.set_read_timeout(Some(TICK))?;
-        stream.set_write_timeout(Some(TICK))?;
+        let one_call = Duration::from_secs(CALL_SECONDS);
+        stream.set_read_timeout(Some(one_call))?;
+        stream.set_write_timeout(Some(one_call))?;
         Ok(PatientStream {
             stream,
             rt,

@@ -2,8 +2,8 @@
 ghost use Rattle.ov_acts.specs.Files.{HasListLimits};
 
 use crate::asks::{Asks, asks_of, file_of, stores};
-use crate::ending::{Ending, Hint};
 use crate::consent::{AGREE, NOT_AGREED, NOT_AGREED_STATUS, goes_on, loss_of};
+use crate::ending::{Ending, Hint};
 use crate::heard::Heard;
 use crate::leaked::{WatchedLink, is_base};
 use crate::options::Options;
@@ -266,11 +266,7 @@ pub fn run_job(rt: &HostRuntime, job: &Job, options: &Options<'_>) -> u8
 }
 
 // Asks over the real stream, and prints the answer.
-fn do_ask(
-    rt: &HostRuntime,
-    asked: &Asked<'_>,
-    options: &Options<'_>,
-) -> Result<Outcome, Memory> {
+fn do_ask(rt: &HostRuntime, asked: &Asked<'_>, options: &Options<'_>) -> Result<Outcome, Memory> {
     let alloc = rt.alloc();
     let mut out = Heard::new(StdSink::new(Retrying::new(rt.stdout())));
     let net = PatientNet::new(*rt, options.timeout);

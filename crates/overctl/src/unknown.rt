@@ -20,11 +20,7 @@ fn is_unknown<P: Peer>(alloc: Global, peer: &mut P, user: &Name) -> bool {
 }
 
 // Those of these names that the store has no user of, with commas between.
-fn unknown_among<P: Peer>(
-    alloc: Global,
-    peer: &mut P,
-    names: &[Name],
-) -> Result<String, Memory> {
+fn unknown_among<P: Peer>(alloc: Global, peer: &mut P, names: &[Name]) -> Result<String, Memory> {
     let mut unknown = String::new(alloc);
     for name in names {
         if is_unknown(alloc, peer, name) {
