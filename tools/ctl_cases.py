@@ -623,12 +623,17 @@ def requests_that_are_not_taken():
                 stream.sendall(framed(REPLIES["WELCOME"]))
                 request(stream)
                 stream.sendall(framed(REPLIES["PLAN"]))
-                time.sleep(8)
+                # A call that was given some room says so only when its second is over.
+                gone.wait(SECONDS)
 
+        gone = threading.Event()
         serving = threading.Thread(target=serve)
         serving.start()
-        found = run(client_folder(), ["create", address, "keys", "f1", "a,b", "longest", "--timeout", "6"])
-        serving.join()
+        try:
+            found = run(client_folder(), ["create", address, "keys", "f1", "a,b", "longest", "--timeout", "6"])
+        finally:
+            gone.set()
+            serving.join()
     busy = "it may be busy, or another program may listen there; if it is overstored, "
     lines = ["overctl: note: waiting for %s to take the request" % address]
     assert found == (8, b"", lines + two_lines("no reply from %s for 6 s" % address, busy + FILE_IN_DOUBT)), found
