@@ -1,13 +1,17 @@
 """Runs overctl by itself, over files and a server that gives fixed replies: each exit status with what it prints
-and its two lines on standard error, words that are no line, help, and a file of keys that others may read.
+and its two lines on standard error, words that are no line, options, waits, a terminal, help, and a file of keys that
+others may read.
 
 Run, after `rt run` has built the program: python3 tools/ctl_cases.py crates/overctl/out/overctl
 """
 import fcntl
 import os
 import pathlib
+import pty
 import re
 import resource
+import select
+import signal
 import socket
 import struct
 import subprocess
@@ -53,6 +57,9 @@ KEY_LINE = (
     "c 2 6829d4d2e470debd34bf50f13047db4dcf730cbfe88e9986e6fe30dd7d674731 "
     "2 e1fda146db9605768430fc279fa83120a9db575932132e13b257f8b099e61c11\n"
 )
+# What the system takes off the mode of a new file.
+MASK = os.umask(0o022)
+os.umask(MASK)
 VERSION = re.match(r"overstore \((.*?)\)", (ROOT / "dist" / "debian" / "changelog").read_text())[1]
 CHECK = "2a4f6d54a45f46e7a818a4f59451e9fbb0959add6660c90fc1b8bf8d4b73c745"
 
@@ -65,6 +72,13 @@ class Broken:
 
     def __init__(self, raw, resets=False):
         self.raw, self.resets = raw, resets
+
+
+class Late:
+    """A reply that comes so many seconds late."""
+
+    def __init__(self, seconds, reply):
+        self.seconds, self.reply = seconds, reply
 
 
 def taken(stream, count):
@@ -100,21 +114,31 @@ class Server:
             return
         with stream:
             stream.settimeout(SECONDS)
-            for reply in self.replies:
-                frame = request(stream)
-                if frame is None:
-                    return
-                self.asked.append(frame)
-                if isinstance(reply, Broken):
-                    stream.sendall(reply.raw)
-                    if reply.resets:
-                        time.sleep(0.2)
-                        stream.setsockopt(socket.SOL_SOCKET, socket.SO_LINGER, struct.pack("ii", 1, 0))
-                    return
-                stream.sendall(framed(reply))
+            try:
+                self.answer(stream)
+            except ConnectionError:
+                # The client waited no longer.
+                pass
+
+    def answer(self, stream):
+        for reply in self.replies:
             frame = request(stream)
-            if frame is not None:
-                self.asked.append(frame)
+            if frame is None:
+                return
+            self.asked.append(frame)
+            if isinstance(reply, Late):
+                time.sleep(reply.seconds)
+                reply = REPLIES.get(reply.reply, reply.reply)
+            if isinstance(reply, Broken):
+                stream.sendall(reply.raw)
+                if reply.resets:
+                    time.sleep(0.2)
+                    stream.setsockopt(socket.SOL_SOCKET, socket.SO_LINGER, struct.pack("ii", 1, 0))
+                return
+            stream.sendall(framed(reply))
+        frame = request(stream)
+        if frame is not None:
+            self.asked.append(frame)
 
     def end(self):
         # Whoever is still waited for isn't coming.
@@ -142,7 +166,7 @@ def two_lines(error, hint):
 def is_in_form(lines):
     """Each line is in lower case but for names, and ends with no full stop."""
     for line in lines:
-        assert re.match(r"overctl: (error|hint|warning): [^A-Z]", line), line
+        assert re.match(r"overctl: (error|hint|note|warning): [^A-Z]", line), line
         assert not line.endswith("."), line
 
 
@@ -166,15 +190,16 @@ def client_folder():
     return folder
 
 
-def case(words, replies, status, out, error=None, hint=None, asked=None, **streams):
+def case(words, replies, status, out, error=None, hint=None, asked=None, note=None, folder=None, **streams):
     """A run over a server with these replies, whose address stands for `@` in words and lines."""
     server = Server([REPLIES[reply] if isinstance(reply, str) else reply for reply in replies])
     at = lambda text: text.replace("@", server.address)
     try:
-        found = run(client_folder(), [at(word) for word in words.split()], **streams)
+        found = run(folder or client_folder(), [at(word) for word in words.split()], **streams)
     finally:
         server.end()
-    lines = [] if error is None else two_lines(at(error), at(hint))
+    lines = [] if note is None else ["overctl: note: " + at(note)]
+    lines += [] if error is None else two_lines(at(error), at(hint))
     assert found == (status, out, lines), (words, found, (status, out, lines))
     is_in_form(lines)
     assert asked is None or len(server.asked) == asked, (words, server.asked)
@@ -623,6 +648,276 @@ def words_that_are_no_question():
         assert found == (2, b"", two_lines(error, usage)), (words, found)
 
 
+# ---- options
+
+
+def state(folder):
+    """The names and the bytes of what is in a folder."""
+    return {path.name: path.read_bytes() for path in folder.iterdir() if path.is_file()}
+
+
+def mode(path):
+    return path.stat().st_mode & 0o777
+
+
+def results_in_files():
+    """With -o the result is in a file: as a whole, or the file is as it was; and nothing else is left beside it."""
+    for option in ("-o new", "--output new", "--output=new"):
+        folder = client_folder()
+        before = state(folder)
+        case("%s %s" % (READ, option), ["CHAINED", "BYTES"], 0, b"", asked=2, folder=folder)
+        assert state(folder) == {**before, "new": b"x1"}
+        assert mode(folder / "new") == 0o666 & ~MASK
+    folder = client_folder()
+    (folder / "new").write_bytes(b"an older one")
+    (folder / "new").chmod(0o640)
+    (folder / "new.part0").write_bytes(b"another's")
+    before = state(folder)
+    case("-o new " + READ, ["CHAINED", "BYTES"], 0, b"", folder=folder)
+    assert state(folder) == {**before, "new": b"x1"} and mode(folder / "new") == 0o640 & ~MASK
+    # a key line is for its owner alone, whatever was there
+    (folder / "new").chmod(0o644)
+    case(KEY + " -o new", ["WELCOME", "KNOWN_C"], 0, b"", folder=folder)
+    assert state(folder) == {**before, "new": KEY_LINE.encode()} and mode(folder / "new") == 0o600
+    # a link is replaced itself
+    (folder / "link").symlink_to("new")
+    case(READ + " -o link", ["CHAINED", "BYTES"], 0, b"", folder=folder)
+    assert not (folder / "link").is_symlink() and (folder / "link").read_bytes() == b"x1"
+    assert (folder / "new").read_bytes() == KEY_LINE.encode()
+
+
+def files_that_stay():
+    """At each status but 0 the file is as it was, and a refusal is on standard output."""
+    as_is = [
+        ([b"\x88\x04"], 3, b"refused 4 NoPath\n", "@ refuses the command: 4 NoPath", NO_PATH),
+        (["CHAINED", "DEVICE_FAULT"], 4, b"", "the disk of the store at @ failed", AS_IT_WAS),
+        (["NO_MEMORY"], 7, b"", "out of memory, here or at @", AS_IT_WAS),
+        (["CHAINED", Broken(b"")], 8, b"", CUT_OFF, OTHER_PROGRAM + AS_IT_WAS),
+        (["BYTES"], 11, b"", NO_ANSWER, SAME_VERSION + ", and that key is of its store"),
+    ]
+    for exists in (False, True):
+        folder = client_folder()
+        if exists:
+            (folder / "new").write_bytes(b"an older one")
+        before = state(folder)
+        for replies, status, out, error, hint in as_is:
+            case(READ + " -o new", replies, status, out, error, hint, folder=folder)
+            assert state(folder) == before, status
+    with open("/dev/full", "wb") as full:
+        writable = "see that it is open, and that there is room"
+        case(READ + " -o new", [b"\x88\x04"], 6, None, NO_OUTPUT, writable, stdout=full, folder=folder)
+    assert state(folder) == before
+    case("read @ nokey f1 -o new", [], 5, b"", "cannot read nokey: no such file", "see that it is a file that you may read", folder=folder)
+    assert state(folder) == before
+
+
+def files_that_are_not_written():
+    """Where no result can be put in a file's place nothing is asked; where a call fails the file is as it was."""
+    folder = client_folder()
+    (folder / "new").write_bytes(b"an older one")
+    (folder / "again").hardlink_to(folder / "key")
+    before = state(folder)
+    other = "take another path behind `-o`"
+    for path in ("folder", "/dev/null"):
+        case("%s -o %s" % (READ, path), [], 6, b"", "cannot write %s: it is no regular file" % path, other, asked=0, folder=folder)
+    for words, path in ((READ, "key"), (READ, "again"), (KEY, "keys"), (KEY, "./keys")):
+        error = "cannot write %s: it has the keys of this command" % path
+        case("%s -o %s" % (words, path), [], 6, b"", error, other, asked=0, folder=folder)
+    room = "see that you may write in its folder, and that there is room: it is as it was"
+    case(READ + " -o no/new", ["CHAINED", "BYTES"], 6, b"", "cannot write no/new: no such folder", room, folder=folder)
+    limit = lambda: (
+        signal.signal(signal.SIGXFSZ, signal.SIG_IGN),
+        resource.setrlimit(resource.RLIMIT_FSIZE, (1, 1)),
+    )
+    error = "cannot write new: file too large"
+    case(READ + " -o new", ["CHAINED", "BYTES"], 6, b"", error, room, folder=folder, preexec_fn=limit)
+    assert state(folder) == before
+
+
+def options_that_are_wrong():
+    folder = client_folder()
+    saves = "use `-o FILE` with `overctl read` and `overctl key`"
+    waits = "use `--timeout SECONDS` with a command that asks a server"
+    sure = "use `--yes` with `remove` and `replace`, by a book too"
+    read = "read here:1 key f1 "
+    for words, error, hint in [
+        (read + "-o", "`--output` is without its value", saves),
+        (read + "-o -", "`--output` is without its value", saves),
+        (read + "--output=", "`--output` is without its value", saves),
+        (read + "-o --timeout 5", "`--output` is without its value", saves),
+        (read + "-o a --output b", "`--output` is given twice", saves),
+        (read + "--timeout", "`--timeout` is without its value", waits),
+        (read + "--timeout 1 --timeout=2", "`--timeout` is given twice", waits),
+        (read + "--timeout 0", "`0` is no number of seconds from 1 to 86400", waits),
+        (read + "--timeout 86401", "`86401` is no number of seconds from 1 to 86400", waits),
+        (read + "--timeout=5s", "`5s` is no number of seconds from 1 to 86400", waits),
+        (read + "--timeout +5", "`+5` is no number of seconds from 1 to 86400", waits),
+        ("list here:1 keys f1 -o new", "the command doesn't have `--output`", saves),
+        ("files here:1 -o new", "the command doesn't have `--output`", saves),
+        ("check keys --timeout 5", "the command doesn't have `--timeout`", waits),
+        ("--yes enrol here:1 keys a", "the command doesn't have `--yes`", sure),
+        ("remove here:1 keys f1 --yes --yes", "`--yes` is given twice", sure),
+    ]:
+        found = run(folder, words.split())
+        assert found == (2, b"", two_lines(error, hint)), (words, found)
+        is_in_form(found[2])
+    # other words that look like options are named by the line
+    found = run(folder, "remove here:1 keys f1 --yes --force".split())
+    assert found == (2, b"", two_lines("there are too many words, or an unknown option", "use `overctl remove ADDRESS KEYS FILE`")), found
+
+
+def waits_that_end():
+    """With --timeout a command ends with 8 once nothing came for so long; after five seconds of a wait it says what it
+    waits for, with a limit or without."""
+    busy = "it may be busy, or another program may listen there; if it is overstored, "
+    replies = "waiting for @ to reply"
+    for words, hint in ((LIST, AS_IT_WAS), (GRANT, IN_DOUBT), ("files @ a", AS_IT_WAS)):
+        began = time.monotonic()
+        case(words + " --timeout 1", [Late(2, "WELCOME")], 8, b"", "no reply from @ for 1 s", busy + hint, asked=1)
+        assert 0.9 < time.monotonic() - began < 4
+    began = time.monotonic()
+    case("--timeout=6 " + LIST, [Late(7, "WELCOME")], 8, b"", "no reply from @ for 6 s", busy + AS_IT_WAS, note=replies, asked=1)
+    assert 5.9 < time.monotonic() - began < 9
+    # what comes in time is taken, however long the whole command is
+    late = [Late(0.7, "WELCOME"), Late(0.7, "LISTED")]
+    case(LIST + " --timeout 1", late, 0, b"list f1 a,b\n", asked=2)
+    late = [Late(6, "WELCOME"), Late(6, "LISTED")]
+    case(LIST, late, 0, b"list f1 a,b\n", note=replies, asked=2)
+
+
+def requests_that_are_not_taken():
+    """A server that takes no more of a request: the wait for that ends too."""
+    with socket.create_server(("127.0.0.1", 0)) as listener:
+        listener.setsockopt(socket.SOL_SOCKET, socket.SO_RCVBUF, 4096)
+        address = "127.0.0.1:%d" % listener.getsockname()[1]
+
+        def serve():
+            stream, _ = listener.accept()
+            with stream:
+                request(stream)
+                stream.sendall(framed(REPLIES["WELCOME"]))
+                request(stream)
+                stream.sendall(framed(REPLIES["PLAN"]))
+                # A call that was given some room says so only when its second is over.
+                gone.wait(SECONDS)
+
+        gone = threading.Event()
+        serving = threading.Thread(target=serve)
+        serving.start()
+        try:
+            found = run(client_folder(), ["create", address, "keys", "f1", "a,b", "longest", "--timeout", "6"])
+        finally:
+            gone.set()
+            serving.join()
+    busy = "it may be busy, or another program may listen there; if it is overstored, "
+    lines = ["overctl: note: waiting for %s to take the request" % address]
+    assert found == (8, b"", lines + two_lines("no reply from %s for 6 s" % address, busy + FILE_IN_DOUBT)), found
+
+
+def connections_that_are_not_taken():
+    """A server with as many connections waiting as it may have: further ones get no answer."""
+    with socket.create_server(("127.0.0.1", 0), backlog=0) as listener:
+        address = "127.0.0.1:%d" % listener.getsockname()[1]
+        waiting = []
+        for _ in range(4):
+            stream = socket.socket()
+            stream.setblocking(False)
+            stream.connect_ex(listener.getsockname())
+            waiting.append(stream)
+        time.sleep(0.2)
+        network = "check the address and the network; if it was reached, "
+        lines = two_lines("cannot reach %s: timed out" % address, network + AS_IT_WAS)
+        began = time.monotonic()
+        found = run(client_folder(), ["epoch", address, "--timeout", "1"])
+        assert found == (8, b"", lines) and 0.9 < time.monotonic() - began < 4, found
+        found = run(client_folder(), ["epoch", address, "--timeout", "7"])
+        said = "overctl: note: waiting for %s to take the connection" % address
+        assert found == (8, b"", [said, *lines]) and 6.9 < time.monotonic() - began < 12, found
+        for stream in waiting:
+            stream.close()
+
+
+def names_that_are_not_enrolled():
+    """Where a creation is refused for that it asks which names of the list they are, over the same session."""
+    refused = "@ refuses the command: 2 NoUser"
+    enrol = "correct the name, or enrol the user first"
+    no_user = b"\x88\x02"
+    line = b"refused 2 NoUser\n"
+    unknown = ["WELCOME", no_user, "KNOWN_C", no_user]
+    case(CREATE, unknown, 3, line, refused, enrol, note="not enrolled: b", asked=4)
+    unknown = ["WELCOME", no_user, no_user, no_user]
+    case(CREATE, unknown, 3, line, refused, enrol, note="not enrolled: a,b", asked=4)
+    # who was enrolled meanwhile isn't named, and a server that leaves ends the questions
+    case(CREATE, ["WELCOME", no_user, "KNOWN_C", "KNOWN_C"], 3, line, refused, enrol, asked=4)
+    case(CREATE, ["WELCOME", no_user, Broken(b"")], 3, line, refused, enrol, asked=3)
+    case(GRANT, ["WELCOME", no_user], 3, line, refused, enrol, asked=2)
+
+
+def books_that_are_in_use():
+    """The file of the book that another process has is named."""
+    folder = client_folder()
+    with open(folder / "team.book", "wb") as book:
+        fcntl.lockf(book, fcntl.LOCK_EX)
+        status, out, lines = run(folder, "own here:1 keys team delta enrol a".split())
+    assert (status, out) == (17, b"error disk\n"), (status, out, lines)
+    assert lines[0] == "overctl: error: team.book is in use by another process", lines
+
+
+# ---- a terminal
+
+
+def on_terminal(folder, words, replies, typed):
+    """A run whose standard input and standard error are a terminal, at which this is typed where something is asked:
+    the status, what it puts, what the terminal shows of it, and what was asked of the server."""
+    server = Server([REPLIES[reply] if isinstance(reply, str) else reply for reply in replies])
+    ours, its = pty.openpty()
+    words = [word.replace("@", server.address) for word in words.split()]
+    process = subprocess.Popen([PROGRAM, *words], cwd=folder, stdin=its, stderr=its, stdout=subprocess.PIPE)
+    os.close(its)
+    shown = b""
+    try:
+        while select.select([ours], [], [], SECONDS)[0]:
+            piece = os.read(ours, 4096)
+            shown += piece
+            if b"[y/N] " in piece:
+                os.write(ours, typed)
+    except OSError:
+        # The program ended, and the terminal with it.
+        pass
+    out, _ = process.communicate(timeout=SECONDS)
+    os.close(ours)
+    server.end()
+    return process.returncode, out, shown.decode().replace(server.address, "@"), len(server.asked)
+
+
+def questions_on_a_terminal():
+    """A removal, and a replacement by an empty file, are asked about where somebody can answer, and else aren't."""
+    removes = ["WELCOME", "KNOWN", "ACCEPTED"]
+    replaces = ["WELCOME", "PLAN", "ACCEPTED"]
+    folder = client_folder()
+    (folder / "empty").touch()
+    question = "overctl: remove f1 from the store at @ for all its readers? [y/N] "
+    emptied = "overctl: empty is empty: replace f1 in the store at @ by no bytes? [y/N] "
+    empty = "replace @ keys f1 empty"
+    for words, replies, asks in ((REMOVE, removes, question), (empty, replaces, emptied)):
+        for typed in (b"y\n", b"Y\n", b"yes\n"):
+            status, out, shown, asked = on_terminal(folder, words, replies, typed)
+            assert (status, out, asked) == (0, b"ok 8\n", 3) and shown.startswith(asks), (words, typed, status, shown)
+        for typed in (b"\n", b"n\n", b"yeah\n", b"\x04"):
+            status, out, shown, asked = on_terminal(folder, words, replies, typed)
+            assert (status, out, asked) == (2, b"", 0) and shown.startswith(asks), (words, typed, status, shown)
+            assert "overctl: error: the answer isn't `y`, so nothing was sent" in shown, shown
+        status, out, shown, asked = on_terminal(folder, words + " --yes", replies, b"n\n")
+        assert (status, out, shown, asked) == (0, b"ok 8\n", "", 3), (words, status, shown)
+        # where standard input is no terminal nobody can answer
+        case(words, replies, 0, b"ok 8\n", asked=3, folder=folder)
+    for words, replies in ((REPLACE, replaces), (GRANT, removes)):
+        assert on_terminal(folder, words, replies, b"n\n") == (0, b"ok 8\n", "", 3), words
+    status, out, shown, asked = on_terminal(folder, "own @ keys team delta remove f1", [], b"n\n")
+    assert (status, out, asked) == (2, b"", 0) and shown.startswith(question), (status, shown)
+    assert not (folder / "team.book").exists()
+
+
 # ---- words
 
 
@@ -676,6 +971,15 @@ def words_that_are_no_line():
     assert found == (2, b"", two_lines("a word is no text", usage % "--help")), found
 
 
+def options_of(words):
+    """The options that this command has, or all."""
+    if words == ["check"]:
+        return []
+    output = ["--output"] if words in ([], ["read"], ["key"]) else []
+    yes = ["--yes"] if words in ([], ["remove"], ["replace"], ["own"]) else []
+    return [*output, "--timeout", *yes]
+
+
 def help_and_version():
     folder = client_folder()
     commands = "enrol create grant revoke remove replace list key read check epoch users files own book".split()
@@ -685,7 +989,9 @@ def help_and_version():
             status, out, told = run(folder, [*words, flag])
             lines = out.decode().splitlines()
             assert (status, told) == (0, []), (words, status, told)
-            assert len(lines) <= (24 if words else 27) and max(map(len, lines)) <= 80, out.decode()
+            assert len(lines) <= (24 if words else 30) and max(map(len, lines)) <= 80, out.decode()
+            has = [option for option in ("--output", "--timeout", "--yes") if option in out.decode()]
+            assert has == options_of(words), (words, has)
             assert any(line.startswith("Example: overctl ") for line in lines), out.decode()
             table = out.decode().split("Exit status:")[1]
             # a command by the owner's book has no 12 and 13, and five of its own
@@ -764,6 +1070,16 @@ CASES = [
     updates_that_are_pending,
     books_that_do_not_answer,
     words_that_are_no_question,
+    results_in_files,
+    files_that_stay,
+    files_that_are_not_written,
+    options_that_are_wrong,
+    waits_that_end,
+    requests_that_are_not_taken,
+    connections_that_are_not_taken,
+    names_that_are_not_enrolled,
+    books_that_are_in_use,
+    questions_on_a_terminal,
     words_that_are_no_line,
     help_and_version,
     keys_that_others_read,

@@ -1,7 +1,7 @@
 """Runs the server over real sockets: sessions that are right and others that break in every way, every exit
 status with its line on standard error, what it says of files, folders, addresses and modes that can't be meant,
 and a kill between two sessions. With the client program besides it has that enrol a user, create a file and
-read it. With `--slow` it also waits for five minutes, until a client that says nothing is cut off.
+read it, near and at a round trip of 50 ms, wait, and ask after the server's health. With `--slow` it also waits for five minutes, until a client that says nothing is cut off.
 
 Run, after `rt run` has built the programs, at the top of the repository:
 
@@ -21,7 +21,7 @@ import sys
 import threading
 import time
 
-from common import KEYS, framed, keyed, new_folder, run_without_devices
+from common import KEYS, ROOT, framed, keyed, new_folder, run_without_devices, started
 
 WORDS = [word for word in sys.argv[1:] if word != "--slow"]
 SLOW = "--slow" in sys.argv
@@ -677,6 +677,104 @@ def a_write_that_fails():
     ]
 
 
+def a_server_far_away():
+    """At a round trip of 50 ms each request waits for it; the answers are the same, and nothing is said of the wait."""
+    folder = new_folder()
+    shutil.copy(KEYS, folder / "keys.hex")
+    (folder / "keys.hex").chmod(0o600)
+    server = Server(folder, 6)
+    words = [sys.executable, ROOT / "tools" / "delayed.py", server.address, "50"]
+    proxy, address = started(folder, *words)
+
+    def client(*words):
+        return subprocess.run([CLIENT, *words], cwd=folder, capture_output=True, timeout=SECONDS)
+
+    try:
+        began = time.monotonic()
+        done = client("enrol", address, "keys.hex", "alice")
+        assert (done.returncode, done.stdout, done.stderr) == (0, b"ok 1\n", b""), done
+        # its connection, and three requests
+        assert time.monotonic() - began >= 0.2
+        done = client("key", address, "keys.hex", "alice", "-o", "alice.key")
+        assert (done.returncode, done.stdout) == (0, b"") and (folder / "alice.key").stat().st_mode & 0o777 == 0o600, done
+        (folder / "file").write_bytes(random.Random(26).randbytes(70_000))
+        done = client("create", address, "keys.hex", "report", "alice", "file", "--timeout", "5")
+        assert (done.returncode, done.stdout, done.stderr) == (0, b"ok 2\n", b""), done
+        done = client("read", address, "alice.key", "report", "-o", "report")
+        assert (done.returncode, done.stdout) == (0, b""), done
+        assert (folder / "report").read_bytes() == (folder / "file").read_bytes()
+        done = client("read", address, "alice.key", "plan", "-o", "report")
+        assert (done.returncode, done.stdout) == (3, b"refused 3 NoFile\n"), done
+        assert (folder / "report").read_bytes() == (folder / "file").read_bytes()
+        done = client("create", address, "keys.hex", "plan", "bob,alice,carol", "file")
+        assert (done.returncode, done.stdout) == (3, b"refused 2 NoUser\n"), done
+        assert done.stderr.decode().splitlines()[0] == "overctl: note: not enrolled: bob,carol", done
+        assert not any(path.name.startswith("report.") for path in folder.iterdir())
+    finally:
+        proxy.kill()
+        proxy.wait()
+    assert server.end(6) == []
+
+
+def commands_that_wait():
+    """Where all workers are held a command waits: it says so, and ends by --timeout."""
+    server = Server(new_folder(), 4, workers=1)
+    with server.connect() as silent:
+        assert ask(silent, HELLO) == welcome(0)
+        words = [CLIENT, "epoch", server.address, "--timeout"]
+        done = subprocess.run([*words, "1"], capture_output=True, timeout=SECONDS)
+        assert (done.returncode, done.stdout) == (8, b""), done
+        assert done.stderr.decode().splitlines()[0] == "overctl: error: no reply from %s for 1 s" % server.address, done
+        process = subprocess.Popen([*words, "60"], stdout=subprocess.PIPE, stderr=subprocess.PIPE)
+        line = process.stderr.readline().decode()
+        assert line == "overctl: note: waiting for %s to reply\n" % server.address, line
+    out, told = process.communicate(timeout=SECONDS)
+    assert (process.returncode, out, told) == (0, b"mode delta\nepoch 0\n", b""), (process.returncode, out, told)
+    server.connect().close()
+    # The reply to the command that waited no longer may fail, and then the server says so.
+    server.end(4)
+
+
+def a_health_check():
+    """It ends with 0 while the server accepts updates, and not once its disk failed or it is gone."""
+    folder = new_folder()
+    shutil.copy(KEYS, folder / "keys.hex")
+    (folder / "settings.toml").touch(0o600)
+    (folder / "settings.toml").write_text(settings(7))
+    limit = lambda: (
+        signal.signal(signal.SIGXFSZ, signal.SIG_IGN),
+        resource.setrlimit(resource.RLIMIT_FSIZE, (95, 95)),
+    )
+    told = folder / "told"
+    # The limit holds for the log too, but what is said goes through a pipe.
+    with subprocess.Popen(["tee", told], stdin=subprocess.PIPE, stdout=subprocess.DEVNULL) as log:
+        process = subprocess.Popen(
+            [SERVER, "settings.toml"], cwd=folder, stdout=subprocess.PIPE, stderr=log.stdin, preexec_fn=limit
+        )
+        address = process.stdout.readline().decode().split()[1]
+
+        def healthy():
+            words = ["sh", ROOT / "dist" / "examples" / "health.sh", address, told]
+            environment = {**os.environ, "PATH": "%s:%s" % (pathlib.Path(CLIENT).parent, os.environ["PATH"])}
+            done = subprocess.run(words, env=environment, capture_output=True, timeout=SECONDS)
+            return done.returncode, done.stdout.decode()
+
+        def enrol(name):
+            words = [CLIENT, "enrol", address, "keys.hex", name]
+            return subprocess.run(words, cwd=folder, capture_output=True, timeout=SECONDS).returncode
+
+        assert healthy() == (0, "")
+        assert enrol("alice") == 0
+        assert healthy() == (0, "")
+        assert enrol("bob") == 4
+        time.sleep(0.2)
+        assert healthy() == (1, "%s accepts no update: its disk failed\n" % address)
+        process.kill()
+        process.wait()
+        assert healthy() == (1, "no answer from %s\n" % address)
+        log.stdin.close()
+
+
 def a_base_master_that_is_shown():
     """Settings that have it for the check value: the owner is told that it is public."""
     folder = new_folder()
@@ -716,7 +814,14 @@ CASES = [
 ]
 
 if __name__ == "__main__":
-    with_client = [a_file_over_the_network, a_write_that_fails, a_base_master_that_is_shown]
+    with_client = [
+        a_file_over_the_network,
+        a_server_far_away,
+        commands_that_wait,
+        a_write_that_fails,
+        a_health_check,
+        a_base_master_that_is_shown,
+    ]
     for case in CASES + (with_client if CLIENT else []) + ([a_silent_client] if SLOW else []):
         began = time.monotonic()
         case()

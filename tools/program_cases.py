@@ -128,6 +128,15 @@ def words_that_are_not_known():
         assert list(files_of(folder)) == ["keys.hex"], words
 
 
+def help_behind_a_mode():
+    """`--help` and `-h` may stand behind the word of a mode, and a store isn't begun for them."""
+    folder = store_folder()
+    wanted = told(folder, "--help")
+    for words in (["run", "--help"], ["audit", "-h"], ["load", "full", "-h"], ["audit", "alice", "--help"]):
+        assert told(folder, *words) == wanted, words
+    assert list(files_of(folder)) == ["keys.hex"]
+
+
 def lines_that_are_bad():
     status, lines, said = told(store_folder(), "run", "full", script=b"enrol a\nenroll b\n")
     assert (status, lines) == (3, b"ok 1\nerror line 2\n"), (status, lines)
@@ -189,6 +198,24 @@ def a_key_file_that_is_not_there():
         assert "nothing was answered" in said and list(files_of(folder)) == [], said
         subprocess.run(["sh", "-c", said.partition("for a new store: ")[2]], cwd=folder, check=True)
         expect(run(folder), 0, b"end epoch 0\n")
+
+
+def audits_of_nobody():
+    """Which names of the list aren't enrolled is on standard error, and standard output and the status are as without."""
+    folder = store_folder()
+    expect(run(folder, b"enrol alice\nenrol bob\n"), 0, b"ok 1\nok 2\nend epoch 2\n")
+    before = files_of(folder)
+    for words, missing in [
+        (["alise"], b"alise"),
+        (["alice,bobb,bob,carol"], b"bobb,carol"),
+        (["carol,alice", "server"], b"carol"),
+        (["alice,bob"], None),
+    ]:
+        done = subprocess.run([PROGRAM, "audit", *words], cwd=folder, stdin=subprocess.DEVNULL, capture_output=True)
+        out = b"end epoch 2\n" if missing is None else b"refused 2 NoUser\nend epoch 2\n"
+        said = b"" if missing is None else b"overstore: note: not enrolled: %s\n" % missing
+        assert (done.returncode, done.stdout, done.stderr) == (0, out, said), (words, done)
+        assert files_of(folder) == before, words
 
 
 def readings_of_no_store():
@@ -728,9 +755,11 @@ def killed_while_files_move():
 cases = [
     good_and_bad_scripts,
     words_that_are_not_known,
+    help_behind_a_mode,
     lines_that_are_bad,
     key_files_that_others_read_and_new_stores,
     a_key_file_that_is_not_there,
+    audits_of_nobody,
     readings_of_no_store,
     loads,
     a_script_that_is_too_long,

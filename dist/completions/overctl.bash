@@ -1,8 +1,20 @@
 # What overctl(1) takes behind its name, for bash. Behind a command words are completed as files.
 _overctl() {
-    local word=${COMP_WORDS[COMP_CWORD]} words=
+    local word=${COMP_WORDS[COMP_CWORD]} before=${COMP_WORDS[COMP_CWORD - 1]} words=
+    case $before in
+        # The word behind these is a path, or a number.
+        -o | --output | --timeout) COMPREPLY=() && return ;;
+    esac
     case $COMP_CWORD,$word in
         1,*) words='enrol create grant revoke remove replace list key read check epoch users files own book --help --version' ;;
+        *,-*)
+            words='--help --timeout'
+            case ${COMP_WORDS[1]} in
+                read | key) words+=' --output' ;;
+                remove | replace | own) words+=' --yes' ;;
+                check | book) words=--help ;;
+            esac
+            ;;
         4,*) [ "${COMP_WORDS[1]}" != book ] || words='full delta' ;;
         5,*)
             case ${COMP_WORDS[1]} in
@@ -11,7 +23,6 @@ _overctl() {
             esac
             ;;
         6,*) [ "${COMP_WORDS[1]}" != own ] || words='enrol create grant revoke remove replace resume' ;;
-        *,-*) words=--help ;;
     esac
     mapfile -t COMPREPLY < <(compgen -W "$words" -- "$word")
 }

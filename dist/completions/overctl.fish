@@ -3,6 +3,9 @@ set -l command '__fish_use_subcommand'
 
 complete -c overctl -f
 complete -c overctl -l help -d 'Print help'
+complete -c overctl -n 'not __fish_seen_subcommand_from check book' -l timeout -x -d 'End with 8 after so many seconds of a wait'
+complete -c overctl -n '__fish_seen_subcommand_from read key' -s o -l output -rF -d 'Put the result into a file'
+complete -c overctl -n '__fish_seen_subcommand_from remove replace own' -l yes -d 'Ask nothing'
 complete -c overctl -n $command -l version -d 'Print the version'
 complete -c overctl -n $command -a enrol -d 'Add a user'
 complete -c overctl -n $command -a create -d 'Store bytes as a file for the users of a list'

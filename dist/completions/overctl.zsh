@@ -3,7 +3,13 @@
 
 local address='2:address, as HOST\:PORT: '
 local keys='3:file of both masters:_files'
-local -a places
+local -a places flags
+flags=('--timeout[end with 8 after so many seconds of a wait]:seconds: ')
+case ${words[2]} in
+    read | key) flags+=('(-o --output)'{-o,--output}'[put the result into a file]:file:_files') ;;
+    remove | replace | own) flags+=('--yes[ask nothing]') ;;
+    check | book) flags=() ;;
+esac
 case ${words[2]} in
     enrol | key) places=($address $keys '4:user: ') ;;
     create) places=($address $keys '4:file in the store: ' '5:users, with commas between them: ' '6:bytes to be stored:_files') ;;
@@ -22,5 +28,6 @@ esac
 _arguments \
     '(- *)--help[print help]' \
     '(- *)--version[print the version]' \
+    $flags \
     '1:command:((enrol\:"add a user" create\:"store bytes as a file" grant\:"put a user onto a list" revoke\:"take a user off a list" remove\:"take a file away" replace\:"give a file new bytes" list\:"print a list" key\:"print a user key line" read\:"print the bytes of a file" check\:"print a check value" epoch\:"print mode and epoch" users\:"print the users" files\:"print all lists, or the files of a user" own\:"send a command by a book" book\:"ask the book of an owner"))' \
     $places

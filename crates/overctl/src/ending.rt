@@ -20,6 +20,7 @@ pub struct Ending<'a> {
     pub name: &'a str,
     pub path: &'a str,
     pub reason: Option<ErrorKind>,
+    pub timeout: Option<u32>,
     pub refusal: Option<Refusal>,
     pub leaked: bool,
 }
@@ -40,11 +41,24 @@ fn say_unreached<W: Write>(end: &Ending<'_>, f: &mut Formatter<W>) -> fmt::Resul
     match end.reason {
         Some(ErrorKind::InvalidInput) => write!(f, "{address} is no address"),
         Some(ErrorKind::NotFound) => write!(f, "cannot reach {address}: no such host"),
+        Some(ErrorKind::WouldBlock) => say_late(address, end.timeout, f),
         Some(reason) => write!(f, "cannot reach {address}: {reason}"),
         None => write!(
             f,
             "no reply from {address}: what came is cut off, or no frame"
         ),
+    }
+}
+
+/// Says that a server that was reached is waited for no longer.
+pub fn say_late<W: Write>(
+    address: &str,
+    timeout: Option<u32>,
+    f: &mut Formatter<W>,
+) -> fmt::Result {
+    match timeout {
+        Some(seconds) => write!(f, "no reply from {address} for {seconds} s"),
+        None => write!(f, "no reply from {address}"),
     }
 }
 
@@ -159,6 +173,10 @@ fn say_hint_of_link<W: Write>(end: &Ending<'_>, f: &mut Formatter<W>) -> fmt::Re
         Some(ErrorKind::InvalidInput) => {
             f.write_str("an address is HOST:PORT, as 127.0.0.1:7400")
         }
+        Some(ErrorKind::WouldBlock) => write!(
+            f,
+            "it may be busy, or another program may listen there; if it is overstored, {doubt}"
+        ),
         Some(ErrorKind::ConnectionReset) | None => write!(
             f,
             "another program may listen there: check the port; if it is overstored, {doubt}"

@@ -1,5 +1,6 @@
 //! What is said on standard error of how a command by the owner's book ended.
 
+use crate::ending::say_late;
 use crate::refusals::step_for;
 use crate::texts::{UNWRITTEN, WRITABLE};
 use ov_owning::OwnStop;
@@ -7,7 +8,8 @@ use std::fmt;
 use std::fmt::{Display, Formatter, Write};
 use std::io::ErrorKind;
 
-/// How a command by the book ended, with what its words name. Its text is what went wrong.
+/// How a command by the book ended, with what its words name, and the ending of the book's file that
+/// another process has, where one does. Its text is what went wrong.
 #[derive(Clone, Copy)]
 pub struct OwnEnding<'a> {
     pub end: Result<u32, OwnStop>,
@@ -17,6 +19,8 @@ pub struct OwnEnding<'a> {
     pub book: &'a str,
     pub path: &'a str,
     pub reason: Option<ErrorKind>,
+    pub timeout: Option<u32>,
+    pub in_use: Option<&'a str>,
 }
 
 // What went wrong where the command has no new epoch.
@@ -39,6 +43,7 @@ fn say_stop<W: Write>(end: &OwnEnding<'_>, stop: OwnStop, f: &mut Formatter<W>) 
         },
         OwnStop::Memory => write!(f, "out of memory, here or at {address}"),
         OwnStop::Link => match end.reason {
+            Some(ErrorKind::WouldBlock) => say_late(address, end.timeout, f),
             Some(reason) => write!(f, "cannot reach {address}: {reason}"),
             None => write!(
                 f,
@@ -62,7 +67,10 @@ fn say_stop<W: Write>(end: &OwnEnding<'_>, stop: OwnStop, f: &mut Formatter<W>) 
             f,
             "the store at {address} is at epoch {told}, and the book {book} at {kept}"
         ),
-        OwnStop::Disk => write!(f, "{book}.book or {book}.blobs cannot be used"),
+        OwnStop::Disk => match end.in_use {
+            Some(ending) => write!(f, "{book}{ending} is in use by another process"),
+            None => write!(f, "{book}.book or {book}.blobs cannot be used"),
+        },
         OwnStop::NoBook => write!(f, "{book}.book is no book, or is damaged"),
     }
 }

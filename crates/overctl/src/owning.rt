@@ -1,12 +1,17 @@
 //! Commands by the owner's book, over the real files and the real stream.
 
+use crate::consent::{goes_on, loss_of_own};
+use crate::options::Options;
 use crate::own_texts::{OwnEnding, OwnHint};
-use crate::real::{INPUT_NAME, STANDARD_INPUT, fault_of, link_fault, text_of, warn_of_mode};
+use crate::patience::PatientNet;
+use crate::real::{
+    INPUT_NAME, STANDARD_INPUT, fault_of, link_fault, say_not_agreed, text_of, warn_of_mode,
+};
 use crate::texts::{FREE_SOME, OUT_OF_MEMORY};
 use crate::usage::say;
 use ov_base::Memory;
 use ov_disk::FileDisk;
-use ov_files::OwnFiles;
+use ov_files::{FileFault, OwnFiles};
 use ov_io::{FileSource, Source, StdSink, StdSource};
 use ov_owning::{OwnAct, OwnJob, OwnStop, own};
 use ov_retry::Retrying;
@@ -30,9 +35,10 @@ struct Words {
     book: String,
     path: String,
     stores: bool,
+    timeout: Option<u32>,
 }
 
-fn words_of(rt: &HostRuntime, job: &OwnJob) -> Result<Words, Memory> {
+fn words_of(rt: &HostRuntime, job: &OwnJob, options: &Options<'_>) -> Result<Words, Memory> {
     let alloc = rt.alloc();
     Ok(Words {
         address: String::from_str(alloc, text_of(&job.address))?,
@@ -43,6 +49,7 @@ fn words_of(rt: &HostRuntime, job: &OwnJob) -> Result<Words, Memory> {
             &job.act,
             OwnAct::Create { file: _, list: _ } | OwnAct::Replace { file: _ }
         ),
+        timeout: options.timeout,
     })
 }
 
@@ -61,7 +68,8 @@ fn do_with<B: Source>(
     let blobs = format!(in alloc; "{}.blobs", words.book)?;
     let own_files = OwnFiles::beside(*rt, words.keys.as_str());
     let disk = FileDisk::new(own_files, book.as_str(), blobs.as_str())?;
-    let mut peer = NetPeer::new(TcpLink::new(*rt, words.address.as_str())?)?;
+    let net = PatientNet::new(*rt, words.timeout);
+    let mut peer = NetPeer::new(TcpLink::new(net, words.address.as_str())?)?;
     let owned = own(alloc, job, &mut keys, body, &mut out, &mut peer, disk);
     Ok(Outcome {
         end: owned.end,
@@ -94,6 +102,17 @@ fn unread_of<'a>(rt: &HostRuntime, words: &'a Words) -> (&'a str, Option<ErrorKi
     }
 }
 
+// The ending of the file of the book that another process has, where one does.
+fn in_use(rt: &HostRuntime, words: &Words) -> Option<&'static str> {
+    for ending in [".book", ".blobs"] {
+        let path = format!(in rt.alloc(); "{}{ending}", words.book).ok()?;
+        if ov_files::fault_of(rt, path.as_str(), &[]) == Some(FileFault::InUse) {
+            return Some(ending);
+        }
+    }
+    None
+}
+
 // Says what went wrong, and what to do.
 fn explain(rt: &HostRuntime, words: &Words, outcome: &Outcome) {
     let (path, reason) = match outcome.end {
@@ -111,14 +130,22 @@ fn explain(rt: &HostRuntime, words: &Words, outcome: &Outcome) {
         book: words.book.as_str(),
         path,
         reason,
+        timeout: words.timeout,
+        in_use: match outcome.end {
+            Err(OwnStop::Disk) => in_use(rt, words),
+            _ => None,
+        },
     };
     say(rt, &ending, &OwnHint(&ending));
 }
 
 /// Does the job by the owner's book, says what went wrong, and gives the status.
-pub fn run_own(rt: &HostRuntime, job: OwnJob) -> u8 {
+pub fn run_own(rt: &HostRuntime, job: OwnJob, options: &Options<'_>) -> u8 {
     warn_of_mode(rt, text_of(&job.keys));
-    let Ok(words) = words_of(rt, &job) else {
+    if !goes_on(rt, loss_of_own(rt, &job), options.is_sure) {
+        return say_not_agreed(rt);
+    }
+    let Ok(words) = words_of(rt, &job, options) else {
         say(rt, &OUT_OF_MEMORY, &FREE_SOME);
         return OwnStop::Memory.code();
     };

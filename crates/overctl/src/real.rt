@@ -2,15 +2,20 @@
 ghost use Rattle.ov_acts.specs.Files.{HasListLimits};
 
 use crate::asks::{Asks, asks_of, file_of, stores};
+use crate::consent::{AGREE, NOT_AGREED, NOT_AGREED_STATUS, goes_on, loss_of};
 use crate::ending::{Ending, Hint};
 use crate::heard::Heard;
 use crate::leaked::{WatchedLink, is_base};
+use crate::options::Options;
+use crate::patience::PatientNet;
 use crate::question::{Asked, stop_of, user_of};
+use crate::saving::run_saving;
+use crate::unknown::say_unknown;
 use crate::usage::say;
 use ov_acts::{Act, Job, Status, Stop, act, finish};
 use ov_base::{Memory, Octets, Refusal};
 use ov_files::is_open_to_others;
-use ov_io::{FileSource, Source, StdSink, StdSource};
+use ov_io::{FileSource, Sink, Source, StdSink, StdSource};
 use ov_listing::answer;
 use ov_peer::FixedPeer;
 use ov_retry::{Retrying, read_retrying};
@@ -98,15 +103,21 @@ pub fn link_fault(rt: &HostRuntime, address: &str, reason: Option<ErrorKind>) ->
 /// What a job came to: its status, why the stream failed where it did, which refusal was put, and
 /// whether the server shows the base master.
 #[derive(Drop)]
-struct Outcome {
-    code: u8,
-    link: Option<ErrorKind>,
-    refusal: Option<Refusal>,
-    leaked: bool,
+pub struct Outcome {
+    pub code: u8,
+    pub link: Option<ErrorKind>,
+    pub refusal: Option<Refusal>,
+    pub leaked: bool,
 }
 
 // How a job ended.
-fn ending_of<'a>(rt: &HostRuntime, job: &'a Job, status: Status, outcome: &Outcome) -> Ending<'a> {
+fn ending_of<'a>(
+    rt: &HostRuntime,
+    job: &'a Job,
+    options: &Options<'_>,
+    status: Status,
+    outcome: &Outcome,
+) -> Ending<'a> {
     let address = text_of(&job.address);
     let (path, reason) = match status {
         Status::ReadFault => unread_of(rt, job),
@@ -120,6 +131,7 @@ fn ending_of<'a>(rt: &HostRuntime, job: &'a Job, status: Status, outcome: &Outco
         name: file_of(&job.act),
         path,
         reason,
+        timeout: options.timeout,
         refusal: outcome.refusal,
         leaked: outcome.leaked,
     }
@@ -141,21 +153,37 @@ fn shows_base(rt: &HostRuntime, shown: Option<&[u8]>, job: &Job) -> bool {
     }
 }
 
-// Does the job over the real stream, with the bytes to be stored from this source.
-fn do_with<B: Source>(rt: &HostRuntime, job: &Job, body: &mut B) -> Result<Outcome, Memory>
+// Whether the server refuses a job since a user who is named isn't enrolled.
+fn lacks_user<O: Sink>(code: u8, out: &Heard<O>) -> bool {
+    code == Status::Refused.code() && out.refusal() == Some(Refusal::NoUser)
+}
+
+// Does the job over the real stream, with the bytes to be stored from this source, and its result
+// put to this sink.
+fn do_with<B: Source, O: Sink>(
+    rt: &HostRuntime,
+    job: &Job,
+    options: &Options<'_>,
+    body: &mut B,
+    out: &mut O,
+) -> Result<Outcome, Memory>
     requires list { HasListLimits job.now.act }
 {
     let alloc = rt.alloc();
     let mut keys = FileSource::new(*rt, text_of(&job.keys))?;
-    let mut out = Heard::new(StdSink::new(Retrying::new(rt.stdout())));
+    let mut out = Heard::new(out);
     let (code, link, leaked) = if matches!(&job.act, Act::Check) {
         let mut peer = FixedPeer::new(Vec::new(alloc), Octets::new(alloc));
         let code = act(alloc, job, &mut keys, body, &mut out, &mut peer);
         (code, None, false)
     } else {
-        let link = TcpLink::new(*rt, text_of(&job.address))?;
+        let net = PatientNet::new(*rt, options.timeout);
+        let link = TcpLink::new(net, text_of(&job.address))?;
         let mut peer = NetPeer::new(WatchedLink::new(link))?;
         let code = act(alloc, job, &mut keys, body, &mut out, &mut peer);
+        if lacks_user(code, &out) {
+            say_unknown(rt, &job.act, &mut peer);
+        }
         let link = peer.link();
         let leaked = code == Status::OtherKeys.code() && shows_base(rt, link.shown(), job);
         (code, link.link.reason(), leaked)
@@ -168,18 +196,26 @@ fn do_with<B: Source>(rt: &HostRuntime, job: &Job, body: &mut B) -> Result<Outco
     })
 }
 
-// Does the job over the real files and the real stream.
-fn do_job(rt: &HostRuntime, job: &Job) -> Result<Outcome, Memory>
+/// Does the job over the real files and the real stream, with its result put to this sink.
+pub fn do_job<O: Sink>(
+    rt: &HostRuntime,
+    job: &Job,
+    options: &Options<'_>,
+    out: &mut O,
+) -> Result<Outcome, Memory>
     requires list { HasListLimits job.now.act }
 {
     match text_of(&job.path) {
-        STANDARD_INPUT => do_with(rt, job, &mut StdSource::new(Retrying::new(rt.stdin()))),
-        path => do_with(rt, job, &mut FileSource::new(*rt, path)?),
+        STANDARD_INPUT => {
+            let mut body = StdSource::new(Retrying::new(rt.stdin()));
+            do_with(rt, job, options, &mut body, out)
+        }
+        path => do_with(rt, job, options, &mut FileSource::new(*rt, path)?, out),
     }
 }
 
-// Where memory was refused to the program itself.
-fn out_of_memory() -> Outcome {
+/// Where memory was refused to the program itself.
+pub fn out_of_memory() -> Outcome {
     Outcome {
         code: Status::OutOfMemory.code(),
         link: None,
@@ -188,27 +224,53 @@ fn out_of_memory() -> Outcome {
     }
 }
 
-/// Does the job, says what went wrong, and gives the status.
-pub fn run_job(rt: &HostRuntime, job: &Job) -> u8
-    requires list { HasListLimits job.now.act }
-{
-    warn_of_mode(rt, text_of(&job.keys));
-    let outcome = match do_job(rt, job) {
-        Ok(outcome) => outcome,
-        Err(Memory) => out_of_memory(),
-    };
+/// Says what went wrong with a job that came to this, and gives the status.
+pub fn end_job(rt: &HostRuntime, job: &Job, options: &Options<'_>, outcome: &Outcome) -> u8 {
     match Status::from_code(outcome.code) {
-        Some(status) => explain(rt, &ending_of(rt, job, status, &outcome)),
+        Some(status) => explain(rt, &ending_of(rt, job, options, status, outcome)),
         None => {}
     }
     outcome.code
 }
 
+/// Says that the answer to a question wasn't yes, and gives the status.
+pub fn say_not_agreed(rt: &HostRuntime) -> u8 {
+    say(rt, &NOT_AGREED, &AGREE);
+    NOT_AGREED_STATUS.code()
+}
+
+// Does the job, with its result on standard output.
+fn run_putting(rt: &HostRuntime, job: &Job, options: &Options<'_>) -> u8
+    requires list { HasListLimits job.now.act }
+{
+    let mut out = StdSink::new(Retrying::new(rt.stdout()));
+    let outcome = match do_job(rt, job, options, &mut out) {
+        Ok(outcome) => outcome,
+        Err(Memory) => out_of_memory(),
+    };
+    end_job(rt, job, options, &outcome)
+}
+
+/// Does the job, says what went wrong, and gives the status.
+pub fn run_job(rt: &HostRuntime, job: &Job, options: &Options<'_>) -> u8
+    requires list { HasListLimits job.now.act }
+{
+    warn_of_mode(rt, text_of(&job.keys));
+    if !goes_on(rt, loss_of(rt, job), options.is_sure) {
+        return say_not_agreed(rt);
+    }
+    match options.output {
+        None => run_putting(rt, job, options),
+        Some(path) => run_saving(rt, job, options, path),
+    }
+}
+
 // Asks over the real stream, and prints the answer.
-fn do_ask(rt: &HostRuntime, asked: &Asked<'_>) -> Result<Outcome, Memory> {
+fn do_ask(rt: &HostRuntime, asked: &Asked<'_>, options: &Options<'_>) -> Result<Outcome, Memory> {
     let alloc = rt.alloc();
     let mut out = Heard::new(StdSink::new(Retrying::new(rt.stdout())));
-    let mut peer = NetPeer::new(TcpLink::new(*rt, asked.address)?)?;
+    let net = PatientNet::new(*rt, options.timeout);
+    let mut peer = NetPeer::new(TcpLink::new(net, asked.address)?)?;
     let found = match answer(alloc, &mut peer, &asked.question) {
         Ok(Some(text)) => Ok(text),
         Ok(None) => Err(Stop::Refused(Refusal::NoUser)),
@@ -223,8 +285,8 @@ fn do_ask(rt: &HostRuntime, asked: &Asked<'_>) -> Result<Outcome, Memory> {
 }
 
 /// Asks, says what went wrong, and gives the status.
-pub fn run_ask(rt: &HostRuntime, asked: &Asked<'_>) -> u8 {
-    let outcome = match do_ask(rt, asked) {
+pub fn run_ask(rt: &HostRuntime, asked: &Asked<'_>, options: &Options<'_>) -> u8 {
+    let outcome = match do_ask(rt, asked, options) {
         Ok(outcome) => outcome,
         Err(Memory) => out_of_memory(),
     };
@@ -239,6 +301,7 @@ pub fn run_ask(rt: &HostRuntime, asked: &Asked<'_>) -> u8 {
                 name: user_of(&asked.question),
                 path: "",
                 reason: link_fault(rt, asked.address, outcome.link),
+                timeout: options.timeout,
                 refusal: outcome.refusal,
                 leaked: false,
             },

@@ -1,6 +1,8 @@
 //! What is said on standard error, and of words that are no line of a command or ask for help.
 
 use crate::book_texts::wrong_book;
+use crate::help::Help;
+use crate::options::{OptionHint, Options, WrongOption};
 use crate::question::question_of;
 use crate::real::run_ask;
 use crate::texts::{
@@ -116,17 +118,32 @@ pub fn say_wrong(rt: &HostRuntime, words: &[String], wrong: WrongWords<'_>) -> u
     Status::Usage.code()
 }
 
-/// Gives the help or the version, where the words ask for it; or says what is wrong with them.
-fn say_of_line(rt: &HostRuntime, words: &[String], error: Error) -> u8 {
-    if error.use_stderr() {
-        return say_wrong(rt, words, wrong_words(&error, words));
-    }
-    match rt.print(&error) {
+/// Says on standard error what is wrong with an option, and how it is written.
+pub fn say_wrong_option(rt: &HostRuntime, wrong: WrongOption<'_>) -> u8 {
+    say(rt, &wrong, &OptionHint(wrong.option()));
+    Status::Usage.code()
+}
+
+/// Prints this help, or the version.
+fn print_help(rt: &HostRuntime, help: &Help<'_>) -> u8 {
+    match rt.print(help) {
         Ok(()) => Status::Done.code(),
         Err(_) => {
             say(rt, &UNWRITTEN, &WRITABLE);
             Status::WriteFault.code()
         }
+    }
+}
+
+/// Gives the help or the version, where the words ask for it; or says what is wrong with them.
+fn say_of_line(rt: &HostRuntime, words: &[String], error: Error) -> u8 {
+    if error.use_stderr() {
+        return say_wrong(rt, words, wrong_words(&error, words));
+    }
+    let command = words.first().map(|word| word.as_str());
+    match format!(in rt.alloc(); "{error}") {
+        Ok(text) => print_help(rt, &Help::new(text.as_str(), command)),
+        Err(_) => say_out_of_memory(rt),
     }
 }
 
@@ -143,10 +160,10 @@ pub fn say_out_of_memory(rt: &HostRuntime) -> u8 {
 }
 
 /// Asks what the words of a question ask for; or says why the words are no line. Gives the status.
-pub fn ask_or_explain(rt: &HostRuntime, words: &[String]) -> u8 {
+pub fn ask_or_explain(rt: &HostRuntime, words: &[String], options: &Options<'_>) -> u8 {
     match judge(rt.alloc(), words) {
         Ok(()) => match question_of(words) {
-            Some(asked) => run_ask(rt, &asked),
+            Some(asked) => run_ask(rt, &asked, options),
             None => say_wrong(rt, words, wrong_names(rt.alloc(), words)),
         },
         Err(error) if error.kind() == ErrorKind::OutOfMemory => say_out_of_memory(rt),

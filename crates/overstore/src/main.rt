@@ -17,13 +17,14 @@
 //! | `progress` | the count of replies |
 //! | `frames` | the frames, the first of which comes once the store was opened |
 //! | `recent`, `lacks` | the last lines of the script; what a bad one lacks |
-//! | `told` | what standard error is told beside it |
+//! | `told`, `missing` | what standard error is told beside it; which users of an audit aren't enrolled |
 //! | `texts`, `advice` | what `--help` prints; how an end is explained |
 #![tactic(auto)]
 
 mod advice;
 mod frames;
 mod lacks;
+mod missing;
 mod progress;
 mod recent;
 mod texts;
@@ -32,6 +33,7 @@ mod told;
 use advice::Stage;
 use frames::Frames;
 use lacks::{Lack, lack_of};
+use missing::say_missing;
 use ov_answering::Status;
 use ov_auditing::audit;
 use ov_base::Memory;
@@ -58,7 +60,12 @@ use told::{
 // The word that a run without a count of replies begins with.
 const QUIET: &str = "--quiet";
 
-// What the words ask to be told, if they do.
+// Whether a word asks for help.
+fn asks_help(word: &String) -> bool {
+    matches!(word.as_str(), "--help" | "-h")
+}
+
+// What the words ask to be told, if they do: `--help` may stand behind the word of a mode too.
 fn told_by(words: &[String]) -> Option<&'static str> {
     match words {
         [word] => match word.as_str() {
@@ -66,6 +73,7 @@ fn told_by(words: &[String]) -> Option<&'static str> {
             "--version" | "-V" => Some(VERSION),
             _ => None,
         },
+        [mode, others @ ..] if !mode.starts_with('-') && others.iter().any(asks_help) => Some(HELP),
         _ => None,
     }
 }
@@ -196,7 +204,11 @@ fn audit_store<W: Write>(
     if begins(rt, BOOK_FILE) {
         return audit(alloc, words, keys, out, &mut MemDisk::new(alloc));
     }
-    audit(alloc, words, keys, out, disk)
+    let code = audit(alloc, words, keys, out, disk);
+    if out.misses_user() {
+        say_missing(rt, words, disk);
+    }
+    code
 }
 
 // Calls `tidy`. Where no store was begun it looks at an empty disk in memory too.

@@ -13,8 +13,12 @@ pub struct Counted<S: Sink> {
     shows: bool,
     replies: u64,
     bad_line: Option<u64>,
+    misses_user: bool,
     failed: bool,
 }
+
+// How the refusal of somebody who isn't enrolled begins.
+const NO_USER: &[u8] = b"refused 2 NoUser\n";
 
 // The number in these bytes, where they are the line on a bad item.
 fn bad_line_in(bytes: &[u8]) -> Option<u64> {
@@ -34,6 +38,7 @@ impl<S: Sink> Counted<S> {
             shows,
             replies: 0,
             bad_line: None,
+            misses_user: false,
             failed: false,
         }
     }
@@ -55,6 +60,11 @@ impl<S: Sink> Counted<S> {
     /// The line of a bad item, where the last line that was put names it.
     pub fn bad_line(&self) -> Option<u64> {
         self.bad_line
+    }
+
+    /// Whether what was put last begins with the refusal of somebody who isn't enrolled.
+    pub fn misses_user(&self) -> bool {
+        self.misses_user
     }
 
     /// Whether a put failed.
@@ -84,6 +94,7 @@ impl<S: Sink> Sink for Counted<S> {
         if put.is_ok() {
             self.replies = self.replies.saturating_add(1);
             self.bad_line = bad_line_in(bytes);
+            self.misses_user = bytes.starts_with(NO_USER);
             self.show();
         } else {
             self.failed = true;
