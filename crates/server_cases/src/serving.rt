@@ -70,13 +70,11 @@ fn false_record<D: Disk>(
     store: &mut Store<D>,
     keys: &Keys,
     looks: bool,
-) -> Result<Option<u64>, Fail> {
-    if !looks {
-        return Ok(None);
-    }
-    match store.check(alloc, &keys.owner) {
-        Ok(found) => Ok(found),
-        Err(_) => Err(Fail::from("a store couldn't be looked at")),
+) -> Result<Option<u64>, BeginFault> {
+    if looks {
+        Ok(store.check(alloc, &keys.owner)?)
+    } else {
+        Ok(None)
     }
 }
 
@@ -96,7 +94,10 @@ fn asked<D: Disk + Drop>(
     let is_first_form = store.is_to_be_carried_over();
     let found = false_record(alloc, &mut store, keys, looks);
     drop(store.close());
-    let (replies, false_record) = (replies?, found?);
+    let replies = replies?;
+    let Ok(false_record) = found else {
+        return Err(Fail::from("a store couldn't be looked at"));
+    };
     Ok(Outcome {
         error: String::new(alloc),
         replies,
@@ -155,13 +156,20 @@ pub fn calls_of(
 }
 
 // The places of the first gates of a store, in a line.
-fn gates_of<D: Disk>(alloc: Global, store: &Store<D>, count: u64) -> Result<String, Fail> {
+fn gates_in<D: Disk>(alloc: Global, store: &Store<D>, count: u64) -> Result<String, Fail> {
     let mut line = String::from_str(alloc, "gates")?;
     for record in 0..count {
         let gate = store.gate(record);
         line.push_str(&format!(in alloc; " {gate}")?)?;
     }
     Ok(line)
+}
+
+// The places of the first gates of a server's store, in a line.
+fn gates_of<D: Disk + Drop>(alloc: Global, server: Server<D>, count: u64) -> Result<String, Fail> {
+    let line = gates_in(alloc, server.store(), count);
+    drop(server.into_store().close());
+    line
 }
 
 /// Where the gates of the first records of the store on a disk are, and 0 past the last record.
@@ -172,7 +180,7 @@ pub fn gates<D: Disk>(
     disk: &mut D,
 ) -> Result<String, Fail> {
     match begun(alloc, disk, keys) {
-        Ok(server) => gates_of(alloc, server.store(), count),
+        Ok(server) => gates_of(alloc, server, count),
         Err(_) => Err(Fail::from("a store was expected")),
     }
 }

@@ -5,15 +5,18 @@ use ov_tokens::SurfaceMaster;
 use std::alloc::Global;
 use std::test::Fail;
 
-// Appends the owner's tag of an update: of the epoch behind the kind, and the spelling behind it.
-fn push_tag(frame: &mut Vec<u8>, surface: &Key) -> Result<(), Fail> {
-    let Some(([_, epoch @ ..], spelling)) = frame.split_first_chunk::<5>() else {
-        return Err(Fail::from("an update was expected"));
-    };
-    if spelling.len() > 1_000_000 {
-        return Err(Fail::from("a shorter update was expected"));
+// The owner's tag of an update: of the epoch behind the kind, and the spelling behind it.
+fn tag_of(frame: &[u8], surface: &Key) -> Result<[u8; 32], Fail> {
+    if frame.len() < 5 || frame.len() > 1_000_000 {
+        return Err(Fail::from("an update of up to a million bytes was expected"));
     }
-    let tag = SurfaceMaster::new(surface).owner_mac(epoch, spelling);
+    let epoch = [frame[1], frame[2], frame[3], frame[4]];
+    Ok(SurfaceMaster::new(surface).owner_mac(&epoch, &frame[5..]))
+}
+
+// Appends the owner's tag of an update.
+fn push_tag(frame: &mut Vec<u8>, surface: &Key) -> Result<(), Fail> {
+    let tag = tag_of(frame, surface)?;
     frame.extend_from_slice(&tag)?;
     Ok(())
 }
