@@ -4,10 +4,17 @@ use crate::options::{Opt, command_takes};
 use std::fmt;
 use std::fmt::{Display, Formatter, Write};
 
-// What stands behind the options in the help of clap.
+// What stands before the lines on options in the help of clap, and behind them.
+const BEFORE_OPTIONS: &str = "\n\nOptions:\n";
+
 const BEHIND_OPTIONS: &str = "\n\nExample: ";
 
-/// The help of a command, or of the whole program, as clap gives it, and the options that the command
+// The lines on the options that clap knows, in one column with the others.
+const HELP_LINE: &str = "  -h, --help               Print help";
+
+const VERSION_LINE: &str = "\n  -V, --version            Print version";
+
+/// The help of a command, or of the whole program, as clap gives it, with the options that the command
 /// has. A text that is no help, as the version, is left as it is.
 #[derive(Clone, Copy)]
 pub struct Help<'a> {
@@ -18,9 +25,9 @@ pub struct Help<'a> {
 // The line on an option.
 fn line_on(option: Opt) -> &'static str {
     match option {
-        Opt::Output => "\n  -o, --output <FILE>      Put it into FILE, as a whole or not at all",
-        Opt::Timeout => "\n      --timeout <SECONDS>  End with 8 once nothing comes for so long",
-        Opt::Yes => "\n      --yes                Don't ask on a terminal",
+        Opt::Output => "  -o, --output <FILE>      Put it into FILE, as a whole or not at all\n",
+        Opt::Timeout => "      --timeout <SECONDS>  End with 8 once nothing comes for so long\n",
+        Opt::Yes => "      --yes                Don't ask on a terminal\n",
     }
 }
 
@@ -49,15 +56,27 @@ impl<'a> Help<'a> {
                 f.write_str(line_on(option))?;
             }
         }
-        Ok(())
+        f.write_str(HELP_LINE)?;
+        match self.command {
+            Some(_) => Ok(()),
+            None => f.write_str(VERSION_LINE),
+        }
+    }
+
+    // What stands before the lines on options, and behind them.
+    fn parts(&self) -> Option<(&'a str, &'a str)> {
+        let (before, options) = self.text.split_once(BEFORE_OPTIONS)?;
+        let (_, behind) = options.split_once(BEHIND_OPTIONS)?;
+        Some((before, behind))
     }
 }
 
 impl Display for Help<'_> {
     fn fmt<W: Write>(&self, f: &mut Formatter<W>) -> fmt::Result {
-        match self.text.split_once(BEHIND_OPTIONS) {
+        match self.parts() {
             Some((before, behind)) => {
                 f.write_str(before)?;
+                f.write_str(BEFORE_OPTIONS)?;
                 self.write_options(f)?;
                 f.write_str(BEHIND_OPTIONS)?;
                 f.write_str(behind)
