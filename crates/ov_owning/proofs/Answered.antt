@@ -32,9 +32,10 @@ use Rattle.ov_owning.specs.Owning.{asks_update}
 use Rattle.ov_owning.specs.Running.{with_intended}
 use Rattle.ov_owning.specs.Serving.{ServesBook}
 use Rattle.ov_owning.specs.declared.stop.OwnStop.TheVariants as stops
-use Rattle.ov_owning.proofs.AskedAlone.{IsCut, greeted_alone, greeted_epoch, hello_asked}
-use Rattle.ov_owning.proofs.AskedAlone.{update_ends}
-use Rattle.ov_owning.proofs.OneBook.{IsFree, epoch_kept, fits_u, form_u, none_seen, sendable_u, sent_u}
+use Rattle.ov_owning.proofs.HelloAlone.{IsCut, greeted_alone, greeted_epoch, hello_asked}
+use Rattle.ov_owning.proofs.UpdateAlone.{update_ends}
+use Rattle.ov_owning.proofs.NextBook.{IsFree, epoch_kept, none_seen}
+use Rattle.ov_owning.proofs.OneBook.{fits_u, form_u, sendable_u, sent_u}
 use Rattle.ov_owning.proofs.Served.{at_made, at_settled, mode_served, where_is}
 
 -- the end of a call that is answered: an epoch, a refusal by the machine, or a fault; one of the server's

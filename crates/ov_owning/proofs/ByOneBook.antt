@@ -39,7 +39,8 @@ use Rattle.ov_owning.specs.declared.stop.OwnStop.TheVariants as stops
 use Rattle.ov_owning.proofs.Answered.{IsFine, is_fine}
 use Rattle.ov_owning.proofs.Calls.{none_there}
 use Rattle.ov_owning.proofs.Opens.{only_outside}
-use Rattle.ov_owning.proofs.OneBook.{IsFree, leaves_served, none_seen}
+use Rattle.ov_owning.proofs.NextBook.{IsFree, none_seen}
+use Rattle.ov_owning.proofs.OneBook.{leaves_served}
 
 -- an end without an epoch isn't a good one
 failed_end : (end : End) (stop : OwnStop) → end ≡ Err stop → IsOk end → ⊥

@@ -24,7 +24,7 @@ use Rattle.ov_books.proofs.Keeping.{history_with}
 use Rattle.ov_books.proofs.Numbering.{outer-outline, spelled_stop}
 use Rattle.ov_book.proofs.Begun.{Shown, shown_by}
 use Rattle.ov_owning.specs.Serving.{ServesBook}
-use Rattle.ov_owning.proofs.AskedAlone.{FitsAt}
+use Rattle.ov_owning.proofs.UpdateAlone.{FitsAt}
 
 -- ---- a book's two histories
 
