@@ -84,8 +84,8 @@ impl<'a> BookFiles<'a> {
         }
     }
 
-    // The two files, which are opened where they aren't yet. After a failure the next call tries again.
-    fn opened(&mut self) -> io::Result<&Pair>
+    // Opens the two files where they aren't open yet. After a failure the next call tries again.
+    fn open(&mut self) -> io::Result<()>
         ensures { self.new.faults ≡ self.old.faults }
     {
         if self.pair.is_none() {
@@ -94,22 +94,27 @@ impl<'a> BookFiles<'a> {
                 blobs: open_to_read(&self.rt, self.blobs)?,
             });
         }
-        match &self.pair {
-            Some(pair) => Ok(pair),
-            None => Err(ErrorKind::Other.into()),
-        }
+        Ok(())
     }
 
     fn try_len(&mut self, area: Area) -> io::Result<u64>
         ensures { self.new.faults ≡ self.old.faults }
     {
-        self.opened()?.len(area)
+        self.open()?;
+        match &self.pair {
+            Some(pair) => pair.len(area),
+            None => Err(ErrorKind::Other.into()),
+        }
     }
 
     fn try_read(&mut self, area: Area, at: u64, buf: &mut [u8]) -> io::Result<()>
         ensures { self.new.faults ≡ self.old.faults }
     {
-        self.opened()?.read(area, at, buf)
+        self.open()?;
+        match &self.pair {
+            Some(pair) => pair.read(area, at, buf),
+            None => Err(ErrorKind::Other.into()),
+        }
     }
 
     // Counts a fault.
