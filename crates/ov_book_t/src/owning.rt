@@ -106,52 +106,57 @@ const ENROL_B: &[&str] = &["own", "x", "k", "b", "full", "enrol", "b"];
 
 const RESUME: &[&str] = &["own", "x", "k", "b", "full", "resume"];
 
+/// A server that is stale leaves the intent pending, and then nobody is asked for another one.
+fn stays_pending<D: Disk>(rt: &impl Abort, alloc: Global, disk: &mut D) -> Result<(), Fail> {
+    let mut stale = peer_of(alloc, &[WELCOME, STALE])?;
+    assert_owned(rt, alloc, ENROL_A, &mut stale, disk, 16, b"differs 5 0\n")?;
+    let mut nobody = peer_of(alloc, &[])?;
+    assert_owned(rt, alloc, ENROL_B, &mut nobody, disk, 15, b"pending 0\n")
+}
+
+/// An honest server makes what is pending, and then what is asked for.
+fn goes_on<P: Peer, D: Disk>(
+    rt: &impl Abort,
+    alloc: Global,
+    honest: &mut P,
+    disk: &mut D,
+) -> Result<(), Fail> {
+    assert_owned(rt, alloc, RESUME, honest, disk, 0, b"ok 1\n")?;
+    assert_owned(rt, alloc, ENROL_A, honest, disk, 3, b"refused 1 Taken\n")?;
+    assert_owned(rt, alloc, ENROL_B, honest, disk, 0, b"ok 2\n")?;
+    assert_owned(rt, alloc, RESUME, honest, disk, 0, b"ok 2\n")
+}
+
 #[test]
-fn the_rows(rt: HostRuntime) -> Result<(), Fail> {
+fn a_pending_intent_is_carried_out(rt: HostRuntime) -> Result<(), Fail> {
     let alloc = rt.alloc();
     let mut disk = MemDisk::new(alloc);
-    let mut stale = peer_of(alloc, &[WELCOME, STALE])?;
-    assert_owned(
-        &rt,
-        alloc,
-        ENROL_A,
-        &mut stale,
-        &mut disk,
-        16,
-        b"differs 5 0\n",
-    )?;
-    let before = disk.image(disk.calls(), ov_disk::Tear::Old)?;
-    let mut nobody = peer_of(alloc, &[])?;
-    assert_owned(
-        &rt,
-        alloc,
-        ENROL_B,
-        &mut nobody,
-        &mut disk,
-        15,
-        b"pending 0\n",
-    )?;
+    stays_pending(&rt, alloc, &mut disk)?;
     let mut honest = server(alloc)?;
-    assert_owned(&rt, alloc, RESUME, &mut honest, &mut disk, 0, b"ok 1\n")?;
-    assert_owned(
-        &rt,
-        alloc,
-        ENROL_A,
-        &mut honest,
-        &mut disk,
-        3,
-        b"refused 1 Taken\n",
-    )?;
-    assert_owned(&rt, alloc, ENROL_B, &mut honest, &mut disk, 0, b"ok 2\n")?;
-    assert_owned(&rt, alloc, RESUME, &mut honest, &mut disk, 0, b"ok 2\n")?;
-    // The book that was stopped after Accepted 1 and before its settling: the server is at 1.
-    let mut again = server(alloc)?;
-    let mut copy = MemDisk::new(alloc);
-    assert_owned(&rt, alloc, ENROL_A, &mut again, &mut copy, 0, b"ok 1\n")?;
-    let mut stopped = before;
-    assert_owned(&rt, alloc, RESUME, &mut again, &mut stopped, 0, b"ok 1\n")?;
-    assert_eq!(rt; stopped.book(), copy.book());
+    goes_on(&rt, alloc, &mut honest, &mut disk)
+}
+
+/// A book that was stopped after Accepted 1 and before its settling: the server is at 1.
+fn settles_alone<P: Peer>(
+    rt: &impl Abort,
+    alloc: Global,
+    honest: &mut P,
+    stopped: &mut MemDisk,
+) -> Result<(), Fail> {
+    let mut whole = MemDisk::new(alloc);
+    assert_owned(rt, alloc, ENROL_A, honest, &mut whole, 0, b"ok 1\n")?;
+    assert_owned(rt, alloc, RESUME, honest, stopped, 0, b"ok 1\n")?;
+    assert_eq!(rt; stopped.book(), whole.book());
     Ok(())
+}
+
+#[test]
+fn an_intent_that_was_made_is_settled(rt: HostRuntime) -> Result<(), Fail> {
+    let alloc = rt.alloc();
+    let mut disk = MemDisk::new(alloc);
+    stays_pending(&rt, alloc, &mut disk)?;
+    let mut honest = server(alloc)?;
+    settles_alone(&rt, alloc, &mut honest, &mut disk)
 }
 
 /// An owner's command by the book, how it ends and what it prints.
@@ -180,16 +185,26 @@ fn words_of(alloc: Global, command: &'static str) -> Result<Vec<&'static str>, F
     Ok(words)
 }
 
+/// Each row ends so, one after the other.
+fn assert_rows<P: Peer, D: Disk>(
+    rt: &impl Abort,
+    alloc: Global,
+    honest: &mut P,
+    disk: &mut D,
+) -> Result<(), Fail> {
+    for (command, code, line) in ROWS {
+        let words = words_of(alloc, command)?;
+        assert_owned(rt, alloc, &words, honest, disk, *code, line)?;
+    }
+    Ok(())
+}
+
 #[test]
 fn files_by_the_book(rt: HostRuntime) -> Result<(), Fail> {
     let alloc = rt.alloc();
     let mut disk = MemDisk::new(alloc);
     let mut honest = server(alloc)?;
-    for (command, code, line) in ROWS {
-        let words = words_of(alloc, command)?;
-        assert_owned(&rt, alloc, &words, &mut honest, &mut disk, *code, line)?;
-    }
-    Ok(())
+    assert_rows(&rt, alloc, &mut honest, &mut disk)
 }
 
 #[test]
