@@ -183,7 +183,6 @@ fn asks_for_older(rt: &HostRuntime, words: &[String], disk: &mut StoreDisk) -> b
     (is_first("run", words) || is_first("load", words)) && is_older_store(rt, disk)
 }
 
-<<<<<<< HEAD
 // Calls `audit`. Where no store was begun it looks at an empty disk in memory, since the first call of
 // one over files would make both.
 fn audit_store<W: Write>(
@@ -200,12 +199,24 @@ fn audit_store<W: Write>(
     audit(alloc, words, keys, out, disk)
 }
 
-// Calls `load`, `audit` or, with all other words, `run`: the status, and which line of the script
-// was bad.
-=======
-// Calls `load`, `audit`, `tidy` or, with all other words, `run`: the status, and which line of the
-// script was bad.
->>>>>>> 6692a7c5 (A shorter store: the call, the program's word, rows and pages (unproved))
+// Calls `tidy`. Where no store was begun it looks at an empty disk in memory too.
+fn tidy_store<W: Write>(
+    rt: &HostRuntime,
+    words: &[String],
+    keys: &mut Tried<FileSource<HostRuntime>>,
+    out: &mut Counted<StdSink<&mut Watched<W>>>,
+    disk: &mut StoreDisk,
+    new: &mut StoreDisk,
+) -> u8 {
+    let alloc = rt.alloc();
+    if begins(rt, BOOK_FILE) {
+        return tidy(alloc, words, keys, out, &mut MemDisk::new(alloc), new);
+    }
+    tidy(alloc, words, keys, out, disk, new)
+}
+
+// Calls `load`, `audit`, `tidy` or, with all other words, `run`: the status, whether the key file
+// couldn't be read, and which line of the script was bad.
 fn answer<W: Write>(
     rt: &HostRuntime,
     words: &[String],
@@ -220,21 +231,17 @@ fn answer<W: Write>(
         trace,
     } = files;
     if is_first("tidy", words) {
-        let code = tidy(alloc, words, &mut keys, out, &mut disk, &mut new);
+        let code = tidy_store(rt, words, &mut keys, out, &mut disk, &mut new);
         return (code, keys.failed(), None);
     }
     if is_first("audit", words) {
-<<<<<<< HEAD
-        return (audit_store(rt, words, keys, out, disk), None);
-=======
-        let code = audit(alloc, words, &mut keys, out, &mut disk);
+        let code = audit_store(rt, words, &mut keys, out, &mut disk);
         return (code, keys.failed(), None);
     }
     let mut trace = Frames::new(trace, *rt, asks_for_older(rt, words, &mut disk));
     if is_first("load", words) {
         let code = load(alloc, words, &mut keys, out, &mut trace, &mut disk);
         return (code, keys.failed(), None);
->>>>>>> 6692a7c5 (A shorter store: the call, the program's word, rows and pages (unproved))
     }
     let mut script = Recent::new(alloc, StdSource::new(Retrying::new(rt.stdin())));
     let code = run(
