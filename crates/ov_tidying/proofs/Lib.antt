@@ -1,1 +1,11 @@
 pub mod Taken
+pub mod Steps
+pub mod Endings
+pub mod Copying
+pub mod Images
+pub mod Unbegun
+pub mod Made
+pub mod Shorter
+pub mod Reread
+pub mod Loans
+pub mod Words

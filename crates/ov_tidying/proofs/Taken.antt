@@ -1,13 +1,13 @@
 -- Updates of a store, as their records spell them, are taken one after the other.
 use Rattle.std.proofs.Common.{◌≡◌, ◌+◌, ◌≤◌, ◌∙◌, ℕ, Bool, true, false, List, [], ◌∷◌, ap, arith, length, refl, subst, sym}
-use Rattle.std.proofs.Common.{take}
+use Rattle.std.proofs.Common.{◌++◌, length-append, take}
 use Rattle.std.proofs.lemmas.List.{take_all}
 use Rattle.std.specs.Prelude.{None, Ok, Some, ◌==◌}
 use Rattle.ov_disk.specs.Tells.{DiskTells}
-use Rattle.ov_history.specs.Briefs.{Brief, brief, numbered_brief}
-use Rattle.ov_history.specs.Catalogue.{file_names_shown}
+use Rattle.ov_history.specs.Briefs.{Brief, brief, numbered_brief, outer}
+use Rattle.ov_history.specs.Catalogue.{file_names_shown, outline}
 use Rattle.ov_history.specs.History.{History, Update}
-use Rattle.ov_history.specs.Sealed.{IsSealed, SealedHistory, StandsFor, outer_all, outer_of, with_sealed}
+use Rattle.ov_history.specs.Sealed.{IsSealed, SealedHistory, StandsFor, outer_all, outer_of}
 use Rattle.ov_history.specs.Sent.{SealedUpdate}
 use Rattle.ov_history.specs.Texts.{BriefHistory, brief_all, brief_of, with_brief}
 use Rattle.ov_history.proofs.Briefly.{brief_of-push, stands_fully}
@@ -21,7 +21,7 @@ use Rattle.ov_store.specs.Briefs.{IsUpdateAt, ReadsUpdate}
 use Rattle.ov_store.specs.Opened.{Opened, Serves}
 use Rattle.ov_store.specs.Owners.{with_first}
 use Rattle.ov_thinning.proofs.Taken.{taking_goes_on}
-use Rattle.ov_thinning.specs.Notes.{HasTaken, Thinning, kept_after, outer_brief, outer_briefs, taken_next}
+use Rattle.ov_thinning.specs.Notes.{HasTaken, Thinning, is_paired, kept_after, outer_brief, outer_briefs, place_noted, taken_next}
 use Rattle.ov_thinning.specs.Thin.{AreThinned, left_out, unless}
 use Rattle.ov_tidying.specs.Taking.{HasTakenFirst, KeepsPlaces, TakesEach, TakesNext, TakesOne}
 
@@ -107,13 +107,23 @@ kept_few : (test : Bool) (kept : List ℕ) (first place : ℕ)
 kept_few true kept first place =
     let shorter : length (left_out first kept) ≤ length kept = left_out_few first kept in
     omega (arith, shorter)
-kept_few false kept first place = grind (arith, length)
+kept_few false kept first place =
+    let more : length (kept ++ place ∷ []) ≡ length kept + 1 = length-append kept (place ∷ []) in
+    omega (arith, more)
+
+-- an update more keeps one place more at most
+pub taken_few : (master : List ℕ) (t : Thinning) (b : Brief) (next : Thinning)
+    → next ≡ taken_next master t b → length next.kept ≤ length t.kept + 1
+taken_few master t b next made =
+    subst (λ (x : Thinning). length x.kept ≤ length t.kept + 1) (sym made)
+    (kept_few (is_paired (outline t.catalogue) t.notes (outer b)) t.kept
+    (place_noted t.notes (outer b)) t.taken)
 
 -- ---- all updates
 
 outer_told : (us : List SealedUpdate) → outer_briefs (brief_all us) ≡ outer_all us
 outer_told [] = refl
-outer_told (u ∷ us) = ap (λ (rest : List Update). _ ∷ rest) (outer_told us)
+outer_told (u ∷ us) = ap (λ (rest : List Update). outer (brief u) ∷ rest) (outer_told us)
 
 outer_brief_of : (g : SealedHistory) → outer_brief (brief_of g) ≡ outer_of g
 outer_brief_of g =

@@ -1,5 +1,5 @@
 -- Inner: no public contract needs this. That some first updates of a store were taken.
-use Rattle.std.specs.Prelude.{◌≡◌, ◌+◌, ℕ, List, take}
+use Rattle.std.specs.Prelude.{◌+◌, ℕ, List, take}
 use Rattle.ov_disk.specs.Disk.{Told}
 use Rattle.ov_disk.specs.Tells.{DiskTells}
 use Rattle.ov_history.specs.Sealed.{SealedHistory, outer_of}

@@ -1,5 +1,5 @@
 -- Inner: no public contract needs this. What the new disk gets while a store is written to it.
-use Rattle.std.specs.Prelude.{◌≡◌, ◌⊎◌, ℕ, List, Option, false}
+use Rattle.std.specs.Prelude.{◌≡◌, ◌⊎◌, ℕ, List, Option}
 use Rattle.ov_disk.specs.Disk.{Told}
 use Rattle.ov_disk.specs.Tells.{DiskTells}
 use Rattle.ov_disk.specs.declared.area.Area.TheVariants.{Book}
@@ -46,16 +46,21 @@ ForEachOld olds news s first P =
     (g : SealedHistory) → Serves olds g s
     → Told (olds.reads s.disk) (λ _. Told (news.reads first) (λ _. P g))
 
+-- where the disk tells its bytes, the store stands for some history of which these places are kept
+abbrev pub HasThinned : {D : Type 0} → DiskTells D → Opened D → List ℕ → Type 0
+HasThinned tells s kept =
+    Told (tells.reads s.disk) (λ _.
+    (g : SealedHistory) × Serves tells g s × AreThinned (outer_of g) kept)
+
 -- ---- once the new store is begun
 
 -- The copy is whole at 0, and what is printed then was put; or memory was refused or a call of a disk
 -- failed.
 pub record EndsCopied {E : Type 0} (tells : DiskTells E) (g : SealedHistory) (kept : List ℕ)
-    (status : ℕ) (old new : Option (List ℕ)) (before after : Opened E) : Type 0 where
+    (status : ℕ) (old new : Option (List ℕ)) (after : Opened E) : Type 0 where
   pub ends : EndsIn (tidied g kept) 0 old new status
       ⊎ (EndsIn memory_line 7 old new status ⊎ EndsIn disk_line 4 old new status)
   pub whole : status ≡ 0 → (h : SealedHistory) × IsCopyOf g kept h × Serves tells h after
-  pub healthy : status ≡ 0 → after.failed ≡ false
 
 -- It ends with 4 only where a count of a disk rose, with 6 only where that of the sink did, and with
 -- no status but those of a reading.

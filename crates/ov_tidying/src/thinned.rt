@@ -1,5 +1,5 @@
 //! Which updates of an open store are kept.
-ghost use Rattle.std.specs.Prelude.{◌≡◌, ◌≤◌, ℕ, IfErr, IfOk, IsErrOf, OnOk, length};
+ghost use Rattle.std.specs.Prelude.{◌≡◌, ◌+◌, ◌≤◌, ℕ, IfErr, IfOk, IsErrOf, OnOk, length};
 ghost use Rattle.ov_history.specs.Catalogue.{numbered_at};
 ghost use Rattle.ov_replaying.specs.Reading.{IsFaultOfStore, MakesUpdate, StaysAsItWas};
 ghost use Rattle.ov_state.specs.Plans.{IsFitting, plain_brief};
@@ -74,6 +74,7 @@ fn take_all<D: Disk>(
     ensures fault { IfErr result (IsFaultOfStore (D.tells.reads store.old.disk)) }
     ensures stays { StaysAsItWas D.tells store.old store.new (IsErrOf result DiskFailed) }
 {
+    store.known();
     'updates: for i in 0..updates {
         take_next(alloc, store, surface, i, thin)?;
     }
@@ -103,7 +104,6 @@ pub fn kept_of<D: Disk>(
     ensures fault { IfErr result (IsFaultOfStore (D.tells.reads store.old.disk)) }
     ensures stays { StaysAsItWas D.tells store.old store.new (IsErrOf result DiskFailed) }
 {
-    store.known();
     let updates = store.updates();
     let first = store.state().epoch() - updates as u32;
     let mut thin = Thin::new(alloc, store.state().mode(), first)?;

@@ -58,6 +58,7 @@ fn tidy_store<O: Sink, D: Disk, E: Disk + Drop>(
         (Rose (O.tells.faults out.old) (O.tells.faults out.new)) }
     ensures status { (result.0 ≡ 14) ⊎ IsFoundStatus result.0 }
 {
+    old.known();
     let surface = Master::new(&masters.surface);
     match kept_of(alloc, old, &surface) {
         Ok(kept) => write_store(alloc, masters, old, &kept, new, out),

@@ -3,18 +3,15 @@ ghost use Rattle.std.specs.Prelude.{◌≡◌, ◌≤◌, ◌⊎◌, false, leng
 ghost use Rattle.ov_answering.specs.Printing.{IsRefused};
 ghost use Rattle.ov_base.specs.Causes.{Rose};
 ghost use Rattle.ov_disk.specs.Disk.{StaysTold, Told};
-ghost use Rattle.ov_history.specs.Sealed.{SealedHistory};
 ghost use Rattle.ov_images.specs.Images.{keys_of};
 ghost use Rattle.ov_machine.specs.Machine.{plain_masters};
 ghost use Rattle.ov_replaying.specs.Reading.{StaysAsItWas};
 ghost use Rattle.ov_replaying.specs.Statuses.{IsFoundStatus};
 ghost use Rattle.ov_report.specs.Ends.{EndsOr, IsPutTo};
-ghost use Rattle.ov_store.specs.Opened.{Serves};
 ghost use Rattle.ov_store.specs.Updating.{IsCallOf};
-ghost use Rattle.ov_tidy.specs.Copies.{BeginsFor, LeavesCopy};
+ghost use Rattle.ov_tidy.specs.Copies.{BeginsFor, ForEachThinned, LeavesCopy};
 ghost use Rattle.ov_tidying.specs.Promises.{EndsOnBoth};
-ghost use Rattle.ov_tidying.specs.Taking.{KeepsPlaces};
-ghost use Rattle.ov_tidying.specs.Writing.{CopyEnds, EndsCopied, ForEachOld, MakesCopy, begin_line};
+ghost use Rattle.ov_tidying.specs.Writing.{CopyEnds, EndsCopied, HasThinned, MakesCopy, begin_line};
 ghost use Rattle.ov_tidying.specs.Writing.{begin_status, fault_for};
 
 use crate::listing::put_tidied;
@@ -64,10 +61,9 @@ fn copy_all<O: Sink, D: Disk, E: Disk>(
     requires keys { new.old.keys ≡ old.old.keys }
     requires whole { new.old.failed ≡ false }
     requires begins { BeginsFor D.tells E.tells old.old kept.now new.old }
-    requires places { KeepsPlaces D.tells old.old kept.now }
-    ensures copied { (g : SealedHistory) → Serves D.tells g old.old
-        → Told (D.tells.reads old.old.disk) (λ _. EndsCopied E.tells g kept.now result
-        (O.tells.written out.old) (O.tells.written out.new) new.old new.new) }
+    requires thinned { HasThinned D.tells old.old kept.now }
+    ensures copied { ForEachThinned D.tells old.old kept.now (λ g. EndsCopied E.tells g kept.now
+        result (O.tells.written out.old) (O.tells.written out.new) new.new) }
     ensures any_moment { LeavesCopy D.tells E.tells old.old kept.now new.old new.new }
     ensures opened { Told (D.tells.reads old.old.disk) (λ _. IsRefused result → ⊥) }
     ensures stays { StaysAsItWas D.tells old.old old.new ⊥ }
@@ -96,12 +92,13 @@ pub fn write_store<O: Sink, D: Disk, E: Disk + Drop>(
 ) -> (u8, E)
     requires keys { old.old.keys ≡ keys_of (plain_masters masters.now) }
     requires few { length kept.now ≤ old.old.catalogue.epoch }
-    requires places { KeepsPlaces D.tells old.old kept.now }
-    ensures made { ForEachOld D.tells E.tells old.old new (λ g. MakesCopy E.tells old.old.keys g
-        result.0 (O.tells.written out.old) (O.tells.written out.new) new result.1
+    requires thinned { HasThinned D.tells old.old kept.now }
+    ensures made { ForEachThinned D.tells old.old kept.now (λ g. Told (E.tells.reads new) (λ _.
+        MakesCopy E.tells old.old.keys g result.0
+        (O.tells.written out.old) (O.tells.written out.new) new result.1
         (Rose (O.tells.faults out.old) (O.tells.faults out.new)
         ⊎ (Rose (D.tells.faults old.old.disk) (D.tells.faults old.new.disk)
-        ⊎ Rose (E.tells.faults new) (E.tells.faults result.1)))) }
+        ⊎ Rose (E.tells.faults new) (E.tells.faults result.1))))) }
     ensures opened { Told (D.tells.reads old.old.disk) (λ _. IsRefused result.0 → ⊥) }
     ensures stays { StaysAsItWas D.tells old.old old.new ⊥ }
     ensures causes { EndsOnBoth D.tells E.tells old.old.disk old.new.disk new result.1 result.0 ⊥
