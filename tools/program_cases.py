@@ -191,18 +191,19 @@ def a_key_file_that_is_not_there():
         expect(run(folder), 0, b"end epoch 0\n")
 
 
-def audits_of_no_store():
-    """Where no store was begun an audit makes no file, and says that there is none."""
+def readings_of_no_store():
+    """Where no store was begun an audit and a tidying make no file, and say that there is none."""
     for keys in (False, True):
         for name, bytes_of_book in ((None, b""), ("store.book", b"")):
-            folder = store_folder(keys)
-            if name:
-                (folder / name).write_bytes(bytes_of_book)
-            before = files_of(folder)
-            status, lines, said = told(folder, "audit", "alice")
-            assert files_of(folder) == before, (keys, name, sorted(files_of(folder)))
-            wanted = (8, b"error notastore\n") if keys else (5, b"error read\n")
-            assert (status, lines) == wanted, (status, lines, said)
+            for words in (("audit", "alice"), ("tidy",)):
+                folder = store_folder(keys)
+                if name:
+                    (folder / name).write_bytes(bytes_of_book)
+                before = files_of(folder)
+                status, lines, said = told(folder, *words)
+                assert files_of(folder) == before, (keys, name, words, sorted(files_of(folder)))
+                wanted = (8, b"error notastore\n") if keys else (5, b"error read\n")
+                assert (status, lines) == wanted, (words, status, lines, said)
 
 
 def loads():
@@ -730,7 +731,7 @@ cases = [
     lines_that_are_bad,
     key_files_that_others_read_and_new_stores,
     a_key_file_that_is_not_there,
-    audits_of_no_store,
+    readings_of_no_store,
     loads,
     a_script_that_is_too_long,
     disks_that_fail,
