@@ -5,7 +5,8 @@
 //! run left. [`Book::intend`] makes an [`Intent`] into an update, with the book's own numbers, sets and
 //! nodes, and writes it down before anything may be sent; [`Book::spelling`] gives the encoding that is
 //! sent; [`Book::settle`] notes that it was made. An intent is never dropped: its tokens may be out, and
-//! its numbers must not come to mean something else. [`Book::roots`] gives what opens all that a user may
+//! its numbers must not come to mean something else. [`Book::settled`], [`Book::brief`] and
+//! [`Book::roots`] are questions: what is settled, what is pending, and what opens all that a user may
 //! read.
 //!
 //! **What a contract sees** is one value, `Opened` (`specs/Opened`): the disk, the masters, the settled
