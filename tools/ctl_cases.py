@@ -3,6 +3,7 @@ and its two lines on standard error, words that are no line, help, and a file of
 
 Run, after `rt run` has built the program: python3 tools/ctl_cases.py crates/overctl/out/overctl
 """
+import fcntl
 import os
 import pathlib
 import re
@@ -447,6 +448,181 @@ def files_that_are_too_long():
     case("replace @ keys f1 long", [], 14, b"", error, hint, asked=0)
 
 
+# ---- questions to the owner's book
+
+
+def welcome(epoch):
+    """Welcome of a store of mode Full under the masters above."""
+    return b"\x81\0" + struct.pack(">I", epoch) + REPLIES["WELCOME"][6:]
+
+
+def accepted(epoch):
+    return b"\x84" + struct.pack(">I", epoch)
+
+
+def owned(folder, epoch, words, status=0):
+    """A command by the book `team` at this epoch. The server accepts its update at status 0, and leaves before it at 8."""
+    server = Server([welcome(epoch)] + ([accepted(epoch + 1)] if status == 0 else []))
+    try:
+        found = run(folder, ["own", server.address, "keys", "team", "full", *words.split()])
+    finally:
+        server.end()
+    out = b"ok %d\n" % (epoch + 1) if status == 0 else b""
+    assert found[:2] == (status, out), (words, found)
+
+
+def team():
+    """A folder with the book of a few updates: a, b and c, and f1 for a and c."""
+    folder = client_folder()
+    updates = [
+        "enrol a", "enrol b", "enrol c", "create f1 a,b body", "create f2 - body", "create f3 b body",
+        "grant c f1", "revoke b f1", "remove f2", "replace f3 key",
+    ]
+    for epoch, words in enumerate(updates):
+        owned(folder, epoch, words)
+    return folder, len(updates)
+
+
+def all_of(folder):
+    """What is in a folder: each name with its bytes, its mode and its time of change."""
+    found = {}
+    for path in folder.iterdir():
+        about = path.lstat()
+        found[path.name] = (path.read_bytes() if path.is_file() else None, about.st_mode, about.st_mtime_ns)
+    return found
+
+
+def asked(folder, words, status, out, error=None, hint=None, **streams):
+    """A question to a book, which changes nothing in its folder."""
+    before = all_of(folder)
+    found = run(folder, ["book", *words.split()], **streams)
+    lines = [] if error is None else two_lines(error, hint)
+    assert found == (status, out, lines), (words, found, (status, out, lines))
+    is_in_form(lines)
+    assert all_of(folder) == before, words
+
+
+def questions_to_a_book():
+    folder, epoch = team()
+    book = "keys team full "
+    lists = b"list f1 a,c\nlist f3 b\n"
+    asked(folder, book + "users", 0, b"a\nb\nc\n")
+    asked(folder, book + "list f1", 0, b"list f1 a,c\n")
+    asked(folder, book + "files", 0, lists)
+    asked(folder, book + "files c", 0, b"f1\n")
+    asked(folder, book + "files b", 0, b"f3\n")
+    asked(folder, book + "epoch", 0, b"epoch %d\n" % epoch)
+    asked(folder, book + "pending", 0, b"settled %d\n" % epoch)
+    asked(folder, book + "key c", 0, KEY_LINE.encode())
+    no_user = "correct the name, or enrol the user first"
+    for words in ("key d", "files d"):
+        asked(folder, book + words, 3, b"refused 2 NoUser\n", "the book team refuses the question: 2 NoUser", no_user)
+    for words in ("list f2", "list f4"):
+        asked(folder, book + words, 3, b"refused 3 NoFile\n", "the book team refuses the question: 3 NoFile", NO_FILE)
+    # What the server tells of c's roots is another matter, by a book and without one.
+    lie = bytearray(REPLIES["KNOWN_C"])
+    lie[9:17] = struct.pack(">II", 0, 0)
+    other = client_folder()
+    server = Server([REPLIES["WELCOME"], bytes(lie)])
+    try:
+        status, line, _ = run(other, ["key", server.address, "keys", "c"])
+    finally:
+        server.end()
+    assert status == 0 and line.startswith(b"c 0 ") and line != KEY_LINE.encode(), line
+    # Neither file has to be writable, and the longer one needn't be there.
+    for name in ("team.book", "team.blobs"):
+        (folder / name).chmod(0o400)
+    asked(folder, book + "files", 0, lists)
+    (folder / "team.blobs").unlink()
+    asked(folder, book + "files", 0, lists)
+
+
+def updates_that_are_pending():
+    """An update that was written down and not made is told of, and answers nothing else."""
+    for words, line in {
+        "enrol d": b"enrol d",
+        "create f4 a,c body": b"create f4 a,c",
+        "create f4 - body": b"create f4 -",
+        "grant b f1": b"grant b f1",
+        "revoke c f1": b"revoke c f1",
+        "remove f1": b"remove f1",
+        "replace f1 key": b"replace f1",
+    }.items():
+        folder, epoch = team()
+        owned(folder, epoch, words, status=8)
+        book = "keys team full "
+        asked(folder, book + "pending", 0, b"pending %d %s\n" % (epoch, line))
+        asked(folder, book + "users", 0, b"a\nb\nc\n")
+        asked(folder, book + "files", 0, b"list f1 a,c\nlist f3 b\n")
+        asked(folder, book + "epoch", 0, b"epoch %d\n" % epoch)
+        found = run(folder, ["book", *(book + "key d").split()])
+        assert found[:2] == (3, b"refused 2 NoUser\n"), (words, found)
+        server = Server([welcome(epoch + 1)])
+        try:
+            found = run(folder, ["own", server.address, "keys", "team", "full", "resume"])
+        finally:
+            server.end()
+        assert found == (0, b"ok %d\n" % (epoch + 1), []), found
+        asked(folder, book + "pending", 0, b"settled %d\n" % (epoch + 1))
+
+
+def books_that_do_not_answer():
+    folder, _ = team()
+    (folder / "others").write_text("\n".join(reversed(KEYS.split())) + "\n")
+    (folder / "others").chmod(0o600)
+    (folder / "text.book").write_text("no book " * 20)
+    (folder / "empty.book").write_bytes(b"")
+    (folder / "late.book").mkdir()
+    damaged = bytearray((folder / "team.book").read_bytes())
+    damaged[84] ^= 1
+    (folder / "bad.book").write_bytes(damaged)
+    other = "take the key file and the mode that it was begun with"
+    asked(folder, "others team full users", 9, b"", "the book team has other masters than others, or another mode", other)
+    asked(folder, "keys team delta users", 9, b"", "the book team has other masters than keys, or another mode", other)
+    digits = "it has two different lines of 64 hexadecimal digits"
+    asked(folder, "short team full users", 10, b"", "short is no key file", digits)
+    see = "see that it is a file that you may read"
+    asked(folder, "nokeys team full users", 5, b"", "cannot read nokeys: no such file", see)
+    for path in ("nobody", "text", "empty", "bad", "folder/team", "nofolder/team"):
+        error = "%s.book isn't there, is no book, or is damaged" % path
+        hint = "correct the path, or restore %s.book and %s.blobs from a copy" % (path, path)
+        asked(folder, "keys %s full users" % path, 18, b"error book\n", error, hint)
+    hint = "see that you may read both, and that no `overctl own` has them now"
+    error = "late.book or late.blobs cannot be read"
+    asked(folder, "keys late full users", 17, b"error disk\n", error, hint)
+    # A command by the book has its files locked.
+    with open(folder / "team.book", "r+b") as held:
+        fcntl.lockf(held, fcntl.LOCK_EX)
+        asked(folder, "keys team full users", 17, b"error disk\n", "team.book or team.blobs cannot be read", hint)
+    with open("/dev/full", "wb") as full:
+        writable = "see that it is open, and that there is room"
+        asked(folder, "keys team full users", 6, None, NO_OUTPUT, writable, stdout=full)
+
+
+def words_that_are_no_question():
+    folder = client_folder()
+    name = "1 to 64 of a-z, 0-9, `.`, `_`, `-`, a letter or digit first"
+    many = "there are too many words, or an unknown option"
+    for words, error in {
+        "": "words are missing",
+        "keys team full": "words are missing",
+        "keys team full key": "words are missing",
+        "keys team full list": "words are missing",
+        "keys team fully users": "`fully` is no mode: full or delta",
+        "keys team full read f1": "`read` is no question to a book: key, list, users, files, epoch or pending",
+        "keys team full key Al": "`Al` is no name: " + name,
+        "keys team full files Al": "`Al` is no name: " + name,
+        "keys team full users a": many,
+        "keys team full epoch a": many,
+        "keys team full pending a": many,
+        "keys team full key a b": many,
+        "keys team full users --quiet": many,
+    }.items():
+        usage = "use `overctl book KEYS BOOK MODE QUESTION [NAME]`"
+        found = run(folder, ["book", *words.split()])
+        assert found == (2, b"", two_lines(error, usage)), (words, found)
+
+
 # ---- words
 
 
@@ -502,7 +678,7 @@ def words_that_are_no_line():
 
 def help_and_version():
     folder = client_folder()
-    commands = "enrol create grant revoke remove replace list key read check epoch users files own".split()
+    commands = "enrol create grant revoke remove replace list key read check epoch users files own book".split()
     statuses = [0, *range(2, 15)]
     for words in ([], *[[command] for command in commands]):
         for flag in ("--help", "-h"):
@@ -513,7 +689,10 @@ def help_and_version():
             assert any(line.startswith("Example: overctl ") for line in lines), out.decode()
             table = out.decode().split("Exit status:")[1]
             # a command by the owner's book has no 12 and 13, and five of its own
-            wanted = [0, *range(2, 12), *range(14, 20)] if words == ["own"] else statuses
+            owns = [0, *range(2, 12), *range(14, 20)]
+            # a question to it asks no server
+            asks = [0, 2, 3, 5, 6, 7, 9, 10, 17, 18]
+            wanted = {"own": owns, "book": asks}.get("".join(words), statuses)
             assert sorted(map(int, re.findall(r"(?:^| )(\d+) (?=[a-z])", table))) == wanted, table
     status, out, told = run(folder, ["--version"])
     assert (status, out.decode(), told) == (0, "overctl %s\n" % VERSION, []), out
@@ -581,6 +760,10 @@ CASES = [
     questions_without_a_key,
     questions_that_are_not_answered,
     files_that_are_too_long,
+    questions_to_a_book,
+    updates_that_are_pending,
+    books_that_do_not_answer,
+    words_that_are_no_question,
     words_that_are_no_line,
     help_and_version,
     keys_that_others_read,

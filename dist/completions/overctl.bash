@@ -2,8 +2,14 @@
 _overctl() {
     local word=${COMP_WORDS[COMP_CWORD]} words=
     case $COMP_CWORD,$word in
-        1,*) words='enrol create grant revoke remove replace list key read check epoch users files own --help --version' ;;
-        5,*) [ "${COMP_WORDS[1]}" != own ] || words='full delta' ;;
+        1,*) words='enrol create grant revoke remove replace list key read check epoch users files own book --help --version' ;;
+        4,*) [ "${COMP_WORDS[1]}" != book ] || words='full delta' ;;
+        5,*)
+            case ${COMP_WORDS[1]} in
+                own) words='full delta' ;;
+                book) words='key list users files epoch pending' ;;
+            esac
+            ;;
         6,*) [ "${COMP_WORDS[1]}" != own ] || words='enrol create grant revoke remove replace resume' ;;
         *,-*) words=--help ;;
     esac

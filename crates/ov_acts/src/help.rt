@@ -38,7 +38,7 @@ macro_rules! command {
 }
 
 /// The commands.
-pub static LINES: [Line; 14] = [
+pub static LINES: [Line; 15] = [
     command!(
         "enrol",
         ["ADDRESS", "KEYS", "USER"],
@@ -131,6 +131,17 @@ pub static LINES: [Line; 14] = [
             " 16 epochs differ, 17 the book's files, 18 no book, 19 refused by the server"
         ),
     },
+    Line {
+        name: "book",
+        words: &["KEYS", "BOOK", "MODE", "QUESTION", "[NAME]"],
+        usage: "overctl book KEYS BOOK MODE QUESTION [NAME]",
+        about: "Ask the owner's book, and no server: key lines, lists, what is pending",
+        after: concat!(
+            "Example: overctl book keys.hex team full key bob > bob.key\n",
+            "Exit status: 0 done, 2 words, 3 refused, 5 reading, 6 writing, 7 memory,\n",
+            " 9 masters or mode, 10 key file, 17 the book's files, 18 no book"
+        ),
+    },
 ];
 
 /// What the program is.
@@ -158,6 +169,8 @@ pub fn about_word(word: &str) -> &'static str {
         "MODE" => "full or delta, the mode of the store",
         "COMMAND" => "enrol, create, grant, revoke, remove, replace or resume",
         "[FIRST]" | "[SECOND]" | "[THIRD]" => "a word of the command, as without a book",
+        "QUESTION" => "key USER, list FILE, users, files, files USER, epoch or pending",
+        "[NAME]" => "the user or the file that the question names",
         "[USER]" => "print only the names of the files that list this user",
         _ => "the file's name in the store",
     }

@@ -13,11 +13,15 @@
 //! | `heard` | which refusal was put |
 //! | `leaked` | whether a server shows the base master |
 //! | `owning`, `own_texts` | commands by the owner's book, and what is said of how they ended |
+//! | `consulting`, `book_files`, `book_texts` | questions to the owner's book, which ask no server |
 //! | `question` | questions that need no key |
 //! | `usage`, `texts` | what is said of wrong words, and where help is asked for |
 #![tactic(auto)]
 
 mod asks;
+mod book_files;
+mod book_texts;
+mod consulting;
 mod ending;
 mod heard;
 mod leaked;
@@ -29,7 +33,9 @@ mod refusals;
 mod texts;
 mod usage;
 
+use consulting::run_book;
 use ov_acts::read_job;
+use ov_consulting::read_book_job;
 use ov_files::{hold_places, words_of};
 use ov_owning::read_own_job;
 use owning::run_own;
@@ -44,6 +50,9 @@ fn answer_words(rt: &HostRuntime, words: &[String]) -> u8 {
     if words.first().is_some_and(|word| word.as_str() == "own") {
         return answer_own(rt, words);
     }
+    if words.first().is_some_and(|word| word.as_str() == "book") {
+        return answer_book(rt, words);
+    }
     match read_job(rt.alloc(), words) {
         Ok(job) => run_job(rt, &job),
         Err(7) => say_out_of_memory(rt),
@@ -55,6 +64,15 @@ fn answer_words(rt: &HostRuntime, words: &[String]) -> u8 {
 fn answer_own(rt: &HostRuntime, words: &[String]) -> u8 {
     match read_own_job(rt.alloc(), words) {
         Ok(job) => run_own(rt, job),
+        Err(7) => say_out_of_memory(rt),
+        Err(_) => ask_or_explain(rt, words),
+    }
+}
+
+/// Asks the owner's book what the words of `book` ask for, and gives the status.
+fn answer_book(rt: &HostRuntime, words: &[String]) -> u8 {
+    match read_book_job(rt.alloc(), words) {
+        Ok(job) => run_book(rt, &job),
         Err(7) => say_out_of_memory(rt),
         Err(_) => ask_or_explain(rt, words),
     }

@@ -44,6 +44,8 @@ pub enum WrongWords<'a> {
     Mode(&'a str),
     /// This word is no command that a book has.
     Update(&'a str),
+    /// This word is no question to a book.
+    Question(&'a str),
 }
 
 impl Display for WrongWords<'_> {
@@ -62,6 +64,10 @@ impl Display for WrongWords<'_> {
             WrongWords::Update(word) => write!(
                 f,
                 "`{word}` is no command by a book: enrol, create, grant, revoke, remove, replace or resume"
+            ),
+            WrongWords::Question(word) => write!(
+                f,
+                "`{word}` is no question to a book: key, list, users, files, epoch or pending"
             ),
             WrongWords::List(word) => write!(
                 f,

@@ -1,5 +1,6 @@
 //! What is said on standard error, and of words that are no line of a command or ask for help.
 
+use crate::book_texts::wrong_book;
 use crate::question::question_of;
 use crate::real::run_ask;
 use crate::texts::{
@@ -93,6 +94,9 @@ fn wrong_names<'a>(alloc: Global, words: &'a [String]) -> WrongWords<'a> {
     };
     if command.as_str() == "own" {
         return wrong_own(alloc, words);
+    }
+    if command.as_str() == "book" {
+        return wrong_book(words);
     }
     let Some(line) = line_of(command.as_str()) else {
         return WrongWords::Command(command.as_str());
