@@ -5,20 +5,25 @@ use Rattle.ov_blocks.specs.Laws.{AreWithin}
 use Rattle.ov_disk.specs.Disk.{Image, bytes_of as area_bytes}
 use Rattle.ov_disk.specs.Model.{BeginInside, Range}
 use Rattle.ov_disk.specs.declared.area.Area.{Area}
+use Rattle.ov_tokens.specs.Keys.{key_of_label, token_of}
 use Rattle.ov_tokens.specs.Labels.{label_of}
+use Rattle.ov_tokens.specs.declared.chain.Step.{Step}
 use Rattle.ov_tokens.specs.declared.label.Kind.TheVariants.{Access, Surface}
+use Rattle.ov_tokens.specs.declared.label.Label.{Label}
 use Rattle.ov_tokens.specs.declared.token.Token.{Token}
+use Rattle.ov_chain.specs.Walk.{AreTrue}
 use Rattle.ov_history.specs.Briefs.{BriefReplace, IsNamed}
-use Rattle.ov_history.specs.Catalogue.{filed_at}
+use Rattle.ov_history.specs.Catalogue.{Catalogue, filed_at}
 use Rattle.ov_history.specs.History.{History}
 use Rattle.ov_history.specs.Kept.{padded}
 use Rattle.ov_history.specs.KeptLaws.{AllAreOwners}
-use Rattle.ov_history.specs.Layers.{layers_of}
+use Rattle.ov_history.specs.Layers.{layers_of, root_of}
 use Rattle.ov_history.specs.Masters.{Masters}
 use Rattle.ov_history.specs.Plain.{PlainHistory, PlainUpdate, bytes_of, history_of}
 use Rattle.ov_history.specs.Sealed.{catalogue_of}
 use Rattle.ov_history.specs.Sealing.{sealed, sealed_update}
 use Rattle.ov_history.specs.Words.{HasFile, IsPadded}
+use Rattle.ov_books.specs.Closures.{HoldsByBase}
 use Rattle.ov_model.specs.Streams.{IsEnd}
 
 -- Over the bytes of each file that is there lies the pad of its base node's access key; and where it
@@ -69,3 +74,25 @@ WritesAtTheEndBeginInside =
 -- fewer bytes than a length field has end a stream of frames
 abbrev pub ShortBytesAreAnEnd : Type 0
 ShortBytesAreAnEnd = (bytes : List ℕ) → length bytes < 4 → IsEnd bytes
+
+-- over base tokens a user's base root leads to the access label of its own node
+abbrev pub RootsHoldTheirOwnNode : Type 0
+RootsHoldTheirOwnNode =
+    (c : Catalogue) (user : ℕ)
+    → HoldsByBase c user (label_of Access (root_of c.base.sets user))
+
+-- the step to a label with the token that leads from the key of another one to its own
+abbrev pub true_step : List ℕ → List ℕ → Label → Label → Step
+true_step base surface from to = record {
+  to = to;
+  token = record {
+    bytes = token_of (key_of_label base surface from) to (key_of_label base surface to);
+  };
+}
+
+-- the tokens of two such steps are true, whatever the labels are
+abbrev pub SealedStepsAreTrue : Type 0
+SealedStepsAreTrue =
+    (base surface : List ℕ) (from between to : Label)
+    → AreTrue base surface from
+    (true_step base surface from between ∷ true_step base surface between to ∷ [])

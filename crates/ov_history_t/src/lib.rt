@@ -55,7 +55,8 @@ pub use machine::{
 pub use ordering::new_surfaces_are_in_the_order_of_files;
 pub use premises::{
     each_coat_is_a_pad, names_that_are_not_empty_name, places_in_a_range_are_its_own,
-    short_bytes_are_an_end, what_owners_seal_is_theirs, writes_at_the_end_begin_inside,
+    roots_hold_their_own_node, sealed_steps_are_true, short_bytes_are_an_end,
+    what_owners_seal_is_theirs, writes_at_the_end_begin_inside,
 };
 pub use refusing::{
     a_question_has_the_lowest_refusal, a_removal_frees_bytes_and_name,

@@ -2,6 +2,7 @@
 //! nothing; each row here builds one.
 ghost use Rattle.ov_history_t.specs.Premises.{EachCoatIsAPad, ExtentsHaveTheirBlocks};
 ghost use Rattle.ov_history_t.specs.Premises.{NamesThatAreNotEmptyName, PlacesBetweenAreWithin};
+ghost use Rattle.ov_history_t.specs.Premises.{RootsHoldTheirOwnNode, SealedStepsAreTrue};
 ghost use Rattle.ov_history_t.specs.Premises.{ShortBytesAreAnEnd, WhatOwnersSealIsTheirs};
 ghost use Rattle.ov_history_t.specs.Premises.{WritesAtTheEndBeginInside};
 
@@ -35,4 +36,14 @@ pub fn writes_at_the_end_begin_inside()
 /// Fewer bytes than a length field has end a stream of frames.
 pub fn short_bytes_are_an_end()
     ensures { ShortBytesAreAnEnd }
+{}
+
+/// Each user holds the access label of the user's own base node, over whatever base tokens there are.
+pub fn roots_hold_their_own_node()
+    ensures { RootsHoldTheirOwnNode }
+{}
+
+/// The tokens of two steps are true where each leads from the key of the label before it to its own.
+pub fn sealed_steps_are_true()
+    ensures { SealedStepsAreTrue }
 {}

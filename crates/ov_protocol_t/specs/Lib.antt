@@ -1,3 +1,4 @@
+pub mod Premises
 pub mod Replies
 pub mod Transcripts
 pub mod Tries

@@ -1,17 +1,24 @@
 //! Rows of `ov_protocol`, `ov_transcript` and `ov_server`, and of the tries of `ov_client` and
 //! `ov_owner`: what is sent for a command, what a server answers and by what, at small values, and
-//! what one step of a definition says.
+//! what one step of a definition says. `premises` has those of completeness: that a small store has
+//! all the premises under which calls are answered, so that none of them can be narrowed until the
+//! clauses behind it say nothing.
 //!
 //! No wrong code shows what a definition is for where there is none, or where code reads it too.
-//! Each function here has an empty body, and its contract is a row. Where the definition is turned
-//! the row isn't proved any more. The statements are in `specs/`, and each says what the turned
-//! definition would give.
+//! Each function here but those on a new store and a reader's line has an empty body, and its
+//! contract is a row. Where the definition is turned the row isn't proved any more. The statements
+//! are in `specs/`, and each says what the turned definition would give.
 #![tactic(auto)]
 
+mod premises;
 mod replies;
 mod transcripts;
 mod tries;
 
+pub use premises::{
+    a_new_store_is_one_of_its_masters, a_server_in_this_process_is_alone,
+    an_act_over_a_new_store_is_answered, the_line_of_the_only_user_is_right,
+};
 pub use replies::{
     a_chunk_has_its_size, a_chunk_is_of_the_generation_asked, a_gone_file_has_an_entry,
     a_refused_update_is_not_made, a_removal_names_no_user, a_replacement_is_of_a_name,
