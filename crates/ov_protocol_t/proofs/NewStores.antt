@@ -1,6 +1,6 @@
 -- A store that was just begun on an empty disk serves the history without updates.
 use Rattle.std.proofs.Common.{◌≡◌, ◌∙◌, [], ap, arith, inl, inr, refl, subst, sym, List, ℕ, Option, Some}
-use Rattle.std.specs.Prelude.{◌⊎◌, ⊤, IsSome}
+use Rattle.std.specs.Prelude.{⊤, IsSome}
 use Rattle.ov_base.specs.declared.mode.Mode.{Mode}
 use Rattle.ov_disk.specs.Disk.{Image, image}
 use Rattle.ov_disk.specs.Tape.{Tape, fresh}
@@ -43,7 +43,7 @@ new_store peer base surface check mode disk s p are_served same new begun is =
     subst (λ (d : Tape). IsBegun tape_tells (keys check surface) mode (tape_tells.reads d) s) new
     begun in
     subst (λ (q : Opened Tape). IsStoreAt peer (masters base surface) (no_updates mode) q) (sym is)
-        (begun_new peer base surface check mode s are_served same on_empty)
+    (begun_new peer base surface check mode s are_served same on_empty)
 
 -- what is answered where some disk may have failed is answered where any may have
 pub answered : {disk : Type 0} (status : ℕ) → IsAnswered disk status → IsAnswered ⊤ status

@@ -45,7 +45,7 @@ right_line base surface mode r line same is written =
     subst (λ (s : Reader). IsLineOf (key_line s) s) same is in
     let is_own : line ≡ key_line own = subst (λ (s : Reader). line ≡ key_line s) same written in
     subst (λ (l : List ℕ). HasReadersLine (Some l) (masters base surface) (one_user mode))
-        (sym is_own) (has_line base surface mode its)
+    (sym is_own) (has_line base surface mode its)
 
 -- the same where the reader's keys are made of masters that are these
 pub made_line : (base surface m n : Key) (mode : Mode) (name base_key surface_key : List ℕ)
