@@ -144,7 +144,8 @@ def served(folder, mode, server, client):
     """What a server over the store tells a client that knows no key."""
     base = subprocess.run([client, "check", "keys.hex"], cwd=folder, capture_output=True, text=True, check=True).stdout.strip()
     surface = (folder / "keys.hex").read_text().split()[1]
-    settings = 'listen = "127.0.0.1:0"\nmode = "%s"\nsurface = "%s"\nbase_check = "%s"\nstore = "store"\n'
+    settings = 'address = "127.0.0.1:0"\nmode = "%s"\nsurface = "%s"\nbase_check = "%s"\n'
+    settings += 'book = "store.book"\nblobs = "store.blobs"\nsessions = 8\n'
     (folder / "settings.toml").write_text(settings % (mode, surface, base))
     (folder / "settings.toml").chmod(0o600)
     process, address = started(folder, server, "settings.toml")
