@@ -5,7 +5,8 @@
 It reads the same files as the program `overstore_cases`, and makes each line that the program must print; the
 table at the head of the program's `src/main.rt` says what the lines of a case do. The store, its frames and its
 disk are those of the independent reference, and nothing is taken from what the program printed. Some lines follow
-from a rule and not from the reference, and the rule stands where they are made: `each` (nothing is wrong),
+from a rule and not from the reference, and the rule stands where they are made: `each` (nothing is wrong, and
+how many calls a shorter store takes),
 `counted` (how often an opening reads), `flips` (what a second look finds), `watched` (which reader is gone), and a
 script that is repeated (a refusal that changes nothing comes again).
 
@@ -335,8 +336,38 @@ class Replies:
     # ---- rules
 
     def each(self, rest):
-        """A fault is said, and what is left has the updates that were answered, or one more: nothing is wrong."""
+        """A fault is said, and what is left has the updates that were answered, or one more: nothing is wrong. Where a
+        shorter store is made, the row has to name how many calls of the disk it takes, and where the record of a file
+        is that is gone at the end: with some first updates alone the file is there, and its zeros don't have its tag."""
+        party, count, place, _ = rest.split(" ", 3)
+        if party in ("old", "new"):
+            calls, gone = self.tidy_calls()
+            if int(count) != calls[party] or [int(place)] != (gone or [0]):
+                sys.exit(f"{rest}: {calls[party]} calls, files that are gone at {gone}")
         self.out += b"each %s: 0 are wrong\n" % rest.encode()
+
+    def tidy_calls(self):
+        """How many calls of each disk a shorter store takes, and where its records of files with bytes are that are
+        gone. The old disk is opened; then each record is read once more, and each that is kept once again, with the
+        bytes of a file that is there. The new disk is synced, its Book's length is asked, its front read and the length
+        asked again; then it is written and synced alone, since a file's bytes aren't read where none are moved."""
+        case = self.case
+        fresh = self.reference.image.Device()
+        made = self.reference.tidied(["tidy"], case, Sink(self.reference.run.WriteFault, None), fresh)
+        old, new = (self.opened(self.reference.image.Device(*both)) for both in (
+            (case.book, case.blobs), (fresh.book, fresh.blobs)
+        ))
+        files = [new.cat.files[record.file] for record in new.records if record.file is not None]
+        there = sum(1 for file in files if not file.gone and file.length)
+        moved = sum(1 for call in fresh.log if call[:2] == ("write", "blobs")) - sum(1 for file in files if file.length)
+        if made or moved:
+            sys.exit("calls are counted of a shorter store that is made, and in which no file's bytes are moved")
+        calls = {
+            "old": sum(self.opening(old)) + len(old.records) + len(new.records) + there,
+            "new": 1 + 3 + len(fresh.log),
+        }
+        records = [record for record in new.records if record.file is not None]
+        return calls, [record.gate for record, file in zip(records, files) if file.gone and file.length]
 
     def sizes(self, rest):
         """Pieces of one byte are answered as the whole is, and so are larger ones."""
@@ -384,22 +415,23 @@ class Replies:
             self.call(line)
 
     def counted(self, rest):
-        """Arguments that are refused make no call. An opening asks how long each area is, reads the front of Book,
-        and looks once where each record begins and where they end; it reads each record once for the store, and once
-        for its tokens and its tag. Of Blobs it reads each file once, for the tag, and nothing of a file without
-        bytes. One sync makes what it read last."""
+        """Arguments that are refused make no call."""
         status, lines, _, device = self.called(rest.split(" "), self.case.script)
         if device.log:
             sys.exit(f"{rest} writes")
         book = blobs = syncs = 0
         if status == 0:
-            store = self.opened(device)
-            records = len(store.records)
-            book = 1 + 1 + (records + 1) + 2 * records
-            blobs = 1 + sum(1 for file in store.cat.files if not file.gone and file.length)
-            syncs = 1
+            book, blobs, syncs = self.opening(self.opened(device))
         said = rest.encode(), shown(lines), status, book, blobs, syncs
         self.out += b"counted %s\n%s  status %d, calls of book %d, of blobs %d, syncs %d\n" % said
+
+    def opening(self, store):
+        """How many calls of Book and of Blobs an opening takes, and how many syncs. It asks how long each area is, reads
+        the front of Book, and looks once where each record begins and where they end; it reads each record once for the
+        store, and once for its tokens and its tag. Of Blobs it reads each file once, for the tag, and nothing of a file
+        without bytes. One sync makes what it read last."""
+        records = len(store.records)
+        return 1 + 1 + (records + 1) + 2 * records, 1 + sum(1 for f in store.cat.files if not f.gone and f.length), 1
 
     def opened(self, device, mode=None):
         """The store on a disk, whose tokens and tags aren't looked at."""
@@ -519,11 +551,15 @@ class Replies:
 
 
 def replies_to(arguments, name):
-    """The replies to the cases of a file."""
+    """The replies to the cases of a file, and what is wrong with a case, which ends them. A process that ended there
+    would leave the pool to wait for it."""
     replies = Replies(arguments)
-    for line in (arguments.data / name).read_text().split("\n"):
-        replies.step(line)
-    return bytes(replies.out)
+    try:
+        for line in (arguments.data / name).read_text().split("\n"):
+            replies.step(line)
+    except SystemExit as end:
+        return bytes(replies.out), f"{name}: {end}"
+    return bytes(replies.out), None
 
 
 def main():
@@ -536,8 +572,10 @@ def main():
     if arguments.only:
         names = [arguments.only]
     with multiprocessing.Pool(arguments.jobs) as pool:
-        for replies in pool.imap(functools.partial(replies_to, arguments), names):
+        for replies, wrong in pool.imap(functools.partial(replies_to, arguments), names):
             sys.stdout.buffer.write(replies)
+            if wrong:
+                sys.exit(wrong)
 
 
 if __name__ == "__main__":

@@ -1,4 +1,4 @@
-/* Counts the calls on store files (those whose name begins with `store.`), and has some of them fail.
+/* Counts the calls on store files (those whose name begins with `store.` or `tidy.`), and has some of them fail.
    tools/disk_faults.py compiles it, and has a program preload it.
 
    DISK_FAULT is "FIRST LAST HOW": the calls of these numbers, from 1 on, fail with the error HOW, or, where HOW is 0,
@@ -30,7 +30,7 @@ static int is_of_a_store(int file) {
     if (size <= 0) return 0;
     path[size] = 0;
     const char *name = strrchr(path, '/');
-    return name && strncmp(name + 1, "store.", 6) == 0;
+    return name && (strncmp(name + 1, "store.", 6) == 0 || strncmp(name + 1, "tidy.", 5) == 0);
 }
 
 /* Whether this call is to fail. */

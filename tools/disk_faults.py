@@ -4,9 +4,10 @@ Run, after `rt run` has built the program:
 
     python3 tools/disk_faults.py crates/overstore/out/overstore [--seed S]
 
-The program runs over a script of 60 commands, with no store and with that of the first 30, in both modes. A small
-library in C, `tools/disk_faults.c`, is preloaded. At each number n, up to how many there are, the nth call that reads,
-writes, syncs or cuts `store.book` or `store.blobs` fails:
+The program runs over a script of 60 commands, with no store and with that of the first 30, in both modes; and `tidy`
+over the store of all of them. A small library in C, `tools/disk_faults.c`, is preloaded. At each number n, up to how
+many there are, the nth call that reads, writes, syncs or cuts `store.book`, `store.blobs`, `tidy.book` or `tidy.blobs`
+fails:
 
 | what fails | how |
 |---|---|
@@ -19,6 +20,9 @@ writes, syncs or cuts `store.book` or `store.blobs` fails:
 | the lines | a front of the right ones, whole replies, and `error disk`; all of them at status 0 |
 | what is read behind it, every list and file | the updates that were answered, or one more |
 
+Of a `tidy` the line is `error disk`, and that on both numbers of updates at status 0; the store's files are as they were;
+at status 0 the new ones read as they do; and another `tidy` ends with 14, or with 0 where the new Book has no store.
+
 A look is a read of a file that is open for reading alone: the program looks whether a store was begun, to say of a
 new one on standard error.
 
@@ -29,6 +33,7 @@ of files instead: at each size a write fails from there on, as on a full disk, a
 import errno
 import os
 import pathlib
+import re
 import resource
 import shutil
 import signal
@@ -136,24 +141,27 @@ class Run:
         (folder / "trace.bin").symlink_to("/dev/null")
 
     def put(self, files):
-        for name in ("store.book", "store.blobs", "calls"):
+        for name in ("store.book", "store.blobs", "tidy.book", "tidy.blobs", "calls"):
             (self.folder / name).unlink(missing_ok=True)
         for name, data in files.items():
             (self.folder / name).write_bytes(data)
 
     def files(self):
-        return {path.name: path.read_bytes() for path in self.folder.glob("store.*")}
+        return {path.name: path.read_bytes() for path in [*self.folder.glob("store.*"), *self.folder.glob("tidy.*")]}
 
     def over(self, script, **streams):
+        return self.ended(["run", self.mode], script, **streams)
+
+    def ended(self, words, script=b"", **streams):
         done = subprocess.run(
-            [self.program, "run", self.mode], cwd=self.folder, input=script, stdout=subprocess.PIPE,
+            [self.program, *words], cwd=self.folder, input=script, stdout=subprocess.PIPE,
             stderr=subprocess.DEVNULL, timeout=SECONDS, **streams
         )
         return done.returncode, done.stdout
 
-    def faulty(self, script, library, first=0, last=0, how=0):
+    def faulty(self, script, library, first=0, last=0, how=0, words=None):
         told = {"LD_PRELOAD": str(library), "DISK_FAULT": f"{first} {last} {how}", "DISK_FAULT_LOG": str(self.log)}
-        return self.over(script, env={**os.environ, **told})
+        return self.ended(words or ["run", self.mode], script, env={**os.environ, **told})
 
     def limited(self, script, size):
         limit = lambda: (
@@ -230,6 +238,65 @@ class Tries:
         return f"opened again it isn't at epoch {epoch} or the next: status {got[0]}, {got[1][-99:]}"
 
 
+class Tidies(Tries):
+    """The faults of a shorter store that is made of that of all commands."""
+
+    def __init__(self, run, task, files):
+        super().__init__(run, task, COMMANDS, files)
+        epoch = task.epoch(COMMANDS)
+        self.right = re.compile(rb"tidy %d \d+\nend epoch %d\n" % (epoch, epoch))
+
+    def calls(self, library):
+        self.run.put(self.before)
+        answer = self.run.faulty(b"", library, words=["tidy"])
+        calls = self.run.log.read_text() if self.run.log.exists() else ""
+        text = self.wrong_end(answer, True)
+        if text:
+            sys.exit(f"the program is wrong where nothing fails: {text}")
+        return calls
+
+    def all(self, library):
+        calls = self.calls(library)
+        for number, kind in enumerate(calls, 1):
+            for name, (how, stays) in FAULTS.items():
+                if how == 0 and kind not in "lrw":
+                    continue
+                self.run.put(self.before)
+                last = len(calls) * 9 if stays else number
+                answer = self.run.faulty(b"", library, number, last, how, ["tidy"])
+                self.cases += 1
+                self.ended[answer[0]] = self.ended.get(answer[0], 0) + 1
+                text = self.wrong_end(answer, how == 0 or kind == "l")
+                if text:
+                    self.wrong += 1
+                    print(f"{self.run.mode}, tidy, call {number} of {len(calls)} ({kind}), {name}: {text}", flush=True)
+        return calls
+
+    def wrong_end(self, answer, may_end):
+        """What is wrong with this answer, or with what is left."""
+        status, lines = answer
+        left = self.run.files()
+        if {name: left.get(name) for name in self.before} != self.before:
+            return "the old files were changed"
+        new = left.get("tidy.book", b"")
+        is_unborn = len(new) <= 1 or len(new) <= 79 and new[:1] != b"\1"
+        again = self.run.ended(["tidy"])
+        if again[0] != (0 if is_unborn else 14):
+            return f"another tidy ended with {again}"
+        if status == 0 and may_end and self.right.fullmatch(lines):
+            self.run.put({"store.book": new, "store.blobs": left["tidy.blobs"]})
+            got = self.run.over(self.task.asked())
+            return None if got == (0, self.task.states[-1]) else f"the new store reads otherwise: {got}"
+        return None if (status, lines) == (4, b"error disk\n") else f"status {status}, {lines}"
+
+
+def told(run, what, tries, calls):
+    """Says how the runs ended."""
+    kinds = ", ".join(f"{calls.count(kind)} {word}" for kind, word in KINDS.items())
+    ended = ", ".join(f"{count} with status {status}" for status, count in sorted(tries.ended.items()))
+    print(f"{run.mode}, {what}: {kinds}; runs ended: {ended}", flush=True)
+
+
 def main():
     arguments = trials.options(__doc__, "program").parse_args()
     library = compiled()
@@ -246,10 +313,13 @@ def main():
             if not calls:
                 print("the library sees no call, so the program has its own: limits on the size of files are tried")
                 tries.all_limits()
-            kinds = ", ".join(f"{calls.count(kind)} {word}" for kind, word in KINDS.items())
-            ended = ", ".join(f"{count} with status {status}" for status, count in sorted(tries.ended.items()))
-            print(f"{mode}, from command {first + 1} on: {kinds}; runs ended: {ended}", flush=True)
+            told(run, f"from command {first + 1} on", tries, calls)
             cases, wrong = cases + tries.cases, wrong + tries.wrong
+        run.put({})
+        run.over(task.script(0))
+        tries = Tidies(run, task, run.files())
+        told(run, "tidy", tries, tries.all(library))
+        cases, wrong = cases + tries.cases, wrong + tries.wrong
         shutil.rmtree(run.folder)
     trials.end(cases, wrong, begun)
 

@@ -7,7 +7,14 @@ program knows no tokens and no ciphers: it keeps the sets of both layers, and fo
 definition of an idle pair asks. `overstore tidy` has to print how many updates both stores have, and over
 the new store, put in the place of the old one, each list and each read have to be answered as before; and
 a second `tidy` over the same new files has to end with 14. Then the history goes on by two more updates, in
-both stores alike. Each tenth history has a server besides, where a server and a client are named:
+both stores alike.
+
+A `tidy` of the same store is killed besides, at a moment that is drawn. It has to leave the old files as they
+were, and of the new ones no store or one with some first records of the whole Book; a run over that says its
+epoch or, where a file is there yet that is gone at the end, that its tag is wrong, since it has zeros. Another
+`tidy` then ends with 14, or with 0 where there is no store.
+
+Each tenth history has a server too, where a server and a client are named:
 
     python3 tools/tidy_cases.py PROGRAM [COUNT] [SEED] SERVER CLIENT
 """
@@ -15,6 +22,7 @@ import random
 import shutil
 import subprocess
 import sys
+import time
 
 from audit_cases import Store, put
 from common import KEYS, new_folder, run_folder, started
@@ -28,7 +36,8 @@ class Noted(Store):
         self.facts = []
 
     def note(self, kind, number=None, user=None):
-        fact = {"kind": kind, "file": number, "surface": set(self.surface)}
+        makes = len(self.files) if kind in ("create", "replace") else None
+        fact = {"kind": kind, "file": number, "makes": makes, "surface": set(self.surface)}
         if user is not None:
             file = self.files[number]
             before = frozenset(file["list"])
@@ -135,7 +144,8 @@ def served(folder, mode, server, client):
     """What a server over the store tells a client that knows no key."""
     base = subprocess.run([client, "check", "keys.hex"], cwd=folder, capture_output=True, text=True, check=True).stdout.strip()
     surface = (folder / "keys.hex").read_text().split()[1]
-    settings = 'listen = "127.0.0.1:0"\nmode = "%s"\nsurface = "%s"\nbase_check = "%s"\nstore = "store"\n'
+    settings = 'address = "127.0.0.1:0"\nmode = "%s"\nsurface = "%s"\nbase_check = "%s"\n'
+    settings += 'book = "store.book"\nblobs = "store.blobs"\nsessions = 8\n'
     (folder / "settings.toml").write_text(settings % (mode, surface, base))
     (folder / "settings.toml").chmod(0o600)
     process, address = started(folder, server, "settings.toml")
@@ -147,8 +157,70 @@ def served(folder, mode, server, client):
         process.wait()
 
 
+# ---- kills
+
+
+def records(book):
+    """Where the records of a Book have their gates, and where they end."""
+    gates, at = [], 78
+    while book[at : at + 1] == b"\1":
+        gates.append(at)
+        at += 5 + int.from_bytes(book[at + 1 : at + 5], "big")
+    return gates, at
+
+
+def is_unborn(book):
+    return len(book) <= 1 or len(book) <= 79 and book[:1] != b"\1"
+
+
+def said_of_first(store, kept, gates, count):
+    """What a run says over the first so many of the kept updates. Each file has a byte, so that one which is gone at
+    the end has another tag while it is there."""
+    facts = [store.facts[i] for i in kept[:count]]
+    ended = {fact["file"] for fact in facts if fact["kind"] in ("remove", "replace")}
+    for gate, fact in zip(gates, facts):
+        made = fact["makes"]
+        if made is not None and store.files[made]["list"] is None and made not in ended:
+            return "error damaged book %d\n" % gate, 8
+    return "end epoch %d\n" % (store.epoch - len(kept) + count), 0
+
+
+def killed(program, folder, seconds):
+    """Kills a `tidy` after this time: the new Book that it left, or no bytes where it made none."""
+    process = subprocess.Popen([program, "tidy"], cwd=folder, stdout=subprocess.DEVNULL, stderr=subprocess.DEVNULL)
+    time.sleep(seconds)
+    process.kill()
+    process.wait()
+    return (folder / "tidy.book").read_bytes() if (folder / "tidy.book").exists() else b""
+
+
+def kill_differs(program, folder, store, kept, whole, seconds):
+    """How many kept updates a killed `tidy` left, or None where it left no store, and what differs."""
+    mode = "full" if store.full else "delta"
+    old = [(folder / name).read_bytes() for name in ("store.book", "store.blobs")]
+    book, differs = killed(program, folder, seconds), []
+    if [(folder / name).read_bytes() for name in ("store.book", "store.blobs")] != old:
+        differs.append("a killed tidy: the old files were changed")
+    gates, end = records(book)
+    if not is_unborn(book) and book[:end] != whole[:end]:
+        differs.append("a killed tidy: other records")
+    again = put(program, folder, ["tidy"])
+    if again[1] != (0 if is_unborn(book) else 14):
+        differs.append("a tidy after a killed one: %r" % (again,))
+    if is_unborn(book):
+        return None, differs
+    in_place(folder)
+    wanted, got = said_of_first(store, kept, gates, len(gates)), put(program, folder, ["run", mode], "")
+    if got != wanted:
+        differs.append("a run over a killed tidy's store: %r, wanted %r" % (got, wanted))
+    return len(gates), differs
+
+
+# ---- a history
+
+
 def tried(program, seed, others):
-    """Tries one history, and gives how many updates were left out and what differs."""
+    """Tries one history: how many updates were left out and are kept, how many a killed tidy left, and what differs."""
     draw = random.Random(seed)
     full = draw.random() < 0.5
     mode, store = ("full" if full else "delta"), history(draw, full)
@@ -156,13 +228,19 @@ def tried(program, seed, others):
     differs, kept = [], store.kept()
     before = put(program, folder, ["run", mode], questions(store))
     served_before = served(folder, mode, *others) if others else None
-    book = (folder / "store.book").read_bytes()
+    book, other = (folder / "store.book").read_bytes(), new_folder()
+    shutil.copytree(folder, other, dirs_exist_ok=True)
+    start = time.monotonic()
     wanted = "tidy %d %d\nend epoch %d\n" % (store.epoch, len(kept), store.epoch), 0
     got = put(program, folder, ["tidy"])
+    took = time.monotonic() - start
     if got != wanted:
         differs.append("tidy: %r, wanted %r" % (got, wanted))
     if (folder / "store.book").read_bytes() != book:
         differs.append("tidy: the old book was changed")
+    whole = (folder / "tidy.book").read_bytes()
+    first, differ = kill_differs(program, other, store, kept, whole, draw.random() * took)
+    differs += differ
     again = put(program, folder, ["tidy"])
     if again != ("error notempty\n", 14):
         differs.append("tidy again: %r" % (again,))
@@ -179,7 +257,8 @@ def tried(program, seed, others):
     if more != ("ok %d\nok %d\ndata z zz 1\nx\nend epoch %d\n" % (last - 1, last, last), 0):
         differs.append("two updates more: %r" % (more,))
     shutil.rmtree(folder)
-    return store.epoch - len(kept), differs
+    shutil.rmtree(other)
+    return store.epoch - len(kept), len(kept), first, differs
 
 
 def main():
@@ -187,13 +266,16 @@ def main():
     count = int(sys.argv[2]) if len(sys.argv) > 2 else 1000
     first = int(sys.argv[3]) if len(sys.argv) > 3 else 0
     run_folder()
-    left_out = differ = 0
+    left_out = differ = unborn = fronts = 0
     for seed in range(first, first + count):
-        few, differs = tried(program, seed, sys.argv[4:6] if seed % 10 == 0 else [])
+        few, kept, left, differs = tried(program, seed, sys.argv[4:6] if seed % 10 == 0 else [])
         left_out += few
+        unborn += left is None
+        fronts += left is not None and left < kept
         differ += len(differs)
         for what in differs:
             print("seed %d: %s" % (seed, what))
+    print("%d kills: %d left no store, %d some first updates" % (count, unborn, fronts))
     print("%d histories, %d updates left out, %d differ" % (count, left_out, differ))
     sys.exit(differ > 0)
 

@@ -58,6 +58,7 @@ module _ {D : Type 0} (tells : DiskTells D) (first last : MutBor D) (final : D)
       history = w.shorter.history;
       right = w.shorter.right;
       agree = w.shorter.agree;
+      tags = w.shorter.tags;
       gets = lent_gets (keys_of k) w.shorter.history status w.shorter.gets;
     };
   }

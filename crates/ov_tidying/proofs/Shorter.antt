@@ -1,9 +1,9 @@
 -- What was copied is the shorter history, right for the masters.
-use Rattle.std.proofs.Common.{ℕ, ◌∙◌, ◌≡◌, ◌⊎◌, List, Option, ap, inl, inr, subst, sym}
+use Rattle.std.proofs.Common.{ℕ, ◌+◌, ◌∙◌, ◌≡◌, ◌⊎◌, Bool, List, [], ◌∷◌, Option, ap, inl, inr, refl, subst, sym}
 use Rattle.ov_disk.specs.Tells.{DiskTells}
 use Rattle.ov_history.proofs.Fading.{outer_faded_of}
 use Rattle.ov_history.proofs.Sealing.{sealing_is_outer}
-use Rattle.ov_history.specs.Fading.{AgreeButGone}
+use Rattle.ov_history.specs.Fading.{AgreeButGone, is_gone_from, made_by}
 use Rattle.ov_history.specs.FadingLaws.{IsRight}
 use Rattle.ov_history.specs.History.{History}
 use Rattle.ov_history.specs.Masters.{Masters}
@@ -11,13 +11,15 @@ use Rattle.ov_history.specs.Plain.{PlainHistory, history_of}
 use Rattle.ov_history.specs.Refusals.{IsLegal}
 use Rattle.ov_history.specs.Sealed.{SealedHistory, outer_of}
 use Rattle.ov_history.specs.Sealing.{IsSealedAs, sealed}
+use Rattle.ov_history.specs.Sent.{SealedUpdate}
+use Rattle.ov_history.specs.Texts.{brief_all, brief_of}
 use Rattle.ov_images.specs.Images.{Keys, keys_of}
 use Rattle.ov_thinning.proofs.SealedLaws.{thinned_is_outer}
 use Rattle.ov_thinning.proofs.ThinLaws.{thinned_is_legal}
 use Rattle.ov_thinning.specs.SealedThin.{thinned_plain, thinned_sealed}
 use Rattle.ov_thinning.specs.Thin.{AreThinned, thinned}
 use Rattle.ov_tidy.proofs.CopyRight.{copy_agrees, copy_is_right}
-use Rattle.ov_tidy.specs.Agreeing.{IsCopyOf}
+use Rattle.ov_tidy.specs.Agreeing.{AllAgree, IsCopyOf}
 use Rattle.ov_tidying.proofs.Endings.{by_more}
 use Rattle.ov_tidying.specs.Promises.{EndsEarly, Tidies, WritesShorter}
 use Rattle.ov_tidying.specs.Writing.{MakesCopy, WritesCopy}
@@ -31,6 +33,24 @@ agree_outer g h agree =
 right_outer : (k : Masters) (p : PlainHistory) (g : SealedHistory) → IsSealedAs k p g
     → outer_of g ≡ history_of p
 right_outer k p g right = agree_outer g (sealed k p) right ∙ sealing_is_outer k p
+
+-- updates that agree one by one have the same tokens and tags
+same_briefs : (is_gone : ℕ → Bool) (number : ℕ) (us vs : List SealedUpdate)
+    → AllAgree is_gone number us vs → brief_all vs ≡ brief_all us
+same_briefs is_gone number [] [] all = refl
+same_briefs is_gone number [] (v ∷ vs) all = absurd all
+same_briefs is_gone number (u ∷ us) [] all = absurd all
+same_briefs is_gone number (u ∷ us) (v ∷ vs) all =
+    let rest = same_briefs is_gone (number + made_by u) us vs all.1 in
+    λ j. all.0.0 j ∷ rest j
+
+-- so has a copy
+copy_briefs : (g h : SealedHistory) (kept : List ℕ) → IsCopyOf g kept h
+    → brief_of h ≡ brief_of (thinned_sealed g kept)
+copy_briefs g h kept copy =
+    let short = thinned_sealed g kept in
+    let updates = same_briefs (is_gone_from short) 0 short.updates h.updates copy.agree in
+    λ j. record { mode = copy.mode_is j; first = copy.first_is j; updates = updates j }
 
 module _ (k : Masters) (p : PlainHistory) (g : SealedHistory) (right : IsRight k p g)
     (kept : List ℕ) (thin : AreThinned (outer_of g) kept) where
@@ -63,6 +83,7 @@ module _ {E : Type 0} (tells : DiskTells E) (k : Masters) (p : PlainHistory) (g 
       history = w.history;
       right = copy_right k p g right kept w.thinned w.history w.copy;
       agree = copy_agrees g w.history kept w.copy;
+      tags = copy_briefs g w.history kept w.copy;
       gets = w.gets;
     };
   }

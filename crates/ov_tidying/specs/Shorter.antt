@@ -8,6 +8,7 @@ use Rattle.ov_history.specs.FadingLaws.{IsRight}
 use Rattle.ov_history.specs.Masters.{Masters}
 use Rattle.ov_history.specs.Plain.{PlainHistory}
 use Rattle.ov_history.specs.Sealed.{SealedHistory}
+use Rattle.ov_history.specs.Texts.{brief_of}
 use Rattle.ov_images.specs.Images.{Keeps, Keys, keys_of}
 use Rattle.ov_journal.specs.Standing.{IsUnborn}
 use Rattle.ov_thinning.specs.SealedThin.{thinned_plain, thinned_sealed}
@@ -26,10 +27,12 @@ pub record Gets {E : Type 0} (tells : DiskTells E) (k : Keys) (h : SealedHistory
   pub lasts : status ≡ 0 → (x : Image) → tells.may_leave last x → Keeps k h x
 
 -- The new disk gets one sealed history: it is the shorter one of these places, as it was sent but for
--- tags and bytes of files that are gone, and right for the masters.
+-- the bytes of files that are gone, and right for the masters. Of these files too it has the tokens and
+-- the tags that the old disk keeps.
 pub record HasShorter {E : Type 0} (tells : DiskTells E) (k : Masters) (p : PlainHistory)
     (g : SealedHistory) (kept : List ℕ) (status : ℕ) (first last : E) : Type 0 where
   pub history : SealedHistory
   pub right : IsRight k (thinned_plain p kept) history
   pub agree : AgreeButGone history (thinned_sealed g kept)
+  pub tags : brief_of history ≡ brief_of (thinned_sealed g kept)
   pub gets : Gets tells (keys_of k) history status first last

@@ -15,6 +15,7 @@
 //! | module | what it does |
 //! |---|---|
 //! | `progress` | the count of replies |
+//! | `passes` | how far the making of a shorter store is |
 //! | `frames` | the frames, the first of which comes once the store was opened |
 //! | `recent`, `lacks` | the last lines of the script; what a bad one lacks |
 //! | `told`, `missing` | what standard error is told beside it; which users of an audit aren't enrolled |
@@ -25,6 +26,7 @@ mod advice;
 mod frames;
 mod lacks;
 mod missing;
+mod passes;
 mod progress;
 mod recent;
 mod texts;
@@ -45,6 +47,7 @@ use ov_report::put_memory;
 use ov_retry::Retrying;
 use ov_run::{Tried, Watched, run};
 use ov_tidying::tidy;
+use passes::Passes;
 use progress::Counted;
 use recent::Recent;
 use std::alloc::Global;
@@ -211,7 +214,8 @@ fn audit_store<W: Write>(
     code
 }
 
-// Calls `tidy`. Where no store was begun it looks at an empty disk in memory too.
+// Calls `tidy`, and shows on a terminal how far it is. Where no store was begun it looks at an empty
+// disk in memory too.
 fn tidy_store<W: Write>(
     rt: &HostRuntime,
     words: &[String],
@@ -224,7 +228,12 @@ fn tidy_store<W: Write>(
     if begins(rt, BOOK_FILE) {
         return tidy(alloc, words, keys, out, &mut MemDisk::new(alloc), new);
     }
-    tidy(alloc, words, keys, out, disk, new)
+    let shows = rt.stderr().is_terminal();
+    if shows {
+        out.clear_first();
+    }
+    let mut disk = Passes::new(disk, *rt, shows);
+    tidy(alloc, words, keys, out, &mut disk, new)
 }
 
 // Calls `load`, `audit`, `tidy` or, with all other words, `run`: the status, whether the key file

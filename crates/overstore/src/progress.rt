@@ -5,12 +5,17 @@ use std::str;
 // The count is shown at each multiple of this.
 const STEP: u64 = 1_000;
 
-/// A sink that counts the replies that are put to it, and may show their count.
+// A line of standard error that is longer than any that is written over there, in blanks.
+const BLANK: &str = "\r                                                  \r";
+
+/// A sink that counts the replies that are put to it, and may show their count, or clear what else is
+/// shown.
 #[derive(Drop)]
 pub struct Counted<S: Sink> {
     sink: S,
     rt: HostRuntime,
     shows: bool,
+    clears: bool,
     replies: u64,
     bad_line: Option<u64>,
     misses_user: bool,
@@ -36,6 +41,7 @@ impl<S: Sink> Counted<S> {
             sink,
             rt,
             shows,
+            clears: false,
             replies: 0,
             bad_line: None,
             misses_user: false,
@@ -49,6 +55,19 @@ impl<S: Sink> Counted<S> {
             let rt = self.rt;
             let replies = self.replies;
             let _ = eprint!(rt; "\roverstore: {replies} replies");
+        }
+    }
+
+    /// From now on what standard error shows in its last line is cleared before each put.
+    pub fn clear_first(&mut self) {
+        self.clears = true;
+    }
+
+    // Clears that line.
+    fn clear(&self) {
+        if self.clears {
+            let rt = self.rt;
+            let _ = eprint!(rt; "{BLANK}");
         }
     }
 
@@ -90,6 +109,7 @@ impl<S: Sink> Sink for Counted<S> {
     } };
 
     fn put(&mut self, bytes: &[u8]) -> Result<(), Fault> {
+        self.clear();
         let put = self.sink.put(bytes);
         if put.is_ok() {
             self.replies = self.replies.saturating_add(1);

@@ -182,7 +182,8 @@ pub fn print_each(rt: &HostRuntime, case: &Case, rest: &str) -> Result<(), Fail>
     let (count, rest_of) = rest_of.split_once(' ').ok_or("a number of calls")?;
     let (kept, line) = rest_of.split_once(' ').ok_or("a number of bytes")?;
     if let Some(side) = side_of(party) {
-        let wrong = wrong_tidies(alloc, case, side, number_of(count)?, line)?;
+        let (count, gate) = (number_of(count)?, number_of(kept)?);
+        let wrong = wrong_tidies(alloc, case, side, count, gate, line)?;
         println!(rt; "each {rest}: {wrong} are wrong")?;
         return Ok(());
     }

@@ -32,7 +32,7 @@
 //! | `stops count run ..` | runs it over what a stop leaves after each of the last calls, with each tear |
 //! | `each party count kept run ..` | runs it over a new disk for each of so many calls of the `disk`, the `lines` or the `frames`, which fails |
 //! | `each disk count 0 audit ..` | audits the disk for each of so many calls, which fails |
-//! | `each old count 0 run ..`, `each new ..` | makes a shorter store for each of so many calls of one of its disks, which fails, and runs it over what each tear leaves of the new disk |
+//! | `each old count place run ..`, `each new ..` | makes a shorter store for each of so many calls of one of its disks, which fails, and runs it over what each tear leaves of the new disk, where the record at this place of Book, if there is one, may have a wrong tag |
 //! | `read-only audit ..`, `read-only load ..` | audits or loads a disk that can't be written |
 //! | `counted run ..` | runs it over such a disk, and prints how many calls that had |
 //! | `flips first place bits run ..` | runs it over such a disk, and once more where the first, or `last`, read of a byte of Book gives it with these bits changed |

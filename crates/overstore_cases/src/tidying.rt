@@ -64,19 +64,22 @@ pub fn put_in_place(alloc: Global, case: &mut Case) -> Result<(), AllocError> {
     Ok(())
 }
 
-// Whether a run without commands answers over what each tear leaves of the new disk: no store, or
-// some first updates.
+// Whether a run without commands finds over what each tear leaves of the new disk no store, or some
+// first updates. These may have a file that is gone only later: it has zeros under its own tag, and the
+// run puts the line on it.
 fn are_left(
     alloc: Global,
     case: &Case,
     arguments: &[String],
     disk: &MemDisk,
+    wrong_tag: &str,
 ) -> Result<bool, Fail> {
     for (tear, _) in tears() {
         let mut left = disk.image(disk.calls(), *tear)?;
         let text = lines_over(alloc, case, arguments, b"", &mut left);
         drop(left);
-        if !text?.as_str().starts_with("end epoch ") {
+        let text = text?;
+        if !text.as_str().starts_with("end epoch ") && text.as_str() != wrong_tag {
             return Ok(false);
         }
     }
@@ -92,6 +95,7 @@ fn is_right(
     side: Side,
     call: u64,
     is_made: bool,
+    wrong_tag: &str,
 ) -> Result<bool, Fail> {
     let mut old = synced(alloc, &case.disk)?;
     let mut new = MemDisk::new(alloc);
@@ -104,7 +108,7 @@ fn is_right(
     let keys = Pieces::of(KEYS, case.inputs.piece, 0, NEVER);
     let status = tidied(alloc, &words, keys, &mut lines, &mut old, &mut new);
     let same = old.book() == case.disk.book() && old.blobs() == case.disk.blobs();
-    let left = are_left(alloc, case, arguments, &new);
+    let left = are_left(alloc, case, arguments, &new, wrong_tag);
     drop(old);
     drop(new);
     let wanted = if is_made { 4 } else { 0 };
@@ -112,19 +116,24 @@ fn is_right(
     Ok(left? && same && said && status == wanted)
 }
 
-/// How many shorter stores are wrong, one for each call of this disk that fails and one in which none
-/// does.
+/// How many shorter stores are wrong, one for each of so many calls of this disk that fails, and one in
+/// which none does. The record of a file that is gone at the end has its gate at this place of the new
+/// Book; where there is none, the place is 0.
 pub fn wrong_tidies(
     alloc: Global,
     case: &Case,
     side: Side,
     count: u64,
+    gate: u64,
     line: &str,
 ) -> Result<u64, Fail> {
     let arguments = arguments_of(alloc, line)?;
+    let wrong_tag = format!(in alloc; "error damaged book {gate}\n")?;
+    let wrong_tag = wrong_tag.as_str();
     let mut wrong = 0u64;
     for call in 0..=count {
-        if !is_right(alloc, case, &arguments, side, call, call < count)? {
+        let is_made = call < count;
+        if !is_right(alloc, case, &arguments, side, call, is_made, wrong_tag)? {
             wrong = wrong.saturating_add(1);
         }
     }
