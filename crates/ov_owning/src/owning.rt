@@ -43,8 +43,8 @@ fn act_by<B: Source, P: Peer, D: Disk>(
 ) -> Result<u32, OwnStop>
     requires masters { plain_masters masters.now ≡ book.old.masters }
     requires failed { book.old.failed ≡ false }
-    ensures owns { OwnsOpen P.tells D.tells act mode (B.tells.left body.old) book.old
-        peer.old peer.new book.new.disk result }
+    ensures owns { OwnsOpen P.tells D.tells act mode (B.tells.left body.old)
+        (body.new ≡ body.old) book.old peer.old peer.new book.new.disk result }
     ensures cause { OwnStopsFor ⊥ (Rose (B.tells.faults body.old) (B.tells.faults body.new))
         (Rose (P.tells.faults peer.old) (P.tells.faults peer.new))
         (Rose (D.tells.faults book.old.disk) (D.tells.faults book.new.disk)) result }
@@ -72,7 +72,7 @@ fn act_over<B: Source, P: Peer, D: Disk + Drop>(
     disk: D,
 ) -> (Result<u32, OwnStop>, D)
     ensures owns { OwnsUnder P.tells D.tells (plain_masters masters.now) act mode
-        (B.tells.left body.old) peer.old peer.new disk result.1 result.0 }
+        (B.tells.left body.old) (body.new ≡ body.old) peer.old peer.new disk result.1 result.0 }
     ensures cause { OwnStopsFor ⊥ (Rose (B.tells.faults body.old) (B.tells.faults body.new))
         (Rose (P.tells.faults peer.old) (P.tells.faults peer.new))
         (Rose (D.tells.faults disk) (D.tells.faults result.1)) result.0 }
@@ -104,7 +104,7 @@ fn perform<K: Source, B: Source, P: Peer, D: Disk + Drop>(
     disk: D,
 ) -> (Result<u32, OwnStop>, D)
     ensures owns { OwnsBy P.tells D.tells act mode (K.tells.left keys.old)
-        (B.tells.left body.old) peer.old peer.new disk result.1 result.0 }
+        (B.tells.left body.old) (body.new ≡ body.old) peer.old peer.new disk result.1 result.0 }
     ensures cause { OwnStopsFor (IfSome (K.tells.left keys.old) (λ file. HasMasters file → ⊥))
         (Rose (K.tells.faults keys.old) (K.tells.faults keys.new)
         ⊎ Rose (B.tells.faults body.old) (B.tells.faults body.new))
@@ -156,7 +156,8 @@ pub fn own<K: Source, B: Source, O: Sink, P: Peer, D: Disk + Drop>(
     disk: D,
 ) -> Owned<D>
     ensures owns { OwnsBy P.tells D.tells job.act job.mode (K.tells.left keys.old)
-        (B.tells.left body.old) peer.old peer.new disk result.disk result.end }
+        (B.tells.left body.old) (body.new ≡ body.old) peer.old peer.new disk result.disk
+        result.end }
     ensures puts { PutsEnd result.end (O.tells.written out.old) (O.tells.written out.new)
         result.code }
     ensures causes { OwnStopsFor (IfSome (K.tells.left keys.old) (λ file. HasMasters file → ⊥))
