@@ -1,6 +1,7 @@
 """The attacks of altered_answers.py on an owner who makes every update by a book and prints key lines from it. Where the
-owner was asked to believe an answer nothing is left to change, so each of them fails: nobody reads a file whose list
-doesn't have them, no two files have one pad, no store is spoiled, and a made-up answer to an update is noticed.
+owner was asked to believe an answer nothing is left to change, so those attacks fail: nobody reads a file whose list
+doesn't have them, no two files have one pad, and no store is spoiled. An `ok` that was made up is noticed at the next
+command.
 
 Run, after `rt run` has built the programs, at the top of the repository; it needs `openssl`:
 
@@ -69,14 +70,14 @@ def one_pad(store):
 
 
 def told_another_epoch(store):
-    """An update isn't passed on, and its answer tells an epoch that it couldn't make."""
+    """An update isn't passed on, and its answer tells an epoch that it couldn't make. It is no answer to the update,
+    which stays pending, and is sent again."""
     drop = lambda frame: b"\1" if frame[0] == UPDATE else frame
     accept = lambda frame, answer: bytes([ACCEPTED]) + u32(9) if frame[0] == UPDATE else answer
     between = Between(store.port, drop, accept)
     words = [CLIENT, "own", between.address, *store.book("grant", "bob", "plan")]
     done = subprocess.run(words, cwd=store.folder, capture_output=True)
-    assert (done.returncode, done.stdout) == (16, b"differs 9 5\n"), done
-    return b"16; 'resume' ends with " + store.status("resume")
+    return b"%d; then %b; then %b" % (done.returncode, store.status("enrol", "dan"), store.status("resume"))
 
 
 def revocation_that_isnt_made(store):
@@ -103,14 +104,14 @@ ATTACKS = {
     attacks.key_line_of_alice: (b"status 11", BOTH, "end epoch 5", []),
     attacks.key_line_of_a_list: (b"status 11", BOTH, "end epoch 5", []),
     line_from_a_false_copy: (b"dan has dan's roots", BOTH, "end epoch 8", ["exposed 2 old listed 6"]),
-    attacks.token_of_a_grant: (b"status 11", BOTH, "end epoch 6", []),
-    attacks.token_at_a_server: (b"status 11", BOTH, "end epoch 6", []),
+    attacks.token_of_a_grant: (b"status 12", BOTH, "end epoch 6", []),
+    attacks.token_at_a_server: (b"status 12", BOTH, "end epoch 6", []),
     token_of_a_creation: (b"0 tokens", BOTH, "end epoch 6", []),
-    attacks.file_for_eve: (b"status 11", BOTH, "end epoch 6", []),
+    attacks.file_for_eve: (b"status 12", BOTH, "end epoch 6", []),
     one_pad: (b"two pads", BOTH, "end epoch 6", []),
     attacks.another_grant: (b"status 3", BOTH, "end epoch 6", []),
     attacks.another_list: (b"status 3", BOTH, "end epoch 6", []),
-    told_another_epoch: (b"16; 'resume' ends with 0 ok 6", BOTH, "end epoch 6", []),
+    told_another_epoch: (b"11; then 15 pending 5; then 0 ok 6", BOTH, "end epoch 6", []),
     revocation_that_isnt_made: (b"16 differs 5 6", BOTH, "end epoch 5", []),
     grant_for_later: (b"status 3", BOTH, "end epoch 7", []),
     attacks.false_token: (b"", BOTH, "end epoch 6", []),
@@ -129,7 +130,7 @@ def main():
         print("%s: %s" % (attack.__name__, ended.decode()))
         print("    list: %s; run: %s; audit: %s" % (listed, run, ", ".join(audit) or "nothing"), flush=True)
         assert (ended, listed, run, audit) == expected, expected
-    print("%d attacks on books, each of which fails" % len(ATTACKS))
+    print("%d attacks on books, each of which fails or is noticed" % len(ATTACKS))
 
 
 if __name__ == "__main__":

@@ -148,12 +148,13 @@ pub record IsByOneBook {P D : Type 0} (peer : PeerTells P) (disk : DiskTells D) 
 -- ---- laws
 
 -- A store that begins empty, at epoch 0, serves the book that begins empty, under the same masters and in
--- the same mode; and each image where none was begun stands for that book.
+-- the same mode; each image where none was begun stands for that book; and each act may go on by it.
 abbrev pub NewBooksAreServed : Type 0
 NewBooksAreServed =
     (k : Masters) (mode : Mode)
     → ServesBook k (blank_book mode) (service_under k (blank mode 0))
     × ((i : Image) → IsUnborn i.book → IsImageOf k (blank_book mode) i)
+    × ((act : OwnAct) → MayGoOn act (blank_book mode))
 
 -- A later call may go on from what a call left. Each disk that tells an image which a crash after the call
 -- may have left has a book that is served. One that tells an image which a crash at some moment of the call

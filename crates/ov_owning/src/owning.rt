@@ -138,14 +138,16 @@ pub struct Owned<D> {
 /// the book's epoch, and the intent settled. Nothing of a reply goes into an update.
 ///
 /// * `owns`: what is asked of the server, what a crash may leave of the book, and how the call ends,
-///   as said above;
+///   as said above. Where the masters or the book aren't there, or an intent is pending, nothing is
+///   taken of `body`; and where its bytes aren't read, nothing is asked;
 /// * `puts`: the end's line, and the status;
 /// * `causes`: the key file is said to be none only where it isn't one, and the other causes come only
 ///   where a count of faults rose: that of a file that is read, of the peer, of the disk;
 /// * `write`: 6 comes only where the count of standard output rose;
 /// * `keys`, `takes`: what is taken of the two files;
 /// * `one_book`: over a server that nobody else updates, and that serves this book, it serves it
-///   afterwards too, with the intent where the call ended well; and the call is answered.
+///   afterwards too, with the intent where the call ended well, and a crash meanwhile leaves a book that
+///   was served before or is afterwards; and the call is answered.
 pub fn own<K: Source, B: Source, O: Sink, P: Peer, D: Disk + Drop>(
     alloc: Global,
     job: OwnJob,
