@@ -1,5 +1,5 @@
 -- A first call by a book, over a store that was just begun.
-use Rattle.std.proofs.Common.{◌≡◌, [], inl, arith, refl, sym, subst, List, ℕ, Option}
+use Rattle.std.proofs.Common.{◌≡◌, [], inl, inr, arith, refl, sym, subst, List, ℕ, Option}
 use Rattle.std.specs.Prelude.{⊤}
 use Rattle.ov_base.specs.declared.mode.Mode.{Mode}
 use Rattle.ov_disk.specs.Disk.{Image, image}
@@ -32,7 +32,7 @@ any_disk disk status (inr (inr (inr (inr failed)))) = inr (inr (inr (inr failed)
 module _ {P : Type 0} (peer : PeerTells P) (k : Masters) (mode : Mode) (new : NewBooksAreServed)
   where
     -- an empty disk has the book without intents
-    empty_disk : HasBook tape_tells k mode (blank_book mode) (fresh nothing)
+    abbrev empty_disk : HasBook tape_tells k mode (blank_book mode) (fresh nothing)
     empty_disk = record {
       image = nothing;
       told = refl;

@@ -1,5 +1,5 @@
 -- Rows of books: which books small stores serve, and what a first call by a book needs.
-use Rattle.std.specs.Prelude.{◌≡◌, ⊤, ⊥, ℕ, List, [], ◌∷◌, Option, Some}
+use Rattle.std.specs.Prelude.{◌≡◌, ⊤, ℕ, List, [], ◌∷◌, Option, Some}
 use Rattle.ov_base.specs.declared.mode.Mode.{Mode}
 use Rattle.ov_disk.specs.Disk.{Image, Only, image}
 use Rattle.ov_disk.specs.Tape.{Tape, fresh, may_leave_of}
