@@ -517,11 +517,6 @@ def all_of(folder):
     return found
 
 
-def lock(file):
-    """Locks an open file, as long as it is open. (A lock of the process would end once `all_of` has read the file.)"""
-    fcntl.fcntl(file, fcntl.F_OFD_SETLK, struct.pack("hhqqi4x", fcntl.F_WRLCK, os.SEEK_SET, 0, 0, 0))
-
-
 def asked(folder, words, status, out, error=None, hint=None, **streams):
     """A question to a book, which changes nothing in its folder."""
     before = all_of(folder)
@@ -622,7 +617,7 @@ def books_that_do_not_answer():
     asked(folder, "keys late full users", 17, b"error disk\n", error, hint)
     # A command by the book has its files locked.
     with open(folder / "team.book", "r+b") as held:
-        lock(held)
+        fcntl.lockf(held, fcntl.LOCK_EX)
         asked(folder, "keys team full users", 17, b"error disk\n", "team.book or team.blobs cannot be read", hint)
     with open("/dev/full", "wb") as full:
         writable = "see that it is open, and that there is room"
@@ -994,7 +989,7 @@ def help_and_version():
             status, out, told = run(folder, [*words, flag])
             lines = out.decode().splitlines()
             assert (status, told) == (0, []), (words, status, told)
-            assert len(lines) <= (24 if words else 31) and max(map(len, lines)) <= 80, out.decode()
+            assert len(lines) <= (24 if words else 30) and max(map(len, lines)) <= 80, out.decode()
             has = [option for option in ("--output", "--timeout", "--yes") if option in out.decode()]
             assert has == options_of(words), (words, has)
             assert any(line.startswith("Example: overctl ") for line in lines), out.decode()
