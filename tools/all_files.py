@@ -14,6 +14,8 @@ SET_BYTES, FIRST_RECORD = {b"\x01OVERENC1": 32, b"\x01OVERENC2": 128}, 78
 ENROLMENT, CREATION, REMOVAL, REPLACEMENT = 1, 2, 6, 7
 # The body of the record that stands between the updates of the first format and those of the second.
 STEP = b"\x05"
+# The first byte of an intent's body in an owner's book, whose update is behind it, and the body that settles it.
+INTENT, SETTLING = 8, b"\x09"
 
 
 def end(status, line):
@@ -43,25 +45,41 @@ def user_words(least, most, form):
     return given
 
 
-def records(book, origin, steps=False):
-    """The updates of a store.book, as docs/FORMATS.md has them, and with each how many bytes a set has in it; its step
-    record too where `steps` is set. `overstore run` says more of a bad one."""
-    set_bytes = SET_BYTES.get(book[:9])
-    if set_bytes is None or len(book) <= FIRST_RECORD:
+def bodies(book, origin):
+    """The bodies of all records of a store.book or an owner's book, whatever they say."""
+    if book[:9] not in SET_BYTES or len(book) <= FIRST_RECORD:
         end(BAD_INPUT, f"{origin} is no store.book: its header isn't whole")
     at = FIRST_RECORD
     while book[at : at + 1] == b"\x01":
         length = int.from_bytes(book[at + 1 : at + 5], "big")
         body = book[at + 5 : at + 5 + length]
-        if length == 1 and body == STEP:
-            set_bytes = SET_BYTES[b"\x01OVERENC2"]
-            if steps:
-                yield body, set_bytes
-        elif len(body) < max(length, 2):
+        if len(body) < max(length, 1) or length == 1 and body not in (STEP, SETTLING):
             end(BAD_INPUT, f"{origin}: the record at byte {at} isn't whole")
-        else:
-            yield body, set_bytes
+        yield body
         at += 5 + length
+
+
+def records(book, origin):
+    """The updates of a store.book, as docs/FORMATS.md has them, and with each how many bytes a set has in it; of an
+    owner's book those of its settled intents. `overstore run` and `overctl book` say more of a bad one."""
+    set_bytes, intent = SET_BYTES.get(book[:9]), None
+    for body in bodies(book, origin):
+        if body == STEP:
+            set_bytes = SET_BYTES[b"\x01OVERENC2"]
+        elif body[0] == INTENT:
+            intent = body[1:]
+        elif body != SETTLING:
+            yield body, set_bytes
+        elif intent is None:
+            end(BAD_INPUT, f"{origin} settles what it doesn't intend")
+        else:
+            yield intent, set_bytes
+            intent = None
+
+
+def has_pending(book, origin):
+    """Whether it is an owner's book whose last intent isn't settled."""
+    return ([b"", *bodies(book, origin)][-1] or b"\0")[0] == INTENT
 
 
 def names(book, origin):

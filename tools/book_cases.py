@@ -8,6 +8,10 @@ the reference's catalogue; and with the bytes of all files in a folder the scrip
 beginning and from an epoch in between, is answered by the reference over a new store, or over the store of that
 epoch: both files have to be those of the first store again, or in the older format every file, list and node. Where
 one file is missing there has to be no script.
+
+The reference also writes the updates of a store of the newer format into an owner's book, the last one as a pending
+intent. Its script has to be that of the store's book up to the update before, and standard error has to say that an
+intent is pending; once that is settled, the scripts have to be equal.
 """
 import subprocess
 import sys
@@ -27,8 +31,11 @@ class Case:
     """A store that the reference makes, with both of its files behind each of two scripts."""
 
     def __init__(self, arguments, number):
-        self.stage, run, scripts, self.matrix, stages = trials.reference(arguments, "run", "scripts", "matrix", "stage")
+        self.stage, run, scripts, self.matrix, stages, self.books, image = trials.reference(
+            arguments, "run", "scripts", "matrix", "stage", "book", "image"
+        )
         self.run, self.chance = run.run, trials.chance_of(arguments, number)
+        self.device, self.keys = image.Device, run.read_keys(KEYS.read_bytes())
         self.mode, self.format = self.chance.randrange(2), number % 3
         self.book = self.blobs = b""
         self.script = b""
@@ -92,6 +99,50 @@ class Case:
         if sent and (done.returncode != 5 or done.stdout or done.stderr.count(b"\n") != len(sent) + 1):
             yield f"without files: status {done.returncode}; {done.stderr.decode()}"
 
+    def wrong_owners_books(self):
+        """The script of an owner's book beside that of the store's."""
+        commands = self.accepted()
+        if self.format or not commands:
+            return
+        folder = new_folder()
+        (folder / "files").mkdir()
+        for number, text in enumerate(self.texts()):
+            (folder / "files" / f"text{number}").write_bytes(text)
+        (folder / "book").write_bytes(self.book)
+        owners = self.owners_book(commands)
+        for pending in (True, False):
+            (folder / "team").write_bytes(owners.device.area["book"])
+            mine = tool("script_of_book.py", KEYS, folder / "book", folder / "files")
+            theirs = tool("script_of_book.py", KEYS, folder / "team", folder / "files")
+            wanted = mine.stdout if not pending else self.without_last(mine.stdout, folder / "book", folder / "files")
+            said = b"an intent is pending" in theirs.stderr
+            if theirs.returncode or theirs.stdout != wanted or said != pending:
+                yield f"owner's book, {pending=}: status {theirs.returncode}, {theirs.stderr.decode()}"
+            if pending:
+                owners.settle()
+
+    def accepted(self):
+        """The commands of both scripts that weren't refused."""
+        items = [item[1] for item in self.matrix.script(self.script, self.stage) if item[0] == "command"]
+        at = self.matrix.Matrix(self.mode, self.stage)
+        return [command for command in items if at.step(command)[0] == "ok"]
+
+    def owners_book(self, commands):
+        """The reference's book of these commands, the last one pending."""
+        book = self.books.begin(self.device(), *self.keys, self.mode, self.stage)
+        for command in commands:
+            if book.pending is not None:
+                book.settle()
+            body = command[-1] if command[0] in ("create", "replace") else b""
+            act = command[:-1] if command[0] in ("create", "replace") else command
+            assert book.intend(act, body) is None, command
+        return book
+
+    def without_last(self, script, book, files):
+        """The script without its last update."""
+        last = tool("script_of_book.py", KEYS, book, files, str(self.result.store.cat.epoch - 1)).stdout
+        return script.removesuffix(last)
+
     def is_same(self, again):
         if self.format == 0:
             return (again.book, again.blobs) == (self.book, self.blobs)
@@ -109,7 +160,7 @@ def main():
     begun, wrong = trials.begin(arguments), 0
     for number in range(arguments.count):
         case = Case(arguments, number)
-        for text in (*case.wrong_counts(), *case.wrong_scripts()):
+        for text in (*case.wrong_counts(), *case.wrong_scripts(), *case.wrong_owners_books()):
             wrong += 1
             print(f"store {number}, {MODES[case.mode]}, format {case.format}: {text}")
     trials.end(arguments.count, wrong, begun)

@@ -1,13 +1,19 @@
 #!/usr/bin/env python3
 """Makes the script of the updates in a store.book, so that a store that was lost can be made again as it was.
 
-Run: python3 tools/script_of_book.py KEYS BOOK FILES [FROM] > SCRIPT
+Run: python3 tools/script_of_book.py [--commands] KEYS BOOK FILES [FROM] > SCRIPT
 
-KEYS is the store's key file, BOOK a copy of its store.book, in either format, and FILES a folder with the bytes of
-each file that was created or replaced, under whatever names. With FROM the script begins behind that epoch, for an
-older copy of both store files, and bytes that were sent before aren't needed. Bytes are taken where they have the
-tag of the record, and so are those that were sent; NAME.EPOCH and NAME are looked at first. Where those of an update
-aren't in FILES there is no script, and standard error names each such update.
+KEYS is the store's key file, BOOK a copy of its store.book, in either format, or of its owner's book, and FILES a
+folder with the bytes of each file that was created or replaced, under whatever names. With FROM the script begins
+behind that epoch, for an older copy of both store files, and bytes that were sent before aren't needed. Bytes are
+taken where they have the tag of the record, and so are those that were sent; NAME.EPOCH and NAME are looked at first.
+Where those of an update aren't in FILES there is no script, and standard error names each such update.
+
+Of an owner's book the script has the updates of settled intents. Standard error says where one is pending, which
+`overctl own .. resume` sends.
+
+With --commands each line has the words of a command of overctl behind its key file, quoted for a shell, with the
+path of the bytes as its last word, in place of the items of a script.
 
 A store that `overstore tidy` wrote begins at a later epoch than 0, where no new store begins: for its book FROM is
 needed, and not before that epoch.
@@ -20,16 +26,18 @@ import hashlib
 import hmac
 import pathlib
 import re
+import shlex
 import sys
 
-from all_files import BAD_INPUT, BAD_WORDS, end, words
+from all_files import BAD_INPUT, BAD_WORDS, end, has_pending, words
 from store_layers import updates
 
 MISSING = 5
 KEY_FILE = re.compile(rb"([0-9a-fA-F]{64})\n[0-9a-fA-F]{64}\n?")
 # Where a book has the check value of the base master.
 CHECK = slice(14, 46)
-FORM = "KEYS BOOK FILES [FROM] > SCRIPT"
+COMMANDS = "--commands"
+FORM = f"[{COMMANDS}] KEYS BOOK FILES [FROM] > SCRIPT"
 
 
 def keyed(key, message):
@@ -44,6 +52,12 @@ def tag_of(base, file, data):
     """The tag of a file with these bytes, as its owner makes it."""
     access = hashlib.sha256(keyed(base, label(b"B", file.base))).digest()
     return keyed(keyed(access, label(b"T", file.number)), len(data).to_bytes(8, "big") + data)
+
+
+def chosen():
+    """Whether commands are asked for, and the other words."""
+    commands = sys.argv[1:2] == [COMMANDS]
+    return commands, words(3 + commands, 4 + commands, FORM)[commands:]
 
 
 class Folder:
@@ -87,8 +101,8 @@ def first_epoch(book):
 
 
 def items(base, book, origin, folder, first):
-    """The line of each update behind an epoch, and where the bytes behind it are, or None where it has none. How many
-    updates lack their bytes is said at the end."""
+    """The words of each update behind an epoch, without a length, and where its bytes are, or None where it has none.
+    How many updates lack their bytes is said at the end."""
     missing, last = 0, first
     for store, line in updates(book, origin):
         last = store.epoch
@@ -97,20 +111,33 @@ def items(base, book, origin, folder, first):
         path = None
         if line[0] in ("create", "replace"):
             file = store.files[-1]
-            line = [*line, str(file.length)]
             path = folder.path_of(base, file, store.epoch) if file.length else pathlib.Path("/dev/null")
             if path is None:
                 missing += 1
-                sys.stderr.write(f"update {store.epoch}, `{' '.join(line)}`: no file of {folder.root} has its bytes\n")
-        yield " ".join(line), path
+                shown = " ".join([*line, str(file.length)])
+                sys.stderr.write(f"update {store.epoch}, `{shown}`: no file of {folder.root} has its bytes\n")
+        yield line, path
     if missing:
         end(MISSING, f"no script: the bytes of {missing} updates are missing; others in their place would be under used keys")
     if last < first:
         end(BAD_INPUT, f"{origin} ends at epoch {last}, before {first}")
 
 
+def item(line, path):
+    """The item of a script."""
+    if path is None:
+        return f"{' '.join(line)}\n".encode()
+    data = read(path)
+    return f"{' '.join(line)} {len(data)}\n".encode() + data + b"\n"
+
+
+def command(line, path):
+    """The words of a command."""
+    return f"{shlex.join([*line, *([] if path is None else [str(path)])])}\n".encode()
+
+
 def main():
-    keys, origin, root, *rest = words(3, 4, FORM)
+    commands, (keys, origin, root, *rest) = chosen()
     if rest and not rest[0].isdecimal():
         end(BAD_WORDS, f"{rest[0]} is no epoch: FROM is a decimal number")
     book, folder = read(origin), Folder(pathlib.Path(root))
@@ -119,7 +146,9 @@ def main():
         end(BAD_INPUT, f"{origin} begins at epoch {begun}: put a copy of both store files in place, and name its epoch as FROM")
     found = list(items(base, book, origin, folder, first))
     for line, path in found:
-        sys.stdout.buffer.write(line.encode() + b"\n" + (read(path) + b"\n" if path else b""))
+        sys.stdout.buffer.write((command if commands else item)(line, path))
+    if has_pending(book, origin):
+        sys.stderr.write("an intent is pending: once the server is there again, `overctl own .. resume` sends it\n")
 
 
 if __name__ == "__main__":

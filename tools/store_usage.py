@@ -1,5 +1,5 @@
 #!/usr/bin/env python3
-"""Counts what a store has used up of each of its limits, from its store.book alone.
+"""Counts what a store has used up of each of its limits, from its store.book alone, or from its owner's book.
 
 Run: python3 tools/store_usage.py < store.book
 
@@ -8,15 +8,15 @@ given back; files and bytes are those of files that are there. `make -C dist ins
 """
 import sys
 
-from all_files import FIRST_RECORD, records, words
+from all_files import FIRST_RECORD, bodies, words
 from store_layers import last_store
 
 USERS, SETS, NUMBERS, BYTES, UPDATES = 1_024, 4_096, 16_384, 67_108_864, 4_294_967_295
 
 
 def book_bytes(book, origin):
-    """How long a store.book is up to the gate behind its last record."""
-    return FIRST_RECORD + 1 + sum(5 + len(body) for body, _ in records(book, origin, True))
+    """How long a book is up to the gate behind its last record."""
+    return FIRST_RECORD + 1 + sum(5 + len(body) for body in bodies(book, origin))
 
 
 def usage(book, origin):

@@ -5,7 +5,9 @@ use Rattle.std.specs.Prelude.{◌⊎◌, IsOk, IsSome}
 use Rattle.ov_base.specs.declared.limits.TheConstants.{MAX_FILE_BYTES}
 use Rattle.ov_base.specs.declared.mode.Mode.{Mode}
 use Rattle.ov_disk.specs.Disk.{Image, Only}
+use Rattle.ov_disk.specs.Moments.{LeavesOnly}
 use Rattle.ov_disk.specs.Tells.{DiskTells}
+use Rattle.ov_disk.proofs.Runs.{started}
 use Rattle.ov_history.specs.Masters.{Masters}
 use Rattle.ov_keyfile.specs.KeyFile.{IsKeyFile}
 use Rattle.ov_keyfile.specs.declared.masters.Masters.{Masters as ReadMasters}
@@ -38,6 +40,7 @@ use Rattle.ov_owning.specs.declared.stop.OwnStop.{OwnStop}
 use Rattle.ov_owning.specs.declared.stop.OwnStop.TheVariants as stops
 use Rattle.ov_owning.proofs.Answered.{IsFine, is_fine}
 use Rattle.ov_owning.proofs.Calls.{none_there}
+use Rattle.ov_owning.proofs.Meanwhile.{same_meanwhile}
 use Rattle.ov_owning.proofs.Opens.{only_outside}
 use Rattle.ov_owning.proofs.NextBook.{IsFree, none_seen}
 use Rattle.ov_owning.proofs.OneBook.{leaves_served}
@@ -116,16 +119,18 @@ begun_fine fails fault (inr memory) =
 module _ {P D : Type 0} (peer : PeerTells P) (disk : DiskTells D) (alone : IsAlone peer)
     (act : OwnAct) (mode : Mode) (body : Option (List ℕ)) (k : Masters) (b : Booked) (v : Service)
     (serves : ServesBook k b v) (d : D) (book : HasBook disk k mode b d) (p q : P)
-    (serving : peer.serves p v) (e : D) (end : End) where
+    (serving : peer.serves p v) (e : D) (end : End) (untaken : Type 0) where
   -- nothing was asked, and a crash leaves this book
   idle_served : (stop : OwnStop) → q ≡ p → end ≡ Err stop
-      → ((c : Image) → disk.may_leave e c → IsImageOf k b c)
-      → LeavesServed peer disk k b act body v q e end
-  idle_served stop same is images = record {
+      → LeavesOnly disk d e (IsImageOf k b)
+      → LeavesServed peer disk k b act body v q d e end
+  idle_served stop same is leaves = record {
     now = v;
     serves = subst (λ (x : P). peer.serves x v) (sym same) serving;
     one = inl refl;
-    images = λ c left. (b, refl, images c left, serves);
+    images = λ c left.
+        (b, refl, leaves.each c (disk.counts_now e (disk.moment d) c leaves.later left), serves);
+    moments = same_meanwhile disk k b v serves d e leaves;
     done = λ ok. absurd (failed_end end stop is ok);
   }
 
@@ -136,38 +141,39 @@ module _ {P D : Type 0} (peer : PeerTells P) (disk : DiskTells D) (alone : IsAlo
     reads : (i : Image) × (disk.reads s.disk ≡ Some i)
     reads = opens.begun.told book.image book.told
 
-    open_images : (c : Image) → disk.may_leave s.disk c → IsImageOf k b c
-    open_images c left =
-        inr (subst (λ (m : Masters). Keeps m b c) opens.begun.new.0
-        (holds.disk opens.begun.new.1 reads.0 reads.1 c left))
+    opening : Only book.image (disk.may_leave d) → LeavesOnly disk d s.disk (IsImageOf k b)
+    opening only = opens.leaves book.image book.told only b book.mode_is book.stands
 
-    left_idle : (stop : OwnStop) → IsIdle p q s.disk e → end ≡ Err stop
-        → LeavesServed peer disk k b act body v q e end
-    left_idle stop (same, stays) is =
+    left_idle : (stop : OwnStop) → Only book.image (disk.may_leave d) → IsIdle p q s.disk e
+        → end ≡ Err stop → LeavesServed peer disk k b act body v q d e end
+    left_idle stop only (same, stays) is =
         idle_served stop same is
-        (subst (λ (x : D). (c : Image) → disk.may_leave x c → IsImageOf k b c) (sym stays)
-        open_images)
+        (subst (λ (x : D). LeavesOnly disk d x (IsImageOf k b)) (sym stays) (opening only))
 
     is_free : (intent : Option Intent) → FindsIntent act body (Ok intent)
         → IsResume act ⊎ (s.pending ≡ None) → IsFree intent b
     is_free intent finds (inl resumes) = inl (resume_none act body intent resumes finds)
     is_free intent finds (inr none) = inr (none_there b.pending s.pending none holds.pending)
 
-    found_served : IsLeftAlone peer → (found : Result (Option Intent) Stop)
+    found_served : IsLeftAlone peer → Only book.image (disk.may_leave d)
+        → (found : Result (Option Intent) Stop)
         → IsResume act ⊎ (s.pending ≡ None) → FindsIntent act body found
         → OwnsFound peer disk mode s p q e end found
-        → LeavesServed peer disk k b act body v q e end
-    found_served left (Ok intent) goes finds owns =
+        → LeavesServed peer disk k b act body v q d e end
+    found_served left only (Ok intent) goes finds owns =
         let both = owns b holds in
         leaves_served peer disk alone k b v serves s opens.begun.new.0 holds reads.0 reads.1 intent
-        (is_free intent finds goes) mode act body finds left p q e end serving both.0 both.1
-    found_served left (Err stop) goes finds (idle, is) = left_idle (unread stop) idle is
+        (is_free intent finds goes) mode act body finds left d (opening only) p q e end serving
+        both.0 both.1
+    found_served left only (Err stop) goes finds (idle, is) = left_idle (unread stop) only idle is
 
-    open_served : IsLeftAlone peer → OwnsOpen peer disk act mode body s p q e end
-        → LeavesServed peer disk k b act body v q e end
-    open_served left (inl (other, pending, idle, is)) =
-        left_idle (stops.Pending s.settled.epoch) idle is
-    open_served left (inr (goes, (found, finds, owns))) = found_served left found goes finds owns
+    open_served : IsLeftAlone peer → Only book.image (disk.may_leave d)
+        → OwnsOpen peer disk act mode body untaken s p q e end
+        → LeavesServed peer disk k b act body v q d e end
+    open_served left only (inl (other, pending, idle, none, is)) =
+        left_idle (stops.Pending s.settled.epoch) only idle is
+    open_served left only (inr (goes, (found, finds, owns))) =
+        found_served left only found goes finds owns
 
     found_fine : HasBody act body → (found : Result (Option Intent) Stop)
         → IsResume act ⊎ (s.pending ≡ None) → FindsIntent act body found
@@ -186,29 +192,24 @@ module _ {P D : Type 0} (peer : PeerTells P) (disk : DiskTells D) (alone : IsAlo
         cc (subst (λ (x : Option Pending). IsSome x)
         (none_seen b.pending s.pending none holds.pending) pending)
 
-    open_fine : HasBody act body → MayGoOn act b → OwnsOpen peer disk act mode body s p q e end
-        → IsFine (FailsDisk peer p q) end
-    open_fine has may (inl (other, pending, idle, is)) = absurd (goes_on may other pending)
+    open_fine : HasBody act body → MayGoOn act b
+        → OwnsOpen peer disk act mode body untaken s p q e end → IsFine (FailsDisk peer p q) end
+    open_fine has may (inl (other, pending, idle, none, is)) = absurd (goes_on may other pending)
     open_fine has may (inr (goes, (found, finds, owns))) = found_fine has found goes finds owns
 
   -- ---- from the book on the disk on
 
-  none_images : (fault : BookBegin) → OpensNone disk k mode d e fault
-      → Only book.image (disk.may_leave d) → (c : Image) → disk.may_leave e c → IsImageOf k b c
-  none_images fault none only c left =
-      let leaves = none.leaves book.image book.told only b book.mode_is book.stands in
-      leaves.each c (disk.counts_now e (disk.moment d) c leaves.later left)
-
   under_served : IsLeftAlone peer → Only book.image (disk.may_leave d)
-      → OwnsUnder peer disk k act mode body p q d e end
-      → LeavesServed peer disk k b act body v q e end
-  under_served left only (inl (fault, none, same, is)) =
-      idle_served (unbegun fault) same is (none_images fault none only)
-  under_served left only (inr (s, opens, owns)) = open_served s opens left owns
+      → OwnsUnder peer disk k act mode body untaken p q d e end
+      → LeavesServed peer disk k b act body v q d e end
+  under_served left only (inl (fault, none, same, nothing, is)) =
+      idle_served (unbegun fault) same is
+      (none.leaves book.image book.told only b book.mode_is book.stands)
+  under_served left only (inr (s, opens, owns)) = open_served s opens left only owns
 
-  under_fine : HasBody act body → MayGoOn act b → OwnsUnder peer disk k act mode body p q d e end
-      → IsFine (FailsDisk peer p q) end
-  under_fine has may (inl (fault, none, same, is)) =
+  under_fine : HasBody act body → MayGoOn act b
+      → OwnsUnder peer disk k act mode body untaken p q d e end → IsFine (FailsDisk peer p q) end
+  under_fine has may (inl (fault, none, same, nothing, is)) =
       subst (λ (x : End). IsFine (FailsDisk peer p q) x) (sym is)
       (begun_fine (FailsDisk peer p q) fault
       (only_outside k mode b book.image fault book.mode_is book.stands none.form
@@ -220,11 +221,11 @@ module _ {P D : Type 0} (peer : PeerTells P) (disk : DiskTells D) (alone : IsAlo
   module _ (keys : Option (List ℕ)) (key : HasKeyFile keys k) where
     -- the masters that were found are those
     found_under : (masters : ReadMasters) → FindsMasters keys (Ok masters)
-        → OwnsAfter peer disk act mode body p q d e end (Ok masters)
-        → OwnsUnder peer disk k act mode body p q d e end
+        → OwnsAfter peer disk act mode body untaken p q d e end (Ok masters)
+        → OwnsUnder peer disk k act mode body untaken p q d e end
     found_under masters finds owns =
         let is = subst (λ (x : Option (List ℕ)). FindsMasters x (Ok masters)) key.told finds in
-        subst (λ (m : Masters). OwnsUnder peer disk m act mode body p q d e end)
+        subst (λ (m : Masters). OwnsUnder peer disk m act mode body untaken p q d e end)
         (sym (same_masters key.file k masters key.masters is)) owns
 
     -- or they weren't read
@@ -237,20 +238,22 @@ module _ {P D : Type 0} (peer : PeerTells P) (disk : DiskTells D) (alone : IsAlo
 
     by_served : IsLeftAlone peer → Only book.image (disk.may_leave d)
         → (found : Result ReadMasters Stop) → FindsMasters keys found
-        → OwnsAfter peer disk act mode body p q d e end found
-        → LeavesServed peer disk k b act body v q e end
+        → OwnsAfter peer disk act mode body untaken p q d e end found
+        → LeavesServed peer disk k b act body v q d e end
     by_served left only (Ok masters) finds owns =
         under_served left only (found_under masters finds owns)
-    by_served left only (Err stop) finds ((same, stays), is) =
+    by_served left only (Err stop) finds ((same, stays), nothing, is) =
         idle_served (unread stop) same is
-        (subst (λ (x : D). (c : Image) → disk.may_leave x c → IsImageOf k b c) (sym stays)
-        (λ c left_there. subst (λ (i : Image). IsImageOf k b i) (sym (only c left_there)) book.stands))
+        (subst (λ (x : D). LeavesOnly disk d x (IsImageOf k b)) (sym stays)
+        (started disk d (IsImageOf k b)
+        (λ c there. subst (λ (i : Image). IsImageOf k b i) (sym (only c there)) book.stands)))
 
     by_fine : HasBody act body → MayGoOn act b
         → (found : Result ReadMasters Stop) → FindsMasters keys found
-        → OwnsAfter peer disk act mode body p q d e end found → IsFine (FailsDisk peer p q) end
+        → OwnsAfter peer disk act mode body untaken p q d e end found
+        → IsFine (FailsDisk peer p q) end
     by_fine has may (Ok masters) finds owns = under_fine has may (found_under masters finds owns)
-    by_fine has may (Err stop) finds (idle, is) =
+    by_fine has may (Err stop) finds (idle, nothing, is) =
         subst (λ (x : End). IsFine (FailsDisk peer p q) x) (sym is)
         (subst (λ (x : Stop). IsFine (FailsDisk peer p q) (Err (unread x)))
         (sym (no_masters stop finds)) tt)
@@ -290,17 +293,18 @@ status_answered fails end old new status is (inl puts) =
 -- ---- all of it
 
 pub by_one_book : {P D : Type 0} (peer : PeerTells P) (disk : DiskTells D) (act : OwnAct)
-    (mode : Mode) (keys body : Option (List ℕ)) (p q : P) (d e : D) (end : End)
+    (mode : Mode) (keys body : Option (List ℕ)) (untaken : Type 0) (p q : P) (d e : D) (end : End)
     (old new : Option (List ℕ)) (status : ℕ)
-    → OwnsBy peer disk act mode keys body p q d e end → PutsEnd end old new status
+    → OwnsBy peer disk act mode keys body untaken p q d e end → PutsEnd end old new status
     → IsByOneBook peer disk act mode keys body p q d e end status
-by_one_book peer disk act mode keys body p q d e end old new status (found, finds, owns) puts =
+by_one_book peer disk act mode keys body untaken p q d e end old new status (found, finds, owns)
+    puts =
     record {
       served = λ k b v book alone left serving serves key only.
-          by_served peer disk alone act mode body k b v serves d book p q serving e end keys key left
-          only found finds owns;
+          by_served peer disk alone act mode body k b v serves d book p q serving e end untaken keys
+          key left only found finds owns;
       answered = λ k b v book alone serving serves key has may.
           status_answered (FailsDisk peer p q) end old new status
-          (by_fine peer disk alone act mode body k b v serves d book p q serving e end keys key has
-          may found finds owns) puts;
+          (by_fine peer disk alone act mode body k b v serves d book p q serving e end untaken keys
+          key has may found finds owns) puts;
     }

@@ -27,7 +27,8 @@ use Rattle.ov_book.specs.declared.intent.Intent.{Intent}
 use Rattle.ov_owning.specs.Endings.{End, EndsGreeted, EndsSent, EndsTold, IsExpected, IsUnsent}
 use Rattle.ov_owning.specs.Endings.{Greeted, SettlesAt, TellsNext, made_by, unwritten}
 use Rattle.ov_owning.specs.Owning.{asks_hello, asks_nothing, asks_update, CarriesOut, Greets}
-use Rattle.ov_owning.specs.Owning.{HasIntent, LeavesSettledIf, Owns, Sends, SendsPending, Spelled}
+use Rattle.ov_owning.specs.Owning.{GreetsExpected, HasIntent, LeavesSettledIf, Owns, Sends}
+use Rattle.ov_owning.specs.Owning.{SendsPending, Spelled}
 use Rattle.ov_owning.specs.Owning.{update_request}
 use Rattle.ov_owning.specs.declared.stop.OwnStop.{OwnStop}
 use Rattle.ov_owning.specs.declared.stop.OwnStop.TheVariants as stops
@@ -259,6 +260,7 @@ module _ {P D : Type 0} (peer : PeerTells P) (disk : DiskTells D) where
         → OwnsTo p p s.disk (Err (stops.Pending kept))
     owns_nothing p kept holds ok some pending is = record {
       asks = asks_nothing;
+      unwritten = λ untold. refl;
       moments = unsettled_left ⊥ s.disk (nothing_left holds ok);
       written = λ sent. absurd sent;
       ends = (some, pending, ap (λ (n : ℕ). Err (stops.Pending n)) is);
@@ -268,13 +270,20 @@ module _ {P D : Type 0} (peer : PeerTells P) (disk : DiskTells D) where
     abbrev Greeting : Result Answer ExchangeFault → Type 0
     Greeting answer = Greeted (check_value_of k.base) mode answer (Ok (s.settled.epoch + 1))
 
+    -- an epoch that the book expects was told in answer to Hello
+    expected_told : (p q : P) (n : ℕ) (greets : Greets peer (check_value_of k.base) mode p q (Ok n))
+        → IsExpected s n → GreetsExpected s mode greets.0
+    expected_told p q n greets expected = (n, greets.2, expected)
+
     -- Hello alone was asked
     pub owns_greeted : (p q : P) (new : D) (g end : End)
-        → Greets peer (check_value_of k.base) mode p q g → EndsGreeted s intent g end
+        → (greets : Greets peer (check_value_of k.base) mode p q g) → EndsGreeted s intent g end
         → Told told (λ _. LeavesOnly disk s.disk new (KeepsEither k b next))
+        → ((GreetsExpected s mode greets.0 → ⊥) → new ≡ s.disk)
         → OwnsTo p q new end
-    owns_greeted p q new g end greets ends moments = record {
+    owns_greeted p q new g end greets ends moments quiet = record {
       asks = asks_hello q greets.0 greets.1;
+      unwritten = quiet;
       moments = unsettled_left (Greeting greets.0) new moments;
       written = λ sent. absurd sent;
       ends = (g, greets.2, ends);
@@ -294,9 +303,10 @@ module _ {P D : Type 0} (peer : PeerTells P) (disk : DiskTells D) where
     pub owns_settled : (p q : P) (new : D) (n : ℕ) (end : End)
         → Greets peer (check_value_of k.base) mode p q (Ok n) → EndsGreeted s intent (Ok n) end
         → Told told (λ _. LeavesOnly disk s.disk new (HasIntent (n ≡ s.settled.epoch + 1) k next))
-        → OwnsTo p q new end
-    owns_settled p q new n end greets ends moments = record {
+        → IsExpected s n → OwnsTo p q new end
+    owns_settled p q new n end greets ends moments expected = record {
       asks = asks_hello q greets.0 greets.1;
+      unwritten = λ untold. absurd (untold (expected_told p q n greets expected));
       moments = λ i at.
           weaker disk s.disk new (HasIntent (n ≡ s.settled.epoch + 1) k next)
           (Has (Greeting greets.0)) (moments i at) (greeted_next n greets.0 greets.2);
@@ -374,12 +384,14 @@ module _ {P D : Type 0} (peer : PeerTells P) (disk : DiskTells D) where
               subst (λ (r : P). OwnsTo p r new end) (sym same)
               (owns_greeted p p1 new (Ok kept) end greets
               (unsent_told s intent kept carries.came end (inl refl) unsent ends_by)
-              (unsent_moments unsent))
+              (unsent_moments unsent)
+              (λ untold. absurd (untold (expected_told p p1 kept greets (inl refl)))))
           by (inr (answer, sends, is)) = record {
             asks = asks_update p1 q greets.0 answer greets.1
                 (sends_before k next told (disk.reads s1.disk) p1 q answer stays
                 (subst (λ (m : Masters). SendsPending peer m next (disk.reads s1.disk) p1 q answer)
                 masters sends));
+            unwritten = λ untold. absurd (untold (expected_told p p1 kept greets (inl refl)));
             moments = sent_moments answer is;
             written = λ _. has_it answer is;
             ends = (

@@ -6,7 +6,7 @@ use Rattle.ov_base.specs.declared.mode.Mode.{Mode}
 use Rattle.ov_disk.specs.Disk.{Image, Told}
 use Rattle.ov_disk.specs.Moments.{LeavesOnly}
 use Rattle.ov_disk.specs.Tells.{DiskTells}
-use Rattle.ov_record.specs.Briefs.{brief}
+use Rattle.ov_record.specs.Briefs.{Brief as SpelledBrief, brief}
 use Rattle.ov_record.specs.Forms.{second_form}
 use Rattle.ov_record.specs.Spelling.{HasForm}
 use Rattle.ov_record.specs.Updates.{SealedUpdate as SpelledUpdate}
@@ -27,7 +27,7 @@ use Rattle.ov_peer.specs.declared.fault.ExchangeFault.{ExchangeFault}
 use Rattle.ov_owner.specs.Alone.{IsLeftAlone}
 use Rattle.ov_books.specs.Books.{Booked, history_of, settled_of}
 use Rattle.ov_books.specs.Books.{with_settling}
-use Rattle.ov_books.specs.Images.{Keeps}
+use Rattle.ov_books.specs.Images.{IsImageOf, Keeps}
 use Rattle.ov_book.specs.Opened.{Holds, Opened, Pending}
 use Rattle.ov_book.specs.declared.intent.Intent.{Intent}
 use Rattle.ov_owning.specs.Endings.{End, EndsGreeted, EndsTold, Greeted, TellsNext}
@@ -36,11 +36,12 @@ use Rattle.ov_owning.specs.Intents.{FindsIntent}
 use Rattle.ov_owning.specs.Owning.{Asks, Ends, HasIntent, LastsSettled, MaySend, Owns, SendsPending}
 use Rattle.ov_owning.specs.Owning.{TellsMade, asks_hello, asks_nothing, asks_update, update_request}
 use Rattle.ov_owning.specs.Running.{with_intended}
-use Rattle.ov_owning.specs.Serving.{GoesOnByIntent, IsCarriedOut, IsServedImage}
+use Rattle.ov_owning.specs.Serving.{GoesOnByIntent, IsCarriedOut, IsServedImage, IsServedMeanwhile}
 use Rattle.ov_owning.specs.Serving.{LeavesServed, ServesBook}
 use Rattle.ov_owning.specs.declared.job.OwnAct.{OwnAct}
 use Rattle.ov_owning.proofs.HelloAlone.{greeted_epoch, hello_left}
 use Rattle.ov_owning.proofs.Calls.{none_there}
+use Rattle.ov_owning.proofs.Meanwhile.{call_meanwhile}
 use Rattle.ov_owning.proofs.Served.{fits_there, one_history, served_with}
 use Rattle.ov_owning.proofs.UpdateAlone.{FitsAt, IsAccepted, UpdateLeaves, update_left}
 use Rattle.ov_owning.proofs.NextBook.{IsFree, accepted_at, accepted_by, brief_sent, epoch_kept, form_sent}
@@ -220,14 +221,18 @@ module _ {P D : Type 0} (peer : PeerTells P) (disk : DiskTells D) (alone : IsAlo
                   subst (λ (w : Service). ServesBook k next w) (sym same) there_before
             ]
 
+        -- it was told that the Update was accepted, and so it was
+        pub made_then : TellsNext s.settled.epoch (made_by s.settled.epoch answer)
+            → brief_of now.history ≡ history_of next
+        made_then is =
+            accepted_then (accepted_by s.settled.epoch (s.settled.epoch + 1) answer is)
+
         update_images : (new : D)
             → Told (disk.reads s.disk) (λ _. (i : Image) → disk.may_leave new i
             → HasIntent (TellsNext s.settled.epoch (made_by s.settled.epoch answer)) s.masters next i)
             → (i : Image) → disk.may_leave new i → IsServedImage k b.mode now i
         update_images new written i left =
-            image_served now (TellsNext s.settled.epoch (made_by s.settled.epoch answer))
-            (λ next_told.
-            accepted_then (accepted_by s.settled.epoch (s.settled.epoch + 1) answer next_told))
+            image_served now (TellsNext s.settled.epoch (made_by s.settled.epoch answer)) made_then
             there_then i (written image told i left)
 
         one_update : (act : OwnAct) (body : Option (List ℕ)) → FindsIntent act body (Ok intent)
@@ -250,7 +255,25 @@ module _ {P D : Type 0} (peer : PeerTells P) (disk : DiskTells D) (alone : IsAlo
   -- ---- however it ends
 
   module _ (act : OwnAct) (body : Option (List ℕ)) (finds : FindsIntent act body (Ok intent))
-      (left : IsLeftAlone peer) where
+      (left : IsLeftAlone peer) (d : D) (opened : LeavesOnly disk d s.disk (IsImageOf k b)) where
+    -- a call over a book with a pending intent has no other
+    resumed : IsSome b.pending → next ≡ b
+    resumed some =
+        elim free [
+          | inl none ↦ ap (λ (x : Option Intent). with_intended s x b) none
+          | inr none ↦ absurd (cc (subst (λ (x : Option SpelledBrief). IsSome x) none some))
+        ]
+
+    -- a crash at any moment, where this is served at the end
+    any_moment : (now : Service) (made : Type 0) → (made → brief_of now.history ≡ history_of next)
+        → ServesBook k next now → (new : D)
+        → Told (disk.reads s.disk) (λ _. LeavesOnly disk s.disk new (λ i. Keeps s.masters b i
+        ⊎ HasIntent made s.masters next i))
+        → LeavesOnly disk d new (IsServedMeanwhile k b.mode v now)
+    any_moment now made same there new moments =
+        call_meanwhile disk k b next v now serves (next_mode disk k s b masters holds intent)
+        there_before there resumed made same s d new masters opened (moments image told)
+
     carried_out : (now : Service) (new : D) → brief_of now.history ≡ history_of next
         → LastsSettled disk s next new
         → IsCarriedOut k b act body now (disk.may_leave new)
@@ -278,7 +301,7 @@ module _ {P D : Type 0} (peer : PeerTells P) (disk : DiskTells D) (alone : IsAlo
         → HasIntent (TellsMade peer s mode next (disk.reads s.disk) p q asks) s.masters next i))
         → Ends peer s mode intent next (disk.reads s.disk) p q asks end
         → (IsOk end → LastsSettled disk s next new)
-        → LeavesServed peer disk k b act body v q new end
+        → LeavesServed peer disk k b act body v q d new end
     by_asks p q new end serving asks_nothing moments written ends lasts =
         absurd (no_pending ends.0 ends.1)
     by_asks p q new end serving (asks_hello r answer hello) moments written ends lasts = record {
@@ -286,6 +309,9 @@ module _ {P D : Type 0} (peer : PeerTells P) (disk : DiskTells D) (alone : IsAlo
       serves = hello_left peer alone left p r answer v hello serving;
       one = inl refl;
       images = hello_images p r serving answer hello new moments;
+      moments = any_moment v
+          (Greeted (check_value_of s.masters.base) mode answer (Ok (s.settled.epoch + 1)))
+          (made_greeted p r serving answer hello) there_before new moments;
       done = λ ok.
           carried_out v new
           (done_greeted p r serving answer hello ends.0 end ok ends.1 ends.2) (lasts ok);
@@ -305,6 +331,9 @@ module _ {P D : Type 0} (peer : PeerTells P) (disk : DiskTells D) (alone : IsAlo
           serves = goes_on;
           one = one_update between r going at answer sends now cases act body finds;
           images = update_images between r going at answer sends now cases new (written tt);
+          moments = any_moment now (TellsNext s.settled.epoch (made_by s.settled.epoch answer))
+              (made_then between r going at answer sends now cases)
+              (there_then between r going at answer sends now cases) new moments;
           done = λ ok.
               carried_out now new
               (accepted_then between r going at answer sends now cases
@@ -314,6 +343,6 @@ module _ {P D : Type 0} (peer : PeerTells P) (disk : DiskTells D) (alone : IsAlo
     pub leaves_served : (p q : P) (new : D) (end : End) → peer.serves p v
         → Owns peer disk s mode intent b next p q new end
         → (IsOk end → LastsSettled disk s next new)
-        → LeavesServed peer disk k b act body v q new end
+        → LeavesServed peer disk k b act body v q d new end
     leaves_served p q new end serving owns lasts =
         by_asks p q new end serving owns.asks owns.moments owns.written owns.ends lasts

@@ -74,12 +74,12 @@ OwnsFound peer disk mode s p q e end (Ok intent) =
 OwnsFound peer disk mode s p q e end (Err stop) =
     IsIdle p q s.disk e × (end ≡ Err (unread stop))
 
--- By an open book. An act other than `resume` ends where an intent is pending; else the bytes that it
--- stores are read first.
+-- By an open book. An act other than `resume` ends where an intent is pending, and the bytes that it
+-- stores stay unread then; else they are read before anything is asked.
 abbrev pub OwnsOpen : {P D : Type 0} → PeerTells P → DiskTells D → OwnAct → Mode
-    → Option (List ℕ) → Opened D → P → P → D → End → Type 0
-OwnsOpen peer disk act mode body s p q e end =
-    ((IsResume act → ⊥) × IsSome s.pending × IsIdle p q s.disk e
+    → Option (List ℕ) → Type 0 → Opened D → P → P → D → End → Type 0
+OwnsOpen peer disk act mode body untaken s p q e end =
+    ((IsResume act → ⊥) × IsSome s.pending × IsIdle p q s.disk e × untaken
     × (end ≡ Err (stops.Pending s.settled.epoch)))
     ⊎ ((IsResume act ⊎ (s.pending ≡ None))
     × ((found : Result (Option Intent) Stop) × FindsIntent act body found
@@ -87,26 +87,29 @@ OwnsOpen peer disk act mode body s p q e end =
 
 -- ---- from the key file on
 
--- Under these masters: by the book on the disk, or there is none, and nothing is asked.
+-- Under these masters: by the book on the disk; or there is none, nothing is asked, and the bytes to
+-- be stored stay unread.
 abbrev pub OwnsUnder : {P D : Type 0} → PeerTells P → DiskTells D → Masters → OwnAct → Mode
-    → Option (List ℕ) → P → P → D → D → End → Type 0
-OwnsUnder peer disk k act mode body p q d e end =
-    ((fault : BookBegin) × OpensNone disk k mode d e fault × (q ≡ p)
+    → Option (List ℕ) → Type 0 → P → P → D → D → End → Type 0
+OwnsUnder peer disk k act mode body untaken p q d e end =
+    ((fault : BookBegin) × OpensNone disk k mode d e fault × (q ≡ p) × untaken
     × (end ≡ Err (unbegun fault)))
     ⊎ ((s : Opened _) × OpensBook disk k mode d s
-    × OwnsOpen peer disk act mode body s p q e end)
+    × OwnsOpen peer disk act mode body untaken s p q e end)
 
 -- by the masters that were found; or there are none, and nothing is done
 abbrev pub OwnsAfter : {P D : Type 0} → PeerTells P → DiskTells D → OwnAct → Mode
-    → Option (List ℕ) → P → P → D → D → End → Result ReadMasters Stop → Type 0
-OwnsAfter peer disk act mode body p q d e end (Ok masters) =
-    OwnsUnder peer disk (plain_masters masters) act mode body p q d e end
-OwnsAfter peer disk act mode body p q d e end (Err stop) =
-    IsIdle p q d e × (end ≡ Err (unread stop))
+    → Option (List ℕ) → Type 0 → P → P → D → D → End → Result ReadMasters Stop → Type 0
+OwnsAfter peer disk act mode body untaken p q d e end (Ok masters) =
+    OwnsUnder peer disk (plain_masters masters) act mode body untaken p q d e end
+OwnsAfter peer disk act mode body untaken p q d e end (Err stop) =
+    IsIdle p q d e × untaken × (end ≡ Err (unread stop))
 
--- all of a call
+-- All of a call. `untaken` is that nothing was taken of the file with the bytes to be stored: so it is
+-- where the call ends before its intent is known, since there are no keys, or there is no book, or an
+-- intent is pending.
 abbrev pub OwnsBy : {P D : Type 0} → PeerTells P → DiskTells D → OwnAct → Mode
-    → Option (List ℕ) → Option (List ℕ) → P → P → D → D → End → Type 0
-OwnsBy peer disk act mode keys body p q d e end =
+    → Option (List ℕ) → Option (List ℕ) → Type 0 → P → P → D → D → End → Type 0
+OwnsBy peer disk act mode keys body untaken p q d e end =
     (found : Result ReadMasters Stop) × FindsMasters keys found
-    × OwnsAfter peer disk act mode body p q d e end found
+    × OwnsAfter peer disk act mode body untaken p q d e end found

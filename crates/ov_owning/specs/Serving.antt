@@ -1,8 +1,9 @@
 -- A call by the owner's book over a server that serves what the book says, and that nobody else updates.
-use Rattle.std.specs.Prelude.{◌≡◌, ◌⊎◌, ℕ, ◌≤◌, List, [], ◌∷◌, length, Option, Some, None, IsOk, Ok}
+use Rattle.std.specs.Prelude.{◌≡◌, ◌⊎◌, ℕ, ◌≤◌, List, [], ◌∷◌, length, Option, Some, None, IsOk, IsSome, Ok}
 use Rattle.ov_base.specs.declared.limits.TheConstants.{MAX_FILE_BYTES}
 use Rattle.ov_base.specs.declared.mode.Mode.{Mode}
 use Rattle.ov_disk.specs.Disk.{Image, Only}
+use Rattle.ov_disk.specs.Moments.{LeavesOnly}
 use Rattle.ov_disk.specs.Tells.{DiskTells}
 use Rattle.ov_record.specs.Briefs.{brief}
 use Rattle.ov_record.specs.Spelling.{body_of}
@@ -98,16 +99,28 @@ abbrev pub IsServedImage : Masters → Mode → Service → Image → Type 0
 IsServedImage k mode now c =
     (x : Booked) × (x.mode ≡ mode) × IsImageOf k x c × ServesBook k x now
 
+-- An image stands for some book of this mode which was served before a call, or is served after it; and
+-- where an intent is pending in the book, it is both, whether its update was made by then or not.
+abbrev pub IsServedMeanwhile : Masters → Mode → Service → Service → Image → Type 0
+IsServedMeanwhile k mode before after c =
+    (x : Booked) × (x.mode ≡ mode) × IsImageOf k x c
+    × (ServesBook k x before ⊎ ServesBook k x after)
+    × (IsSome x.pending → ServesBook k x before × ServesBook k x after)
+
 -- However a call ends: it is served what was served, or that with the one update of the act's intent.
--- Each image that a crash may leave stands for a book that is served, so a later call may go on from
--- it. Where the call ended well, the intent is carried out.
+-- Each image that a crash after the call may leave stands for a book that is served, so a later call may
+-- go on from it. Each image that a crash at any moment of the call might have left stands for a book that
+-- was served before it or is served after it. Which of the two was served at that moment isn't said, since
+-- a server and a disk have no clock in common; only while an intent is pending it doesn't matter. Where
+-- the call ended well, the intent is carried out.
 pub record LeavesServed {P D : Type 0} (peer : PeerTells P) (disk : DiskTells D) (k : Masters)
-    (b : Booked) (act : OwnAct) (body : Option (List ℕ)) (v : Service) (q : P) (e : D) (end : End)
+    (b : Booked) (act : OwnAct) (body : Option (List ℕ)) (v : Service) (q : P) (d e : D) (end : End)
     : Type 0 where
   pub now : Service
   pub serves : peer.serves q now
   pub one : (now ≡ v) ⊎ GoesOnByIntent k b act body v now
   pub images : (c : Image) → disk.may_leave e c → IsServedImage k b.mode now c
+  pub moments : LeavesOnly disk d e (IsServedMeanwhile k b.mode v now)
   pub done : IsOk end → IsCarriedOut k b act body now (disk.may_leave e)
 
 -- ---- all of a call
@@ -127,7 +140,7 @@ pub record IsByOneBook {P D : Type 0} (peer : PeerTells P) (disk : DiskTells D) 
     : Type 0 where
   pub served : (k : Masters) (b : Booked) (v : Service) (book : HasBook disk k mode b d)
       → IsAlone peer → IsLeftAlone peer → peer.serves p v → ServesBook k b v → HasKeyFile keys k
-      → Only book.image (disk.may_leave d) → LeavesServed peer disk k b act body v q e end
+      → Only book.image (disk.may_leave d) → LeavesServed peer disk k b act body v q d e end
   pub answered : (k : Masters) (b : Booked) (v : Service) → HasBook disk k mode b d
       → IsAlone peer → peer.serves p v → ServesBook k b v → HasKeyFile keys k → HasBody act body
       → MayGoOn act b → IsOwnAnswered (FailsDisk peer p q) status
@@ -135,21 +148,28 @@ pub record IsByOneBook {P D : Type 0} (peer : PeerTells P) (disk : DiskTells D) 
 -- ---- laws
 
 -- A store that begins empty, at epoch 0, serves the book that begins empty, under the same masters and in
--- the same mode; and each image where none was begun stands for that book.
+-- the same mode; each image where none was begun stands for that book; and each act may go on by it.
 abbrev pub NewBooksAreServed : Type 0
 NewBooksAreServed =
     (k : Masters) (mode : Mode)
     → ServesBook k (blank_book mode) (service_under k (blank mode 0))
     × ((i : Image) → IsUnborn i.book → IsImageOf k (blank_book mode) i)
+    × ((act : OwnAct) → MayGoOn act (blank_book mode))
 
--- A later call may go on from what a call left: each disk that tells an image which a crash may have left
--- has a book that is served.
+-- A later call may go on from what a call left. Each disk that tells an image which a crash after the call
+-- may have left has a book that is served. One that tells an image which a crash at some moment of the call
+-- may have left has a book that was served before it or is served after it; and is both where an intent is
+-- pending.
 abbrev pub ServedBooksGoOn : {P D : Type 0} → PeerTells P → DiskTells D → Type 0
 ServedBooksGoOn {P} {D} peer disk =
-    (k : Masters) (b : Booked) (act : OwnAct) (body : Option (List ℕ)) (v : Service) (q : P) (e : D)
-    (end : End) (left : LeavesServed peer disk k b act body v q e end) (d : D) (c : Image)
-    → disk.may_leave e c → disk.reads d ≡ Some c
-    → (x : Booked) × HasBook disk k b.mode x d × ServesBook k x left.now
+    (k : Masters) (b : Booked) (act : OwnAct) (body : Option (List ℕ)) (v : Service) (q : P) (d e : D)
+    (end : End) (left : LeavesServed peer disk k b act body v q d e end) (r : D) (c : Image)
+    → disk.reads r ≡ Some c
+    → (disk.may_leave e c → (x : Booked) × HasBook disk k b.mode x r × ServesBook k x left.now)
+    × (disk.left_since e (disk.moment d) c
+    → (x : Booked) × HasBook disk k b.mode x r
+    × (ServesBook k x v ⊎ ServesBook k x left.now)
+    × (IsSome x.pending → ServesBook k x v × ServesBook k x left.now))
 
 -- a key file of the masters, and a file that isn't too long, are all that a call reads
 abbrev pub OwnersFilesAreEnough : Type 0

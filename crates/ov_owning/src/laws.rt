@@ -4,12 +4,15 @@ ghost use Rattle.ov_owning.specs.Serving.{NewBooksAreServed, OwnersFilesAreEnoug
 use ov_disk::Disk;
 use ov_peer::Peer;
 
-/// The law of beginnings: a store that begins empty, at epoch 0, serves the book that begins empty.
+/// The law of beginnings: a store that begins empty, at epoch 0, serves the book that begins empty, by
+/// which each act may go on.
 pub fn new_books_are_served()
     ensures { NewBooksAreServed }
 {}
 
-/// The law of later calls: what a call leaves, a crash among it, is once more a book that is served.
+/// The law of later calls: what a crash leaves after a call is once more a book that is served. What a
+/// crash leaves at a moment of the call is one that was served before it or is served after it, and both
+/// while an intent is pending.
 pub fn served_books_go_on<P: Peer, D: Disk>()
     ensures { ServedBooksGoOn P.tells D.tells }
 {}

@@ -28,8 +28,13 @@
 //! | `Serving` | a server that serves what the book says, and a call over it |
 //!
 //! `Owns` is the heart of it: it has in one record what was asked and what a crash may leave, so that both
-//! are of one book. From an Update's sending on, each image that a crash may leave has its intent, and none
-//! has it settled before the server told that it was made.
+//! are of one book. The book's disk is as it was unless Hello was answered by an epoch that the book
+//! expects. If the disk tells its bytes, a crash at any moment of the call leaves the book from before or
+//! one with the intent, and that settled only where the server told that its update was made; and at the
+//! end of a call that may have sent an Update each image that a crash may leave has its intent. A peer and
+//! a disk have no clock in common, so that the intent is written before the Update is sent is said of the
+//! end alone. It follows for a disk that may fail in any call: a call that sent first would end without
+//! the intent where the disk fails then.
 //!
 //! `IsByOneBook` says what comes of that over a server that answers rightly, and whose updates come from
 //! this book alone: after each call the server has the book's intents, each once, and no call ends but

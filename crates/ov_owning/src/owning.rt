@@ -43,8 +43,8 @@ fn act_by<B: Source, P: Peer, D: Disk>(
 ) -> Result<u32, OwnStop>
     requires masters { plain_masters masters.now ≡ book.old.masters }
     requires failed { book.old.failed ≡ false }
-    ensures owns { OwnsOpen P.tells D.tells act mode (B.tells.left body.old) book.old
-        peer.old peer.new book.new.disk result }
+    ensures owns { OwnsOpen P.tells D.tells act mode (B.tells.left body.old)
+        (body.new ≡ body.old) book.old peer.old peer.new book.new.disk result }
     ensures cause { OwnStopsFor ⊥ (Rose (B.tells.faults body.old) (B.tells.faults body.new))
         (Rose (P.tells.faults peer.old) (P.tells.faults peer.new))
         (Rose (D.tells.faults book.old.disk) (D.tells.faults book.new.disk)) result }
@@ -72,7 +72,7 @@ fn act_over<B: Source, P: Peer, D: Disk + Drop>(
     disk: D,
 ) -> (Result<u32, OwnStop>, D)
     ensures owns { OwnsUnder P.tells D.tells (plain_masters masters.now) act mode
-        (B.tells.left body.old) peer.old peer.new disk result.1 result.0 }
+        (B.tells.left body.old) (body.new ≡ body.old) peer.old peer.new disk result.1 result.0 }
     ensures cause { OwnStopsFor ⊥ (Rose (B.tells.faults body.old) (B.tells.faults body.new))
         (Rose (P.tells.faults peer.old) (P.tells.faults peer.new))
         (Rose (D.tells.faults disk) (D.tells.faults result.1)) result.0 }
@@ -104,7 +104,7 @@ fn perform<K: Source, B: Source, P: Peer, D: Disk + Drop>(
     disk: D,
 ) -> (Result<u32, OwnStop>, D)
     ensures owns { OwnsBy P.tells D.tells act mode (K.tells.left keys.old)
-        (B.tells.left body.old) peer.old peer.new disk result.1 result.0 }
+        (B.tells.left body.old) (body.new ≡ body.old) peer.old peer.new disk result.1 result.0 }
     ensures cause { OwnStopsFor (IfSome (K.tells.left keys.old) (λ file. HasMasters file → ⊥))
         (Rose (K.tells.faults keys.old) (K.tells.faults keys.new)
         ⊎ Rose (B.tells.faults body.old) (B.tells.faults body.new))
@@ -138,14 +138,16 @@ pub struct Owned<D> {
 /// the book's epoch, and the intent settled. Nothing of a reply goes into an update.
 ///
 /// * `owns`: what is asked of the server, what a crash may leave of the book, and how the call ends,
-///   as said above;
+///   as said above. Where the masters or the book aren't there, or an intent is pending, nothing is
+///   taken of `body`; and where its bytes aren't read, nothing is asked;
 /// * `puts`: the end's line, and the status;
 /// * `causes`: the key file is said to be none only where it isn't one, and the other causes come only
 ///   where a count of faults rose: that of a file that is read, of the peer, of the disk;
 /// * `write`: 6 comes only where the count of standard output rose;
 /// * `keys`, `takes`: what is taken of the two files;
 /// * `one_book`: over a server that nobody else updates, and that serves this book, it serves it
-///   afterwards too, with the intent where the call ended well; and the call is answered.
+///   afterwards too, with the intent where the call ended well, and a crash meanwhile leaves a book that
+///   was served before or is afterwards; and the call is answered.
 pub fn own<K: Source, B: Source, O: Sink, P: Peer, D: Disk + Drop>(
     alloc: Global,
     job: OwnJob,
@@ -156,7 +158,8 @@ pub fn own<K: Source, B: Source, O: Sink, P: Peer, D: Disk + Drop>(
     disk: D,
 ) -> Owned<D>
     ensures owns { OwnsBy P.tells D.tells job.act job.mode (K.tells.left keys.old)
-        (B.tells.left body.old) peer.old peer.new disk result.disk result.end }
+        (B.tells.left body.old) (body.new ≡ body.old) peer.old peer.new disk result.disk
+        result.end }
     ensures puts { PutsEnd result.end (O.tells.written out.old) (O.tells.written out.new)
         result.code }
     ensures causes { OwnStopsFor (IfSome (K.tells.left keys.old) (λ file. HasMasters file → ⊥))

@@ -1,2 +1,3 @@
+pub mod FirstCalls
 pub mod NewStores
 pub mod OnlyUsers

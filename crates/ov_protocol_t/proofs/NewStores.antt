@@ -12,13 +12,13 @@ use Rattle.ov_store.specs.Beginning.{IsBegun}
 use Rattle.ov_store.specs.Opened.{Opened, Serves}
 use Rattle.ov_tokens.specs.Keys.{check_value_of}
 use Rattle.ov_acts.specs.Completeness.{IsAnswered}
-use Rattle.ov_protocol_t.specs.Premises.{IsStoreAt, StoresAreServed, masters, no_updates}
+use Rattle.ov_protocol_t.specs.Premises.{IsNewStoreAt, StoresAreServed, masters, no_updates}
 
 begun_new : (peer : PeerTells (Opened Tape)) (base surface check : List ℕ) (mode : Mode)
     (s : Opened Tape)
     → StoresAreServed tape_tells peer → check ≡ check_value_of base
     → IsBegun tape_tells (keys check surface) mode (Some (image [] [])) s
-    → IsStoreAt peer (masters base surface) (no_updates mode) s
+    → IsNewStoreAt peer (masters base surface) mode s
 begun_new peer base surface check mode s are_served same begun =
     let i : Image = image [] [] in
     let g : SealedHistory = blank mode 0 in
@@ -29,7 +29,9 @@ begun_new peer base surface check mode s are_served same begun =
     let (kept, reads) = begun.told i refl in
     let told : IsSome (tape_tells.reads s.disk) =
     subst (λ (o : Option Image). IsSome o) (sym reads) refl in
-    are_served (masters base surface) (no_updates mode) g s own told stands tt refl
+    let (serves, store) =
+    are_served (masters base surface) (no_updates mode) g s own told stands tt refl in
+    record { serves = serves; store = store }
 
 -- the same of the store of a peer over a disk that was empty
 pub new_store : (peer : PeerTells (Opened Tape)) (base surface check : List ℕ) (mode : Mode)
@@ -37,12 +39,12 @@ pub new_store : (peer : PeerTells (Opened Tape)) (base surface check : List ℕ)
     → StoresAreServed tape_tells peer → check ≡ check_value_of base
     → disk ≡ fresh (image [] [])
     → IsBegun tape_tells (keys check surface) mode (tape_tells.reads disk) s → p ≡ s
-    → IsStoreAt peer (masters base surface) (no_updates mode) p
+    → IsNewStoreAt peer (masters base surface) mode p
 new_store peer base surface check mode disk s p are_served same new begun is =
     let on_empty : IsBegun tape_tells (keys check surface) mode (Some (image [] [])) s =
     subst (λ (d : Tape). IsBegun tape_tells (keys check surface) mode (tape_tells.reads d) s) new
     begun in
-    subst (λ (q : Opened Tape). IsStoreAt peer (masters base surface) (no_updates mode) q) (sym is)
+    subst (λ (q : Opened Tape). IsNewStoreAt peer (masters base surface) mode q) (sym is)
     (begun_new peer base surface check mode s are_served same on_empty)
 
 -- what is answered where some disk may have failed is answered where any may have

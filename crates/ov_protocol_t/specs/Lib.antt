@@ -1,3 +1,4 @@
+pub mod Books
 pub mod Premises
 pub mod Replies
 pub mod Transcripts

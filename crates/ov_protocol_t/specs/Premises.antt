@@ -5,13 +5,14 @@ use Rattle.ov_disk.specs.Tells.{DiskTells}
 use Rattle.ov_history.specs.Masters.{Masters}
 use Rattle.ov_history.specs.Plain.{PlainHistory, PlainEnrol, history_of}
 use Rattle.ov_history.specs.Refusals.{IsLegal}
-use Rattle.ov_history.specs.Sealed.{SealedHistory}
+use Rattle.ov_history.specs.Sealed.{SealedHistory, blank}
 use Rattle.ov_history.specs.Sealing.{IsSealedAs}
 use Rattle.ov_images.specs.Images.{keys_of}
 use Rattle.ov_peer.specs.Tells.{PeerTells}
 use Rattle.ov_protocol.specs.Serving.{Service}
 use Rattle.ov_store.specs.Opened.{Opened, Serves}
 use Rattle.ov_acts.specs.Completeness.{IsStoreOf}
+use Rattle.ov_acts.specs.Laws.{service_under}
 
 -- ---- servers in this process
 
@@ -23,13 +24,13 @@ pub record IsStoreAt {P : Type 0} (peer : PeerTells P) (k : Masters) (h : PlainH
   pub store : IsStoreOf k h service
 
 -- A store that was opened with the keys of these masters and stands for a legal history, as these
--- seal it, is served as just that one where its disk tells its bytes.
+-- seal it, is served as just that one where its disk tells its bytes, and is one of these masters.
 abbrev pub StoresAreServed : {D : Type 0} → DiskTells D → PeerTells (Opened D) → Type 0
 StoresAreServed {D} tells peer =
     (k : Masters) (h : PlainHistory) (g : SealedHistory) (s : Opened D)
     → s.keys ≡ keys_of k → IsSome (tells.reads s.disk) → Serves tells g s
     → IsLegal (history_of h) → IsSealedAs k h g
-    → IsStoreAt peer k h s
+    → peer.serves s (service_under k g) × IsStoreAt peer k h s
 
 -- ---- small histories
 
@@ -40,6 +41,12 @@ masters base surface = record { base = base; surface = surface }
 -- the history without updates, from epoch 0 on
 abbrev pub no_updates : Mode → PlainHistory
 no_updates mode = record { mode = mode; first = 0; updates = [] }
+
+-- the peer serves just the history without updates, which is one of these masters
+pub record IsNewStoreAt {P : Type 0} (peer : PeerTells P) (k : Masters) (mode : Mode) (p : P)
+    : Type 0 where
+  pub serves : peer.serves p (service_under k (blank mode 0))
+  pub store : IsStoreAt peer k (no_updates mode) p
 
 -- the history in which one user was enrolled, whose name is `a`
 abbrev pub one_user : Mode → PlainHistory

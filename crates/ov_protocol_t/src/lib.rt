@@ -2,19 +2,21 @@
 //! `ov_owner`: what is sent for a command, what a server answers and by what, at small values, and
 //! what one step of a definition says. `premises` has those of completeness: that a small store has
 //! all the premises under which calls are answered, so that none of them can be narrowed until the
-//! clauses behind it say nothing.
+//! clauses behind it say nothing; `books` has those of an owner's book.
 //!
 //! No wrong code shows what a definition is for where there is none, or where code reads it too.
-//! Each function here but those on a new store and a reader's line has an empty body, and its
+//! Each function here but those on a new store, a first call and a reader's line has an empty body, and its
 //! contract is a row. Where the definition is turned the row isn't proved any more. The statements
 //! are in `specs/`, and each says what the turned definition would give.
 #![tactic(auto)]
 
+mod books;
 mod premises;
 mod replies;
 mod transcripts;
 mod tries;
 
+pub use books::{a_first_call_by_a_book_needs_its_files, a_pending_enrolment_is_served_twice};
 pub use premises::{
     a_new_store_is_one_of_its_masters, a_server_in_this_process_is_alone,
     an_act_over_a_new_store_is_answered, the_line_of_the_only_user_is_right,

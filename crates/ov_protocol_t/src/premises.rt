@@ -5,7 +5,7 @@ ghost use Rattle.ov_acts.specs.Completeness.{HasFilesFor, HasReadersLine, IsAnsw
 ghost use Rattle.ov_acts.specs.Files.{HasListLimits};
 ghost use Rattle.ov_owner.specs.Alone.{IsLeftAlone};
 ghost use Rattle.ov_peer.specs.Alone.{IsAlone};
-ghost use Rattle.ov_protocol_t.specs.Premises.{IsStoreAt, StoresAreServed, masters, no_updates};
+ghost use Rattle.ov_protocol_t.specs.Premises.{IsNewStoreAt, StoresAreServed, masters, no_updates};
 ghost use Rattle.ov_protocol_t.specs.Premises.{one_user};
 
 use ov_acts::{Job, act};
@@ -27,15 +27,15 @@ pub fn a_server_in_this_process_is_alone<D: Disk>()
     ensures serves { StoresAreServed D.tells ⟦<LocalPeer<D> as Peer>⟧.tells }
 {}
 
-/// A new store on a disk in memory serves the history without updates, as its masters seal it.
+/// A new store on a disk in memory serves just the history without updates, as its masters seal it.
 pub fn a_new_store_is_one_of_its_masters(
     alloc: Global,
     base: &Key,
     surface: Key,
     mode: Mode,
 ) -> Option<LocalPeer<MemDisk>>
-    ensures { IfSome result (IsStoreAt ⟦<LocalPeer<MemDisk> as Peer>⟧.tells
-        (masters base.now.bytes surface.bytes) (no_updates mode)) }
+    ensures { IfSome result (IsNewStoreAt ⟦<LocalPeer<MemDisk> as Peer>⟧.tells
+        (masters base.now.bytes surface.bytes) mode) }
 {
     a_server_in_this_process_is_alone::<MemDisk>();
     let disk = MemDisk::new(alloc);

@@ -1,4 +1,4 @@
-use Rattle.std.proofs.Common.{inr, sym, subst}
+use Rattle.std.proofs.Common.{◌≡◌, inr, sym, subst}
 use Rattle.ov_owning.specs.Running.{OwnsOpen}
 use Rattle.ov_owning.proofs.owning.act_over.Goals as goal
 
@@ -13,6 +13,7 @@ returns-in-Ok-clause-owns g c =
         quiet = c.in-Ok.ensures.untouched;
       },
       subst (λ (e : g.row.D.Denot). OwnsOpen g.P.Peer.tells g.D.Disk.tells c.args.act c.args.mode
-          (g.B.Source.tells.left c.args.body.now) c.in-Ok.book c.args.peer.now c.act_by-done.new.peer e
+          (g.B.Source.tells.left c.args.body.now) (c.act_by-done.new.body ≡ c.args.body.now)
+          c.in-Ok.book c.args.peer.now c.act_by-done.new.peer e
           c.act_by-done.result) (sym c.close.ensures) c.act_by-done.ensures.owns,
     )

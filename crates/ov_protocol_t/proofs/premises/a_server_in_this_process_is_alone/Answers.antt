@@ -38,8 +38,12 @@ served_so tells k g s same told stands =
     )
 
 pub returns-clause-serves : goal.returns-clause-serves
-returns-clause-serves g c = λ k h sealed s same told stands legal is. record {
-  service = service_under k sealed;
-  serves = served_so g.D.Disk.tells k sealed s same told stands;
-  store = record { surface = refl; check = refl; legal = legal; history = is };
-}
+returns-clause-serves g c = λ k h sealed s same told stands legal is.
+    let serves = served_so g.D.Disk.tells k sealed s same told stands in (
+      serves,
+      record {
+        service = service_under k sealed;
+        serves = serves;
+        store = record { surface = refl; check = refl; legal = legal; history = is };
+      },
+    )

@@ -4,7 +4,7 @@ use Rattle.ov_protocol_t.proofs.premises.an_act_over_a_new_store_is_answered.Goa
 
 pub returns : goal.returns
 returns g c = λ files.
-    let store = c.in_ok-peer.ensures in
+    let store = c.in_ok-peer.ensures.store in
     answered c.act.result
     (c.act.ensures.complete.over_server (masters c.args.base.now.bytes c.args.surface.bytes)
     (no_updates c.args.mode) store.service c.a_server_in_this_process_is_alone.ensures.asked
