@@ -150,12 +150,15 @@ class Server:
 # ---- runs
 
 
-def run(folder, words, **streams):
-    """The status of the program over these words, what it puts, and its lines on standard error."""
+def run(folder, words, script=None, **streams):
+    """The status of the program over these words, and this script on its input, what it puts, and its lines on standard
+    error."""
     streams.setdefault("stdout", subprocess.PIPE)
-    done = subprocess.run(
-        [PROGRAM, *words], cwd=folder, stdin=subprocess.DEVNULL, stderr=subprocess.PIPE, timeout=SECONDS, **streams
-    )
+    if script is None:
+        streams.setdefault("stdin", subprocess.DEVNULL)
+    else:
+        streams["input"] = script
+    done = subprocess.run([PROGRAM, *words], cwd=folder, stderr=subprocess.PIPE, timeout=SECONDS, **streams)
     return done.returncode, done.stdout, done.stderr.decode().splitlines()
 
 
@@ -408,14 +411,18 @@ def key_lines_of_others():
     case(READ, ["CHAINED", "OTHER_BYTES"], 12, b"", damaged, again, asked=2)
 
 
-def others_are_faster():
-    replies = ["WELCOME"]
+def nine_stale():
+    """The numbers of a new user, and that an update is stale, at nine epochs."""
     for epoch in range(1, 10):
         known = bytearray(REPLIES["KNOWN"])
         known[1:5] = struct.pack(">I", epoch)
-        replies += [bytes(known), b"\x89" + struct.pack(">I", epoch + 1)]
+        yield bytes(known)
+        yield b"\x89" + struct.pack(">I", epoch + 1)
+
+
+def others_are_faster():
     error = "others changed the store at @ in nine tries"
-    case(ENROL, replies, 13, b"", error, "try again", asked=19)
+    case(ENROL, ["WELCOME", *nine_stale()], 13, b"", error, "try again", asked=19)
 
 
 # Replies of a store's catalogue: pages of users and of files, and that there are no more.
@@ -515,6 +522,11 @@ def all_of(folder):
         about = path.lstat()
         found[path.name] = (path.read_bytes() if path.is_file() else None, about.st_mode, about.st_mtime_ns)
     return found
+
+
+def locked(file):
+    """Locks an open file, as programs do whose locks stay until that file is closed."""
+    fcntl.fcntl(file, fcntl.F_OFD_SETLK, struct.pack("hhqqi4x", fcntl.F_WRLCK, os.SEEK_SET, 0, 0, 0))
 
 
 def asked(folder, words, status, out, error=None, hint=None, **streams):
@@ -617,7 +629,7 @@ def books_that_do_not_answer():
     asked(folder, "keys late full users", 17, b"error disk\n", error, hint)
     # A command by the book has its files locked.
     with open(folder / "team.book", "r+b") as held:
-        fcntl.lockf(held, fcntl.LOCK_EX)
+        locked(held)
         asked(folder, "keys team full users", 17, b"error disk\n", "team.book or team.blobs cannot be read", hint)
     with open("/dev/full", "wb") as full:
         writable = "see that it is open, and that there is room"
@@ -857,10 +869,116 @@ def books_that_are_in_use():
     """The file of the book that another process has is named."""
     folder = client_folder()
     with open(folder / "team.book", "wb") as book:
-        fcntl.lockf(book, fcntl.LOCK_EX)
+        locked(book)
         status, out, lines = run(folder, "own here:1 keys team delta enrol a".split())
     assert (status, out) == (17, b"error disk\n"), (status, out, lines)
     assert lines[0] == "overctl: error: team.book is in use by another process", lines
+
+
+# ---- scripts
+
+SCRIPT = "script @ keys"
+SCRIPT_IN_DOUBT = (
+    "what was replied to lasts, and the command behind it may be done: look with `overctl files` before you run the "
+    "rest; a creation or a replacement goes again, with the same bytes, before any other file for its list"
+)
+BAD_ITEM = (
+    "overstore-script(5) has the forms of lines; what was answered before lasts; "
+    "correct it, and run from there on as a script of its own"
+)
+
+
+def scripts():
+    """Each item is asked for and answered in its turn, over one session, and the epoch at the end."""
+    case(SCRIPT, ["WELCOME", "WELCOME"], 0, b"end epoch 7\n", asked=2, script=b"")
+    updated = ["KNOWN", "ACCEPTED"]
+    for item, replies, line in [
+        (b"enrol a\n", updated, b"ok 8\n"),
+        (b"grant a f1\n", updated, b"ok 8\n"),
+        (b"revoke a f1\n", updated, b"ok 8\n"),
+        (b"remove f1\n", updated, b"ok 8\n"),
+        (b"create f1 a,b 2\nx1\n", ["PLAN", "ACCEPTED"], b"ok 8\n"),
+        (b"replace f1 2\nx1\n", ["PLAN", "ACCEPTED"], b"ok 8\n"),
+        (b"list f1\n", ["LISTED"], b"list f1 a,b\n"),
+        (b"list f1\n", ["LISTED_NONE"], b"list f1 -\n"),
+        (b"epoch\n", [welcome(9)], b"epoch 9\n"),
+        (b"read c f1\n", ["KNOWN_C", "CHAINED", "BYTES"], b"data c f1 2\nx1\n"),
+        (b"enrol a\n", ["REFUSED"], b"refused 1 Taken\n"),
+        (b"list f1\n", ["NO_FILE"], b"refused 3 NoFile\n"),
+        (b"read c f1\n", [b"\x88\x02"], b"refused 2 NoUser\n"),
+        (b"read c f1\n", ["KNOWN_C", b"\x88\x04"], b"refused 4 NoPath\n"),
+    ]:
+        for count in (1, 3):
+            asked = 2 + count * len(replies)
+            all_replies = ["WELCOME", *replies * count, welcome(8)]
+            case(SCRIPT, all_replies, 0, line * count + b"end epoch 8\n", asked=asked, script=item * count)
+
+
+def scripts_that_end_early():
+    """At a bad item and at a fault: what was replied to before stands there, and nothing more is asked."""
+    bad = lambda line: "line %d of the script is no item" % line
+    for script, line in {
+        b"list f1\nGrant a\n": 2,
+        b"list f1\ngrant a,": 2,
+        b"list f1\ncreate f1 a 2\nx1": 2,
+        b"list f1\n\nlist f1\n": 2,
+        b"list f1\nread c f1": 2,
+    }.items():
+        out = b"list f1 a,b\nerror line %d\n" % line
+        case(SCRIPT, ["WELCOME", "LISTED"], 20, out, bad(line), BAD_ITEM, asked=2, script=script)
+    case(SCRIPT, ["WELCOME"], 20, b"error line 1\n", bad(1), BAD_ITEM, asked=1, script=b"x")
+    two, first = b"list f1\nenrol a\n", b"list f1 a,b\n"
+    again = "have the server started again; "
+    started = ["WELCOME", "LISTED", "KNOWN"]
+    case(SCRIPT, [*started, "DEVICE_FAULT"], 4, first, "the disk of the store at @ failed", again + SCRIPT_IN_DOUBT, script=two)
+    case(SCRIPT, [*started, "NO_MEMORY"], 7, first, "out of memory, here or at @", SCRIPT_IN_DOUBT, script=two)
+    case(SCRIPT, started, 8, first, CUT_OFF, OTHER_PROGRAM + SCRIPT_IN_DOUBT, asked=4, script=two)
+    case(SCRIPT, ["WELCOME", "LISTED"], 8, first, CUT_OFF, OTHER_PROGRAM + SCRIPT_IN_DOUBT, asked=3, script=b"list f1\n")
+    settings = "take the key file of its settings: `base_check` is its `overctl check`, `surface` its second line"
+    others = "the store at @ has other masters than keys"
+    case(SCRIPT, [*started, "BAD_TAG"], 9, first, others, settings, script=two)
+    case(SCRIPT, ["WELCOME_OTHER"], 9, b"", others, settings, asked=1, script=two)
+    no_answer = "see that overstored listens there, with the `--version` of overctl; if it does, "
+    wrong = "what @ replied is no answer to the request"
+    case(SCRIPT, ["WELCOME", "LISTED", "LISTED"], 11, first, wrong, no_answer + SCRIPT_IN_DOUBT, asked=3, script=two)
+    case(
+        SCRIPT, ["WELCOME", "KNOWN_C", "CHAINED", "OTHER_BYTES"], 12, b"",
+        "the bytes of a file at @ are damaged, or keys is of another store",
+        "read it again; if it stays so, try a copy of the store with `overstore run MODE < /dev/null`",
+        script=b"read c f1\n",
+    )
+    case(
+        SCRIPT, ["WELCOME", "LISTED", *nine_stale()], 13, first, "others changed the store at @ in nine tries",
+        "what was replied to lasts: run the script from the command behind it on", script=two,
+    )
+    see = "see that it is a file that you may read"
+    case("script @ nokeys", [], 5, b"", "cannot read nokeys: no such file", see, asked=0, script=two)
+    digits = "it has two different lines of 64 hexadecimal digits"
+    case("script @ body", [], 10, b"", "body is no key file", digits, asked=0, script=two)
+    with open("/dev/full", "wb") as full:
+        look = (
+            "the command whose line is missing may be done: look with `overctl epoch` and `overctl files` before you run "
+            "the rest"
+        )
+        case(SCRIPT, ["WELCOME", "LISTED"], 6, None, NO_OUTPUT, look, asked=2, script=two, stdout=full)
+    folder = os.open(client_folder(), os.O_RDONLY)
+    case(SCRIPT, ["WELCOME"], 5, b"", "cannot read standard input", see, asked=1, stdin=folder)
+    os.close(folder)
+
+
+def replies_before_more_is_read():
+    """A reply comes while the script is still open."""
+    server = Server([REPLIES["WELCOME"], REPLIES["LISTED"], REPLIES["LISTED_NONE"], REPLIES["WELCOME"]])
+    words = [PROGRAM, "script", server.address, "keys"]
+    with subprocess.Popen(words, cwd=client_folder(), stdin=subprocess.PIPE, stdout=subprocess.PIPE) as client:
+        for line in (b"list f1 a,b\n", b"list f1 -\n"):
+            client.stdin.write(b"list f1\n")
+            client.stdin.flush()
+            assert client.stdout.readline() == line
+        client.stdin.close()
+        assert client.stdout.read() == b"end epoch 7\n"
+    assert client.returncode == 0
+    server.end()
 
 
 # ---- a terminal
@@ -937,6 +1055,7 @@ def words_that_are_no_line():
         "check": "KEYS",
         "epoch": "ADDRESS",
         "users": "ADDRESS",
+        "script": "ADDRESS KEYS",
     }
     name = "1 to 64 of a-z, 0-9, `.`, `_`, `-`, a letter or digit first"
     cases = [
@@ -982,14 +1101,15 @@ def options_of(words):
 
 def help_and_version():
     folder = client_folder()
-    commands = "enrol create grant revoke remove replace list key read check epoch users files own book".split()
+    commands = "enrol create grant revoke remove replace list key read check epoch users files own book script".split()
     statuses = [0, *range(2, 15)]
     for words in ([], *[[command] for command in commands]):
         for flag in ("--help", "-h"):
             status, out, told = run(folder, [*words, flag])
             lines = out.decode().splitlines()
             assert (status, told) == (0, []), (words, status, told)
-            assert len(lines) <= (24 if words else 30) and max(map(len, lines)) <= 80, out.decode()
+            # that of all commands has a line for each
+            assert len(lines) <= (24 if words else 16 + len(commands)) and max(map(len, lines)) <= 80, out.decode()
             has = [option for option in ("--output", "--timeout", "--yes") if option in out.decode()]
             assert has == options_of(words), (words, has)
             assert any(line.startswith("Example: overctl ") for line in lines), out.decode()
@@ -998,7 +1118,9 @@ def help_and_version():
             owns = [0, *range(2, 12), *range(14, 20)]
             # a question to it asks no server
             asks = [0, 2, 3, 5, 6, 7, 9, 10, 17, 18]
-            wanted = {"own": owns, "book": asks}.get("".join(words), statuses)
+            # a script is refused nothing as a whole, and has one for its bad items
+            scripted = [0, 2, *range(4, 15), 20]
+            wanted = {"own": owns, "book": asks, "script": scripted}.get("".join(words), statuses)
             assert sorted(map(int, re.findall(r"(?:^| )(\d+) (?=[a-z])", table))) == wanted, table
     status, out, told = run(folder, ["--version"])
     assert (status, out.decode(), told) == (0, "overctl %s\n" % VERSION, []), out
@@ -1079,6 +1201,9 @@ CASES = [
     connections_that_are_not_taken,
     names_that_are_not_enrolled,
     books_that_are_in_use,
+    scripts,
+    scripts_that_end_early,
+    replies_before_more_is_read,
     questions_on_a_terminal,
     words_that_are_no_line,
     help_and_version,

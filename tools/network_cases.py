@@ -1,7 +1,7 @@
 """Runs the server over real sockets: sessions that are right and others that break in every way, every exit
 status with its line on standard error, what it says of files, folders, addresses and modes that can't be meant,
 and a kill between two sessions. With the client program besides it has that enrol a user, create a file and
-read it, near and at a round trip of 50 ms, wait, and ask after the server's health. With `--slow` it also waits for five minutes, until a client that says nothing is cut off.
+read it, near and at a round trip of 50 ms, answer the scripts of examples/, wait, and ask after the server's health. With `--slow` it also waits for five minutes, until a client that says nothing is cut off.
 
 Run, after `rt run` has built the programs, at the top of the repository:
 
@@ -716,6 +716,59 @@ def a_server_far_away():
     assert server.end(6) == []
 
 
+def scripts_over_the_network():
+    """Each example script, in both modes: the client's replies are those that another program made. Then one at a round
+    trip of 50 ms, of which each update takes two, and one in which a server ends."""
+    for mode in ("full", "delta"):
+        for script in sorted((ROOT / "examples").glob("*.script")):
+            folder = new_folder()
+            shutil.copy(KEYS, folder / "keys.hex")
+            (folder / "keys.hex").chmod(0o600)
+            server = Server(folder, 1, mode=mode)
+            words = [CLIENT, "script", server.address, "keys.hex"]
+            done = subprocess.run(words, cwd=folder, input=script.read_bytes(), capture_output=True, timeout=SECONDS)
+            assert (done.returncode, done.stderr) == (0, b""), (script, done)
+            assert done.stdout == script.with_suffix(".replies").read_bytes(), (script, done.stdout)
+            served = server.process.communicate(timeout=SECONDS)[0]
+            assert (server.process.returncode, served) == (0, b"served 1\n"), served
+    folder = new_folder()
+    shutil.copy(KEYS, folder / "keys.hex")
+    (folder / "keys.hex").chmod(0o600)
+    server = Server(folder, 1)
+    proxy, address = started(folder, sys.executable, ROOT / "tools" / "delayed.py", server.address, "50")
+    try:
+        script = b"".join(b"enrol user-%d\n" % number for number in range(10))
+        began = time.monotonic()
+        words = [CLIENT, "script", address, "keys.hex"]
+        done = subprocess.run(words, cwd=folder, input=script, capture_output=True, timeout=SECONDS)
+        took = time.monotonic() - began
+        assert (done.returncode, done.stderr) == (0, b""), done
+        assert done.stdout == b"".join(b"ok %d\n" % (number + 1) for number in range(10)) + b"end epoch 10\n", done
+        # the connection, the greeting, ten updates of two requests each, and the epoch
+        assert took >= 23 * 0.05, took
+    finally:
+        proxy.kill()
+        proxy.wait()
+    assert server.end(1) == []
+    folder = new_folder()
+    shutil.copy(KEYS, folder / "keys.hex")
+    (folder / "keys.hex").chmod(0o600)
+    server = Server(folder, 1)
+    words = [CLIENT, "script", server.address, "keys.hex"]
+    with subprocess.Popen(words, cwd=folder, stdin=subprocess.PIPE, stdout=subprocess.PIPE, stderr=subprocess.PIPE) as client:
+        client.stdin.write(b"enrol alice\n")
+        client.stdin.flush()
+        assert client.stdout.readline() == b"ok 1\n"
+        server.kill()
+        client.stdin.write(b"enrol bob\n")
+        client.stdin.close()
+        assert client.stdout.read() == b""
+        client.wait()
+        told = client.stderr.read().decode().splitlines()
+    assert client.returncode == 8 and told[0].startswith("overctl: error: "), told
+    assert told[1].endswith("with the same bytes, before any other file for its list"), told
+
+
 def commands_that_wait():
     """Where all workers are held a command waits: it says so, and ends by --timeout."""
     server = Server(new_folder(), 4, workers=1)
@@ -817,6 +870,7 @@ if __name__ == "__main__":
     with_client = [
         a_file_over_the_network,
         a_server_far_away,
+        scripts_over_the_network,
         commands_that_wait,
         a_write_that_fails,
         a_health_check,

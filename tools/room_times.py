@@ -1,5 +1,6 @@
 """Times the data room of `room_script.py` over the network, as its owner and its readers see it: over the loopback, or
-at a round trip of so many milliseconds, which `delayed.py` makes. Then it audits the firm that left.
+at a round trip of so many milliseconds, which `delayed.py` makes: a firm leaves by a command for each revocation, and
+another by a script of them. Then it audits the firm that left first.
 
 Run, after `rt run` has built the programs, at the top of the repository:
 
@@ -20,7 +21,7 @@ from network_cases import settings
 
 SERVER, CLIENT, PROGRAM = (str(pathlib.Path(word).resolve()) for word in sys.argv[1:4])
 DELAY = sys.argv[4] if len(sys.argv) > 4 else None
-FIRM = room_script.people("acme")
+FIRM, OTHER_FIRM = room_script.people("acme"), room_script.people("birch")
 
 
 def put(folder, script):
@@ -47,9 +48,9 @@ class Room:
             self.processes.append(proxy)
         self.count = 0
 
-    def client(self, command, *words):
+    def client(self, command, *words, **streams):
         self.count += 1
-        done = subprocess.run([CLIENT, command, self.address, *words], cwd=self.folder, capture_output=True)
+        done = subprocess.run([CLIENT, command, self.address, *words], cwd=self.folder, capture_output=True, **streams)
         assert done.returncode == 0, (command, words, done)
         return done.stdout.decode().splitlines()
 
@@ -72,6 +73,15 @@ def leave(room, person):
         room.client("revoke", "keys.hex", person, file)
 
 
+def leave_at_once(room, people):
+    """These leave each file that lists them, by one script."""
+    listed = [line.split() for line in room.client("files")]
+    script = [f"revoke {person} {file}\n" for person in people for _, file, names in listed if person in names.split(",")]
+    lines = room.client("script", "keys.hex", input="".join(script).encode())
+    assert len(lines) == len(script) + 1 and all(line.startswith("ok ") for line in lines[:-1]), lines
+    return len(script)
+
+
 def main():
     room = Room()
     print(room.made, "users and files are made;", "loopback" if DELAY is None else f"a round trip of {DELAY} ms")
@@ -83,7 +93,10 @@ def main():
         timed(room, "a file is read", lambda: room.client("read", "birch-1.key", room_script.name(0), "-o", "paper"))
         assert (room.folder / "paper").read_text() == room_script.text_of(0)
         timed(room, "a firm of five leaves its files", lambda: [leave(room, person) for person in FIRM])
-        assert not any("acme" in line for line in room.client("files"))
+        count = timed(room, "another leaves, by a script", lambda: leave_at_once(room, OTHER_FIRM))
+        assert count == 440, count
+        left = room.client("files")
+        assert not any(firm in line for line in left for firm in ("acme", "birch")), left
     finally:
         room.end()
     began = time.monotonic()

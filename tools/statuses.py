@@ -31,13 +31,13 @@ def crates_of(program):
 
 
 def help_of(program):
-    """Those of the text that --help prints, which stands in one file of the program or of a library."""
+    """Those of the texts that --help prints, which stand in files of the program and of libraries."""
+    named = set()
     for path in (path for crate in crates_of(program) for path in sorted((crate / "src").glob("*.rt"))):
-        texts = path.read_text().split("Exit status:")[1:]
-        if texts:
-            named = (re.split(r'"(?:;|\n\s*\))', text)[0] for text in texts)
-            return sorted({it for text in named for it in numbers(r'(?:^|[\s,"])(\d{1,2}) +(?=[`A-Za-z])', text)})
-    return []
+        for text in path.read_text().split("Exit status:")[1:]:
+            table = re.split(r'"(?:;|,?\n\s*\))', text)[0]
+            named |= set(numbers(r'(?:^|[\s,"])(\d{1,2}) +(?=[`A-Za-z])', table))
+    return sorted(named)
 
 
 def man(path):
@@ -56,10 +56,10 @@ def places_of(program):
         if not definitions.exists():
             continue
         text = definitions.read_text()
-        # a command by the owner's book has statuses of its own
+        # a command by the owner's book, and a script, have statuses of their own
         for further in (crate / "specs" / "Endings.antt" for crate in crates_of(program)):
             text += further.read_text() if further.exists() else ""
-        yield "definitions", numbers(r"^(?:status|own)_code .+ = (\d+)$", text)
+        yield "definitions", numbers(r"^(?:status|own|ended)_code .+ = (\d+)$", text)
     yield "--help", help_of(program)
     pages, sections = PROGRAMS[program]
     for path in (ROOT / "dist" / "man" / name for name in pages):

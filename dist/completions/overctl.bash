@@ -6,7 +6,7 @@ _overctl() {
         -o | --output | --timeout) COMPREPLY=() && return ;;
     esac
     case $COMP_CWORD,$word in
-        1,*) words='enrol create grant revoke remove replace list key read check epoch users files own book --help --version' ;;
+        1,*) words='enrol create grant revoke remove replace list key read check epoch users files script own book --help --version' ;;
         *,-*)
             words='--help --timeout'
             case ${COMP_WORDS[1]} in

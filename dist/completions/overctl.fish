@@ -20,6 +20,7 @@ complete -c overctl -n $command -a check -d "Print the base master's check value
 complete -c overctl -n $command -a epoch -d "Print the store's mode and epoch"
 complete -c overctl -n $command -a users -d 'Print the users, one a line'
 complete -c overctl -n $command -a files -d 'Print all lists, or the files that list a user'
+complete -c overctl -n $command -a script -d 'Answer a script over one session'
 complete -c overctl -n $command -a own -d "Send a command by the owner's book"
 complete -c overctl -n $command -a book -d "Ask the owner's book, and no server"
 complete -c overctl -n "not $command" -F

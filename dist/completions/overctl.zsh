@@ -20,6 +20,7 @@ case ${words[2]} in
     check) places=('2:file of both masters:_files') ;;
     epoch | users) places=($address) ;;
     files) places=($address '3::user: ') ;;
+    script) places=($address $keys) ;;
     own) places=($address $keys '4:path of the book, without an ending:_files' '5:mode:(full delta)'
         '6:command:(enrol create grant revoke remove replace resume)' '*:a word of the command:_files') ;;
     book) places=('2:file of both masters:_files' '3:path of the book, without an ending:_files' '4:mode:(full delta)'
@@ -29,5 +30,5 @@ _arguments \
     '(- *)--help[print help]' \
     '(- *)--version[print the version]' \
     $flags \
-    '1:command:((enrol\:"add a user" create\:"store bytes as a file" grant\:"put a user onto a list" revoke\:"take a user off a list" remove\:"take a file away" replace\:"give a file new bytes" list\:"print a list" key\:"print a user key line" read\:"print the bytes of a file" check\:"print a check value" epoch\:"print mode and epoch" users\:"print the users" files\:"print all lists, or the files of a user" own\:"send a command by a book" book\:"ask the book of an owner"))' \
+    '1:command:((enrol\:"add a user" create\:"store bytes as a file" grant\:"put a user onto a list" revoke\:"take a user off a list" remove\:"take a file away" replace\:"give a file new bytes" list\:"print a list" key\:"print a user key line" read\:"print the bytes of a file" check\:"print a check value" epoch\:"print mode and epoch" users\:"print the users" files\:"print all lists, or the files of a user" script\:"answer a script over one session" own\:"send a command by a book" book\:"ask the book of an owner"))' \
     $places

@@ -22,6 +22,8 @@ pub enum Asks {
     Names,
     /// The bytes of a file, with a user's keys.
     Bytes,
+    /// What the commands of a script do.
+    Script,
     /// Nothing of a server.
     Nothing,
 }

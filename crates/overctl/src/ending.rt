@@ -2,6 +2,7 @@
 
 use crate::asks::Asks;
 use crate::refusals::step_for;
+use crate::script_texts;
 use crate::texts::{OUT_OF_MEMORY, UNWRITTEN, WRITABLE};
 use ov_acts::Status;
 use ov_base::Refusal;
@@ -157,6 +158,7 @@ fn doubt_of(asks: Asks) -> &'static str {
         Asks::Replacement => REPLACEMENT_IN_DOUBT,
         Asks::List => "it may be done: look with `overctl list` before you repeat it",
         Asks::Removal => REMOVAL_IN_DOUBT,
+        Asks::Script => script_texts::IN_DOUBT,
         Asks::Answer | Asks::Names | Asks::Bytes => "the store is as it was: try again",
         Asks::Nothing => "try again",
     }
@@ -192,9 +194,8 @@ fn say_hint_of_link<W: Write>(end: &Ending<'_>, f: &mut Formatter<W>) -> fmt::Re
 fn say_hint_of_reply<W: Write>(end: &Ending<'_>, f: &mut Formatter<W>) -> fmt::Result {
     f.write_str("see that overstored listens there, with the `--version` of overctl")?;
     match end.asks {
-        Asks::User | Asks::File | Asks::Replacement | Asks::List | Asks::Removal => {
-            write!(f, "; if it does, {}", doubt_of(end.asks))
-        }
+        Asks::User | Asks::File | Asks::Replacement | Asks::List | Asks::Removal | Asks::Script =>
+            write!(f, "; if it does, {}", doubt_of(end.asks)),
         Asks::Bytes => write!(f, ", and that {} is of its store", end.keys),
         Asks::Answer | Asks::Names | Asks::Nothing => Ok(()),
     }
@@ -204,9 +205,8 @@ fn say_hint_of_reply<W: Write>(end: &Ending<'_>, f: &mut Formatter<W>) -> fmt::R
 fn say_hint_of_disk<W: Write>(asks: Asks, f: &mut Formatter<W>) -> fmt::Result {
     let doubt = doubt_of(asks);
     match asks {
-        Asks::User | Asks::File | Asks::Replacement | Asks::List | Asks::Removal => {
-            write!(f, "have the server started again; {doubt}")
-        }
+        Asks::User | Asks::File | Asks::Replacement | Asks::List | Asks::Removal | Asks::Script =>
+            write!(f, "have the server started again; {doubt}"),
         Asks::Answer | Asks::Names | Asks::Bytes | Asks::Nothing => f.write_str(doubt),
     }
 }
@@ -214,7 +214,8 @@ fn say_hint_of_disk<W: Write>(asks: Asks, f: &mut Formatter<W>) -> fmt::Result {
 // What to do where standard output isn't written.
 fn hint_of_output(asks: Asks) -> &'static str {
     match asks {
-        Asks::User | Asks::File | Asks::Replacement | Asks::List | Asks::Removal => doubt_of(asks),
+        Asks::User | Asks::File | Asks::Replacement | Asks::List | Asks::Removal | Asks::Script =>
+            doubt_of(asks),
         Asks::Answer | Asks::Names | Asks::Bytes | Asks::Nothing => WRITABLE,
     }
 }
@@ -259,6 +260,7 @@ impl Display for Hint<'_> {
             }
             Status::BadKeys => f.write_str("it has two different lines of 64 hexadecimal digits"),
             Status::BadReply => say_hint_of_reply(end, f),
+            Status::Damaged if end.asks == Asks::Script => f.write_str(script_texts::DAMAGED),
             Status::Damaged => {
                 f.write_str(
                     "read again; if it stays so, ask the owner for a key line of this store",
@@ -269,6 +271,9 @@ impl Display for Hint<'_> {
             }
             Status::Unsettled if end.asks == Asks::Replacement => {
                 f.write_str("try again, before you send any other file for its list")
+            }
+            Status::Unsettled if end.asks == Asks::Script => {
+                f.write_str(script_texts::FROM_THERE)
             }
             Status::Unsettled => f.write_str("try again"),
             Status::TooLong => f.write_str("store it as several files"),

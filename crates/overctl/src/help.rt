@@ -1,6 +1,7 @@
 //! What help says of options, which stand in no line of a command.
 
 use crate::options::{Opt, command_takes};
+use crate::script_texts;
 use std::fmt;
 use std::fmt::{Display, Formatter, Write};
 
@@ -76,6 +77,9 @@ impl Display for Help<'_> {
         match self.parts() {
             Some((before, behind)) => {
                 f.write_str(before)?;
+                if self.command.is_none() {
+                    f.write_str(script_texts::LINE)?;
+                }
                 f.write_str(BEFORE_OPTIONS)?;
                 self.write_options(f)?;
                 f.write_str(BEHIND_OPTIONS)?;

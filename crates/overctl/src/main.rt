@@ -18,6 +18,7 @@
 //! | `leaked` | whether a server shows the base master |
 //! | `owning`, `own_texts` | commands by the owner's book, and what is said of how they ended |
 //! | `consulting`, `book_files`, `book_texts` | questions to the owner's book, which ask no server |
+//! | `scripting`, `script_texts` | a script of commands, and what is said of how it ended |
 //! | `question` | questions that need no key |
 //! | `usage`, `help`, `texts` | what is said of wrong words, and where help is asked for |
 #![tactic(auto)]
@@ -40,6 +41,8 @@ mod question;
 mod real;
 mod refusals;
 mod saving;
+mod script_texts;
+mod scripting;
 mod texts;
 mod unknown;
 mod usage;
@@ -52,6 +55,7 @@ use ov_files::{hold_places, words_of};
 use ov_owning::read_own_job;
 use owning::run_own;
 use real::run_job;
+use scripting::run_script;
 use std::io::ErrorKind;
 use std::process::ExitCode;
 use texts::WrongWords;
@@ -64,6 +68,9 @@ fn answer_words(rt: &HostRuntime, words: &[String], options: &Options<'_>) -> u8
     }
     if words.first().is_some_and(|word| word.as_str() == "book") {
         return answer_book(rt, words, options);
+    }
+    if words.first().is_some_and(|word| word.as_str() == "script") {
+        return run_script(rt, words, options);
     }
     match read_job(rt.alloc(), words) {
         Ok(job) => run_job(rt, &job, options),

@@ -1,5 +1,6 @@
 //! What is said of words that are no line of a command, and where memory or output is missing.
 
+use crate::script_texts;
 use ov_acts::{MAX_WRITTEN_LIST, line_of};
 use std::fmt;
 use std::fmt::{Display, Formatter, Write};
@@ -90,8 +91,10 @@ impl Display for Usage {
 
 /// The usage of the command that the words begin with.
 pub fn usage_of(command: Option<&str>) -> Usage {
-    match line_of(command.unwrap_or("")) {
+    let command = command.unwrap_or("");
+    match line_of(command) {
         Some(line) => Usage(line.usage),
+        None if command == "script" => Usage(script_texts::USAGE),
         None => Usage("overctl --help"),
     }
 }

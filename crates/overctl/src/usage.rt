@@ -125,7 +125,7 @@ pub fn say_wrong_option(rt: &HostRuntime, wrong: WrongOption<'_>) -> u8 {
 }
 
 /// Prints this help, or the version.
-fn print_help(rt: &HostRuntime, help: &Help<'_>) -> u8 {
+pub fn print_help(rt: &HostRuntime, help: &Help<'_>) -> u8 {
     match rt.print(help) {
         Ok(()) => Status::Done.code(),
         Err(_) => {

@@ -1,0 +1,5 @@
+pub mod Answering
+pub mod Endings
+pub mod Machine
+pub mod Performing
+pub mod Scripting
