@@ -16,7 +16,8 @@ from common import KEYS, framed, keyed, new_folder, started
 from network_cases import CLIENT, SERVER, ask, settings
 from network_frames import name, u32
 
-PROGRAM = str(pathlib.Path(sys.argv[3]).resolve())
+# The third word of the tools that run `overstore`; others do without.
+PROGRAM = str(pathlib.Path(sys.argv[3]).resolve()) if len(sys.argv) > 3 else None
 REPORT = b"Sales fell by a third.\n"
 # The kinds of requests and answers that are changed or made up.
 ASK, COVER, UPDATE, CHAIN, CHUNK = range(2, 7)
