@@ -79,7 +79,10 @@ def records(book, origin):
 
 def has_pending(book, origin):
     """Whether it is an owner's book whose last intent isn't settled."""
-    return ([b"", *bodies(book, origin)][-1] or b"\0")[0] == INTENT
+    last = b"\0"
+    for last in bodies(book, origin):
+        pass
+    return last[0] == INTENT
 
 
 def names(book, origin):
