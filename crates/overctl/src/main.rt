@@ -20,9 +20,11 @@
 //! | `consulting`, `book_files`, `book_texts` | questions to the owner's book, which ask no server |
 //! | `scripting`, `script_texts` | a script of commands, and what is said of how it ended |
 //! | `question` | questions that need no key |
+//! | `ahead`, `spots` | a peer that sends the requests of a listing ahead |
 //! | `usage`, `help`, `texts` | what is said of wrong words, and where help is asked for |
 #![tactic(auto)]
 
+mod ahead;
 mod asks;
 mod book_files;
 mod book_texts;
@@ -43,6 +45,7 @@ mod refusals;
 mod saving;
 mod script_texts;
 mod scripting;
+mod spots;
 mod texts;
 mod unknown;
 mod usage;

@@ -1,6 +1,7 @@
 //! The real files and the real stream.
 ghost use Rattle.ov_acts.specs.Files.{HasListLimits};
 
+use crate::ahead::AheadPeer;
 use crate::asks::{Asks, asks_of, file_of, stores};
 use crate::consent::{AGREE, NOT_AGREED, NOT_AGREED_STATUS, goes_on, loss_of};
 use crate::ending::{Ending, Hint};
@@ -270,7 +271,7 @@ fn do_ask(rt: &HostRuntime, asked: &Asked<'_>, options: &Options<'_>) -> Result<
     let alloc = rt.alloc();
     let mut out = Heard::new(StdSink::new(Retrying::new(rt.stdout())));
     let net = PatientNet::new(*rt, options.timeout);
-    let mut peer = NetPeer::new(TcpLink::new(net, asked.address)?)?;
+    let mut peer = AheadPeer::new(alloc, TcpLink::new(net, asked.address)?)?;
     let found = match answer(alloc, &mut peer, &asked.question) {
         Ok(Some(text)) => Ok(text),
         Ok(None) => Err(Stop::Refused(Refusal::NoUser)),
