@@ -350,7 +350,8 @@ class Replies:
         """How many calls of each disk a shorter store takes, and where its records of files with bytes are that are
         gone. The old disk is opened; then each record is read once more, and each that is kept once again, with the
         bytes of a file that is there. The new disk is synced, its Book's length is asked, its front read and the length
-        asked again; then it is written and synced alone, since a file's bytes aren't read where none are moved."""
+        asked again; then it is written and synced alone, since a file's bytes aren't read where none are moved, and a
+        file of up to 65,536 bytes is written by one call."""
         case = self.case
         fresh = self.reference.image.Device()
         made = self.reference.tidied(["tidy"], case, Sink(self.reference.run.WriteFault, None), fresh)
@@ -360,8 +361,8 @@ class Replies:
         files = [new.cat.files[record.file] for record in new.records if record.file is not None]
         there = sum(1 for file in files if not file.gone and file.length)
         moved = sum(1 for call in fresh.log if call[:2] == ("write", "blobs")) - sum(1 for file in files if file.length)
-        if made or moved:
-            sys.exit("calls are counted of a shorter store that is made, and in which no file's bytes are moved")
+        if made or moved or any(file.length > 65_536 for file in files):
+            sys.exit("calls are counted of a shorter store that is made, of short files whose bytes aren't moved")
         calls = {
             "old": sum(self.opening(old)) + len(old.records) + len(new.records) + there,
             "new": 1 + 3 + len(fresh.log),
