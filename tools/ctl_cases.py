@@ -101,6 +101,7 @@ class Server:
 
     def __init__(self, replies):
         self.replies, self.asked, self.over = replies, [], set()
+        self.greetings = [reply for reply in replies if isinstance(reply, bytes) and reply[0] == 0x81]
         self.listener = socket.create_server(("127.0.0.1", 0))
         self.address = "127.0.0.1:%d" % self.listener.getsockname()[1]
         self.thread = threading.Thread(target=self.serve)
@@ -123,7 +124,7 @@ class Server:
     def answer(self, stream):
         for reply in self.replies:
             frame = request(stream)
-            while frame is not None and {frame[:1], frame[:2]} & self.over:
+            while frame and (frame[:2] in self.over or frame[:1] in self.over and reply in self.greetings):
                 stream.sendall(framed(NO_PAGE if frame[0] == 7 else REPLIES["NO_FILE"]))
                 frame = request(stream)
             if frame is None:
@@ -155,8 +156,12 @@ class Server:
 
     def leave(self, stream):
         """Takes what was sent ahead, so that the client sees an end and no reset."""
-        stream.shutdown(socket.SHUT_WR)
-        while stream.recv(4096):
+        try:
+            stream.shutdown(socket.SHUT_WR)
+            while stream.recv(4096):
+                pass
+        except OSError:
+            # The client left before.
             pass
 
     def end(self):
