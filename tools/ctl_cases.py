@@ -100,7 +100,8 @@ class Server:
     """Serves one connection with these replies, one for each request, and leaves at the next one."""
 
     def __init__(self, replies):
-        self.replies, self.asked = replies, []
+        self.replies, self.asked, self.over = replies, [], set()
+        self.greetings = [reply for reply in replies if isinstance(reply, bytes) and reply[0] == 0x81]
         self.listener = socket.create_server(("127.0.0.1", 0))
         self.address = "127.0.0.1:%d" % self.listener.getsockname()[1]
         self.thread = threading.Thread(target=self.serve)
@@ -123,6 +124,9 @@ class Server:
     def answer(self, stream):
         for reply in self.replies:
             frame = request(stream)
+            while frame and (frame[:2] in self.over or frame[:1] in self.over and reply in self.greetings):
+                stream.sendall(framed(NO_PAGE if frame[0] == 7 else REPLIES["NO_FILE"]))
+                frame = request(stream)
             if frame is None:
                 return
             self.asked.append(frame)
@@ -134,11 +138,31 @@ class Server:
                 if reply.resets:
                     time.sleep(0.2)
                     stream.setsockopt(socket.SOL_SOCKET, socket.SO_LINGER, struct.pack("ii", 1, 0))
+                else:
+                    self.leave(stream)
                 return
             stream.sendall(framed(reply))
+            # Behind the last page, and behind a list that is refused, what was sent ahead isn't there either.
+            if frame[0] == 1:
+                self.over = set()
+            elif (frame[0], reply) == (7, NO_PAGE):
+                self.over.add(frame[:2])
+            elif frame[0] == 8 and reply[0] == 0x88:
+                self.over.add(frame[:1])
         frame = request(stream)
         if frame is not None:
             self.asked.append(frame)
+            self.leave(stream)
+
+    def leave(self, stream):
+        """Takes what was sent ahead, so that the client sees an end and no reset."""
+        try:
+            stream.shutdown(socket.SHUT_WR)
+            while stream.recv(4096):
+                pass
+        except OSError:
+            # The client left before.
+            pass
 
     def end(self):
         # Whoever is still waited for isn't coming.
@@ -205,7 +229,8 @@ def case(words, replies, status, out, error=None, hint=None, asked=None, note=No
     lines += [] if error is None else two_lines(at(error), at(hint))
     assert found == (status, out, lines), (words, found, (status, out, lines))
     is_in_form(lines)
-    assert asked is None or len(server.asked) == asked, (words, server.asked)
+    counts = asked if isinstance(asked, range) else [asked]
+    assert asked is None or len(server.asked) in counts, (words, server.asked)
 
 
 ENROL = "enrol @ keys a"
@@ -458,15 +483,17 @@ def questions_that_are_not_answered():
     error = "others changed the store at @ in nine tries"
     case("users @", moving * 9, 13, b"", error, "try again", asked=27)
     case("epoch @", ["LISTED"], 11, b"", NO_ANSWER, SAME_VERSION, asked=1)
-    case("users @", ["WELCOME", file_page(b"f1")], 11, b"", NO_ANSWER, SAME_VERSION, asked=2)
+    # Behind a request that is answered wrongly one that was sent ahead may be seen.
+    case("users @", ["WELCOME", file_page(b"f1")], 11, b"", NO_ANSWER, SAME_VERSION, asked=range(2, 4))
     pages = ["WELCOME", *USERS, file_page(b"f1"), file_page(b"f2"), NO_PAGE]
     removed = [*pages, b"\x88\x03"]
     left = ["WELCOME", *USERS, GONE_PAGE, file_page(b"f2"), NO_PAGE, "LISTED", "WELCOME"]
     case("files @", [*removed, *left], 0, b"list f2 a,b\n", asked=17)
-    case("files @", removed * 9, 13, b"", error, "try again", asked=72)
-    case("files @", [*pages, "WELCOME"], 11, b"", NO_ANSWER, SAME_VERSION, asked=8)
-    endless = ["WELCOME", *[user_page(b"a")] * 1_100]
-    case("users @", endless, 11, b"", NO_ANSWER, SAME_VERSION, asked=1_026)
+    case("files @", removed * 9, 13, b"", error, "try again", asked=range(72, 74))
+    case("files @", [*pages, "WELCOME"], 11, b"", NO_ANSWER, SAME_VERSION, asked=range(8, 10))
+    # Up to 256 pages more are sent ahead.
+    endless = ["WELCOME", *[user_page(b"a")] * 1_300]
+    case("users @", endless, 11, b"", NO_ANSWER, SAME_VERSION, asked=range(1_026, 1_283))
     case("epoch @", ["NO_MEMORY"], 7, b"", "out of memory, here or at @", AS_IT_WAS)
     case("files @ a", ["WELCOME", Broken(b"")], 8, b"", CUT_OFF, OTHER_PROGRAM + AS_IT_WAS, asked=2)
     with open("/dev/full", "wb") as full:

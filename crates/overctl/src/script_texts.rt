@@ -22,7 +22,7 @@ pub const HELP: &str = concat!(
 
 /// The line on the command in the help of the whole program.
 pub const LINE: &str =
-    "\n  script   Answer a script over one session: its reply lines, `end epoch EPOCH`";
+    "\n  script   Answer a script over one session: reply lines, `end epoch EPOCH`";
 
 /// What is wrong with a script that has a bad item at this line.
 #[derive(Clone, Copy)]
