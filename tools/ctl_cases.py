@@ -1119,7 +1119,7 @@ def words_that_are_no_line():
 
 def options_of(words):
     """The options that this command has, or all."""
-    if words == ["check"]:
+    if words in (["check"], ["book"]):
         return []
     output = ["--output"] if words in ([], ["read"], ["key"]) else []
     yes = ["--yes"] if words in ([], ["remove"], ["replace"], ["own"]) else []

@@ -135,7 +135,7 @@ pub static LINES: [Line; 15] = [
         name: "book",
         words: &["KEYS", "BOOK", "MODE", "QUESTION", "[NAME]"],
         usage: "overctl book KEYS BOOK MODE QUESTION [NAME]",
-        about: "Ask the owner's book, and no server: key lines, lists, what is pending",
+        about: "Ask the owner's book and no server: key lines, lists, what is pending",
         after: concat!(
             "Example: overctl book keys.hex team full key bob > bob.key\n",
             "Exit status: 0 done, 2 words, 3 refused, 5 reading, 6 writing, 7 memory,\n",

@@ -28,7 +28,7 @@
 //! | `Serving` | a server that serves what the book says, and a call over it |
 //!
 //! `Owns` is the heart of it: it has in one record what was asked and what a crash may leave, so that both
-//! are of one book. The book's disk is as it was unless Hello was answered by an epoch that the book
+//! are of one book. The book's disk is as it was opened, unless Hello was answered by an epoch that the book
 //! expects. If the disk tells its bytes, a crash at any moment of the call leaves the book from before or
 //! one with the intent, and that settled only where the server told that its update was made; and at the
 //! end of a call that may have sent an Update each image that a crash may leave has its intent. A peer and

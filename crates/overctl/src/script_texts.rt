@@ -15,9 +15,9 @@ pub const HELP: &str = concat!(
     "  <KEYS>     the file of both masters: two lines of 64 hexadecimal digits\n\n",
     "Options:\n\n\n",
     "Example: overctl script 127.0.0.1:7400 keys.hex < room.script\n",
-    "Exit status: 0 answered to its end, 2 words, 4 disk, 5 reading, 6 writing, 7 memory,\n",
-    " 8 no server, 9 masters, 10 key file, 11 reply, 12 damage, 13 others, 14 length,\n",
-    " 20 a line that is no item\n",
+    "Exit status: 0 answered to its end, 2 words, 4 disk, 5 reading, 6 writing,\n",
+    " 7 memory, 8 no server, 9 masters, 10 key file, 11 reply, 12 damage, 13 others,\n",
+    " 14 length, 20 a line that is no item\n",
 );
 
 /// The line on the command in the help of the whole program.
