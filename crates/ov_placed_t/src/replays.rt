@@ -49,9 +49,15 @@ fn replayed_as(
     it.replay(alloc, &Master::new(&MASTER), format, body, GATE, BLOCKS)
 }
 
+/// An empty store, in a box, so that a test lets go of it at once.
+fn empty(rt: &impl Abort, alloc: Global) -> Box<CataloguePlaces> {
+    let it: CataloguePlaces = PlacedCatalogue::new(alloc, Mode::Full, 0).expect(rt, "memory");
+    Box::new(alloc, it).expect(rt, "memory")
+}
+
 /// A store of two users with the file.
-fn with_file(rt: &impl Abort, alloc: Global) -> CataloguePlaces {
-    let mut it = PlacedCatalogue::new(alloc, Mode::Full, 0).expect(rt, "memory");
+fn with_file(rt: &impl Abort, alloc: Global) -> Box<CataloguePlaces> {
+    let mut it = empty(rt, alloc);
     assert!(rt; replayed(alloc, &mut it, &enrol(rt, alloc, b"a")).is_ok());
     assert!(rt; replayed(alloc, &mut it, &enrol(rt, alloc, b"b")).is_ok());
     assert!(rt; it.first_block(0).is_none());
@@ -82,7 +88,7 @@ fn a_file_goes_to_and_fro(rt: HostRuntime) {
 fn a_creation_of_either_format_is_replayed_as_that(rt: HostRuntime) {
     let alloc = rt.alloc();
     let (old, new) = (create_of_first_format(&rt, alloc), create(&rt, alloc, &[0]));
-    let mut it = PlacedCatalogue::new(alloc, Mode::Full, 0).expect(&rt, "memory");
+    let mut it = empty(&rt, alloc);
     assert!(rt; replayed_as(alloc, &mut it, Format::First, &enrol(&rt, alloc, b"a")).is_ok());
     assert!(rt; replayed(alloc, &mut it, &enrol(&rt, alloc, b"b")).is_ok());
     // With a set of 128 bytes the old body ends in the tag. With one of 32 the new body has no token,

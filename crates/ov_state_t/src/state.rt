@@ -126,8 +126,8 @@ fn make_rows(rt: &impl Abort, alloc: Global, catalogue: &mut Catalogue, rows: &[
 }
 
 /// The catalogue after all of the rows.
-fn after_rows(rt: &impl Abort, alloc: Global, mode: Mode) -> Catalogue {
-    let mut catalogue: Catalogue = State::new(alloc, mode, 0).expect(rt, "memory");
+fn after_rows(rt: &impl Abort, alloc: Global, mode: Mode) -> Box<Catalogue> {
+    let mut catalogue: Box<Catalogue> = State::boxed(alloc, mode, 0).expect(rt, "memory");
     make_rows(rt, alloc, &mut catalogue, &ROWS);
     catalogue
 }
@@ -225,7 +225,7 @@ const TWO_NEW_NODES: [(Step, &[Rewritten]); 7] = [
 /// Node 3 is that of a and c, which the first file wants, and node 4 that of a and b.
 #[test]
 fn new_surface_nodes_in_the_order_of_files(rt: HostRuntime) {
-    let mut catalogue: Catalogue = State::new(rt.alloc(), Mode::Delta, 0).expect(&rt, "memory");
+    let mut catalogue: Box<Catalogue> = State::boxed(rt.alloc(), Mode::Delta, 0).expect(&rt, "memory");
     for (step, expected) in &TWO_NEW_NODES {
         make(&rt, rt.alloc(), &mut catalogue, *step, expected);
     }
@@ -246,7 +246,7 @@ const ONE_NEW_NODE: [(Step, &[Rewritten]); 8] = [
 
 #[test]
 fn no_surface_node_for_a_removed_file(rt: HostRuntime) {
-    let mut catalogue: Catalogue = State::new(rt.alloc(), Mode::Delta, 0).expect(&rt, "memory");
+    let mut catalogue: Box<Catalogue> = State::boxed(rt.alloc(), Mode::Delta, 0).expect(&rt, "memory");
     for (step, expected) in &ONE_NEW_NODE {
         make(&rt, rt.alloc(), &mut catalogue, *step, expected);
     }
@@ -312,7 +312,7 @@ fn the_brief_of_an_update(rt: HostRuntime) {
 #[test]
 fn the_last_epoch(rt: HostRuntime) {
     let (alloc, first) = (rt.alloc(), LAST_EPOCH - 1);
-    let mut catalogue: Catalogue = State::new(alloc, Mode::Full, first).expect(&rt, "memory");
+    let mut catalogue: Box<Catalogue> = State::boxed(alloc, Mode::Full, first).expect(&rt, "memory");
     make(&rt, alloc, &mut catalogue, Step::Enrol(b"a"), &[]);
     let rows = [
         (Step::Enrol(b"b"), Refusal::Spent),

@@ -58,7 +58,7 @@ fn ask_before(rt: &impl Abort, alloc: Global, catalogue: &mut Catalogue) {
 #[test]
 fn a_file_is_granted_replaced_removed_and_created(rt: HostRuntime) {
     let alloc = rt.alloc();
-    let mut catalogue: Catalogue = State::new(alloc, Mode::Delta, 0).expect(&rt, "memory");
+    let mut catalogue: Box<Catalogue> = State::boxed(alloc, Mode::Delta, 0).expect(&rt, "memory");
     for (step, expected) in &BEFORE {
         make(&rt, alloc, &mut catalogue, *step, expected);
     }
@@ -88,7 +88,7 @@ const TAKEN_OFF: [(Step, &[Rewritten]); 5] = [
 #[test]
 fn a_replaced_file_leaves_the_node_of_old_holders(rt: HostRuntime) {
     let alloc = rt.alloc();
-    let mut catalogue: Catalogue = State::new(alloc, Mode::Delta, 0).expect(&rt, "memory");
+    let mut catalogue: Box<Catalogue> = State::boxed(alloc, Mode::Delta, 0).expect(&rt, "memory");
     for (step, expected) in &TAKEN_OFF {
         make(&rt, alloc, &mut catalogue, *step, expected);
     }

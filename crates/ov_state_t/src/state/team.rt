@@ -93,8 +93,8 @@ fn update(rt: &impl Abort, alloc: Global, catalogue: &Catalogue, number: u32) ->
 
 /// The catalogue after the day. Before each creation the cover of a list is asked for: for every
 /// other one, that of its own list, and else that of the list before.
-fn after_day(rt: &impl Abort, alloc: Global, mode: Mode) -> Catalogue {
-    let mut catalogue: Catalogue = State::new(alloc, mode, 0).expect(rt, "memory");
+fn after_day(rt: &impl Abort, alloc: Global, mode: Mode) -> Box<Catalogue> {
+    let mut catalogue: Box<Catalogue> = State::boxed(alloc, mode, 0).expect(rt, "memory");
     for number in 0..86 {
         if (12..52).contains(&number) {
             ask(rt, alloc, &mut catalogue, (number - 12) / 2 * 2);
