@@ -225,7 +225,9 @@ const TWO_NEW_NODES: [(Step, &[Rewritten]); 7] = [
 /// Node 3 is that of a and c, which the first file wants, and node 4 that of a and b.
 #[test]
 fn new_surface_nodes_in_the_order_of_files(rt: HostRuntime) {
-    let mut catalogue: Box<Catalogue> = State::boxed(rt.alloc(), Mode::Delta, 0).expect(&rt, "memory");
+    let mut catalogue: Box<Catalogue> = State::boxed(rt.alloc(), Mode::Delta, 0).expect(
+        &rt, "memory",
+    );
     for (step, expected) in &TWO_NEW_NODES {
         make(&rt, rt.alloc(), &mut catalogue, *step, expected);
     }
@@ -246,7 +248,9 @@ const ONE_NEW_NODE: [(Step, &[Rewritten]); 8] = [
 
 #[test]
 fn no_surface_node_for_a_removed_file(rt: HostRuntime) {
-    let mut catalogue: Box<Catalogue> = State::boxed(rt.alloc(), Mode::Delta, 0).expect(&rt, "memory");
+    let mut catalogue: Box<Catalogue> = State::boxed(rt.alloc(), Mode::Delta, 0).expect(
+        &rt, "memory",
+    );
     for (step, expected) in &ONE_NEW_NODE {
         make(&rt, rt.alloc(), &mut catalogue, *step, expected);
     }
@@ -312,7 +316,9 @@ fn the_brief_of_an_update(rt: HostRuntime) {
 #[test]
 fn the_last_epoch(rt: HostRuntime) {
     let (alloc, first) = (rt.alloc(), LAST_EPOCH - 1);
-    let mut catalogue: Box<Catalogue> = State::boxed(alloc, Mode::Full, first).expect(&rt, "memory");
+    let mut catalogue: Box<Catalogue> = State::boxed(alloc, Mode::Full, first).expect(
+        &rt, "memory",
+    );
     make(&rt, alloc, &mut catalogue, Step::Enrol(b"a"), &[]);
     let rows = [
         (Step::Enrol(b"b"), Refusal::Spent),
