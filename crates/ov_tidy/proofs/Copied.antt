@@ -15,7 +15,6 @@ use Rattle.ov_history.proofs.Numbering.{names_are_shown, updates_are_numbered}
 use Rattle.ov_history.proofs.Showing.{history_is_shown}
 use Rattle.ov_history.proofs.SoundTests.{files_shown-length}
 use Rattle.ov_images.specs.Images.{KeepsEither}
-use Rattle.ov_journal.specs.Book.{contents_of}
 use Rattle.ov_record.specs.Briefs.{brief as brief_as_spelled}
 use Rattle.ov_record.specs.Updates.{SealedUpdate as SpelledUpdate, sealed_update}
 use Rattle.ov_record.specs.declared.update.Update.{Update}
@@ -30,6 +29,7 @@ use Rattle.ov_tidy.specs.Agreeing.{Agree}
 use Rattle.ov_tidy.specs.Copies.{Adds, AnswersNext, CopiesNext, FindsAgain, IsNext, KeepsStep, copy_fault_of}
 use Rattle.ov_tidy.specs.declared.copying.CopyFault.{CopyFault}
 use Rattle.ov_tidy.specs.declared.copying.CopyFault.TheVariants.{Changed, Disk as DiskFailed, Memory}
+use Rattle.ov_updating.specs.Updating.{HasSameStep}
 
 -- a store has as many numbers of files as each history for which it stands
 many_files : {E : Type 0} (news : DiskTells E) (s : Opened E) (h : SealedHistory) → Serves news h s
@@ -173,8 +173,9 @@ calls_then tells old mid new one two =
 -- a store is of the format of itself
 pub step_still : {E : Type 0} (news : DiskTells E) (s : Opened E) → KeepsStep news s s
 step_still news s i read k read_again =
-    let same : k ≡ i = cc (read, read_again) in
-    ap (λ (x : Image). (contents_of x.book).records.step) same
+    let same : i ≡ k = cc (read, read_again) in
+    let own : HasSameStep i i = refl in
+    subst (λ (x : Image). HasSameStep i x) same own
 
 -- and of that from before, also after two calls
 pub step_then : {E : Type 0} (news : DiskTells E) (old mid new : Opened E)
