@@ -180,15 +180,19 @@ module _ {E : Type 0} (tells : DiskTells E) (g : SealedHistory) (kept : List ℕ
     -- it is, and its updates are copied
     pub gets_copy : (last : E) → LeavesOnly tells mid last (KeepsFirst k h) → (status : ℕ)
         → (status ≡ 0 → (x : Image) → tells.may_leave last x → Keeps k h x)
-        → (status ≡ 0 → (x : Image) → tells.reads last ≡ Some x
-        → (i : Image) × IsOfSecondFormat i.book × HasSameStep i x)
+        → (status ≡ 0 → (x : Image) × (tells.reads last ≡ Some x)
+        × ((i : Image) × IsOfSecondFormat i.book × HasSameStep i x))
         → Gets tells k h status first last
     gets_copy last leaves status lasts begun_so = record {
       any_moment = λ i read unborn only.
           then_on tells first mid last (IsUnbornOrFront k h) (KeepsFirst k h)
           (begun_front i read unborn only) leaves (λ x front. inr front);
       lasts = lasts;
-      second = λ zero x read.
-          let (i, second, same) = begun_so zero x read in
-          second_still k h i x second same (lasts zero x (tells.reads_one last x read));
+      second = λ zero.
+          let (x, read, begun_as) = begun_so zero in
+          let (i, second, same) = begun_as in (
+            x,
+            read,
+            second_still k h i x second same (lasts zero x (tells.reads_one last x read)),
+          );
     }

@@ -122,11 +122,8 @@ module _ {D E : Type 0} (olds : DiskTells D) (news : DiskTells E) (old : Opened 
                   (λ zero x may. let own = ends.whole zero in
                   keeps_it news g kept k h copy store after (keys_then ∙ keys) own.0 own.1 own.2
                   fronts later.0 later.1 x may)
-                  (λ zero x read_last. (
-                    mid.0,
-                    second mid.0 mid.1,
-                    step zero mid.0 mid.1 x read_last,
-                  ));
+                  (λ zero.
+                  (later.0, later.1, (mid.0, second mid.0 mid.1, step zero mid.0 mid.1 later.0 later.1)));
               ends = ends_kept g kept put_old put_new status ends.ends;
             },
           );
