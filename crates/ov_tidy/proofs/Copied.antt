@@ -26,9 +26,10 @@ use Rattle.ov_store.specs.Wholes.{ReadsWhole, files_before}
 use Rattle.ov_store.specs.declared.fault.StoreFault.{StoreFault}
 use Rattle.ov_store.specs.declared.fault.StoreFault.TheVariants.{BadPlan, Disk as StoreDisk, Failed, Memory as StoreMemory, Refused}
 use Rattle.ov_tidy.specs.Agreeing.{Agree}
-use Rattle.ov_tidy.specs.Copies.{Adds, AnswersNext, CopiesNext, FindsAgain, IsNext, copy_fault_of}
+use Rattle.ov_tidy.specs.Copies.{Adds, AnswersNext, CopiesNext, FindsAgain, IsNext, KeepsStep, copy_fault_of}
 use Rattle.ov_tidy.specs.declared.copying.CopyFault.{CopyFault}
 use Rattle.ov_tidy.specs.declared.copying.CopyFault.TheVariants.{Changed, Disk as DiskFailed, Memory}
+use Rattle.ov_updating.specs.Updating.{HasSameStep}
 
 -- a store has as many numbers of files as each history for which it stands
 many_files : {E : Type 0} (news : DiskTells E) (s : Opened E) (h : SealedHistory) → Serves news h s
@@ -168,6 +169,21 @@ pub calls_then : {D : Type 0} (tells : DiskTells D) (old mid new : Opened D) →
     → IsCallOf tells mid new ⊥ → IsCallOf tells old new ⊥
 calls_then tells old mid new one two =
     (two.0 ∙ one.0, two.1 ∙ one.1, omega (arith, one.2, two.2), λ none. absurd none)
+
+-- a store is of the format of itself
+pub step_still : {E : Type 0} (news : DiskTells E) (s : Opened E) → KeepsStep news s s
+step_still news s i read k read_again =
+    let same : i ≡ k = cc (read, read_again) in
+    let own : HasSameStep i i = refl in
+    subst (λ (x : Image). HasSameStep i x) same own
+
+-- and of that from before, also after two calls
+pub step_then : {E : Type 0} (news : DiskTells E) (old mid new : Opened E)
+    → StaysTold (news.reads old.disk) (news.reads mid.disk) → KeepsStep news old mid
+    → KeepsStep news mid new → KeepsStep news old new
+step_then news old mid new told one two i read k read_new =
+    let there = told i read in
+    two there.0 there.1 k read_new ∙ one i read there.0 there.1
 
 pub told_then : (old mid new : Option Image) → StaysTold old mid → StaysTold mid new → StaysTold old new
 told_then old mid new one two i is = let there = one i is in two there.0 there.1

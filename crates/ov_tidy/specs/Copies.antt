@@ -24,6 +24,7 @@ use Rattle.ov_store.specs.declared.fault.StoreFault.TheVariants.{BadPlan, Disk a
 use Rattle.ov_store.specs.declared.fault.StoreFault.TheVariants.{Memory as StoreMemory, Refused}
 use Rattle.ov_store.specs.Wholes.{ReadsWhole, files_before}
 use Rattle.ov_thinning.specs.Thin.{AreThinned}
+use Rattle.ov_updating.specs.Updating.{HasSameStep}
 use Rattle.ov_tidy.specs.Agreeing.{Agree, IsCopyOf, IsCopyOfFirst}
 use Rattle.ov_tidy.specs.declared.copying.CopyFault.{CopyFault}
 use Rattle.ov_tidy.specs.declared.copying.CopyFault.TheVariants.{Changed, Disk as DiskFailed, Memory}
@@ -66,6 +67,11 @@ LeavesCopy olds news old kept before after =
     ForEachThinned olds old kept (λ g. Told (news.reads before.disk) (λ _.
     (h : SealedHistory) × IsCopyOf g kept h
     × LeavesOnly news before.disk after.disk (KeepsFirst before.keys h)))
+
+-- The new disk has a store of the format from before, with as many records before its step record.
+abbrev pub KeepsStep : {E : Type 0} → DiskTells E → Opened E → Opened E → Type 0
+KeepsStep news before after =
+    Told (news.reads before.disk) (λ i. Told (news.reads after.disk) (HasSameStep i))
 
 -- ---- inner: one update
 

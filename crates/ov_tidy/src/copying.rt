@@ -10,7 +10,7 @@ ghost use Rattle.ov_state.specs.Plans.{IsFitting};
 ghost use Rattle.ov_store.specs.Opened.{Serves};
 ghost use Rattle.ov_store.specs.Updating.{IsCallOf, LeavesEither};
 ghost use Rattle.ov_tidy.specs.Copies.{Adds, BeginsFor, Copies, CopiesNext, FindsAgain, LeavesCopy};
-ghost use Rattle.ov_tidy.specs.Copies.{copy_fault_of};
+ghost use Rattle.ov_tidy.specs.Copies.{KeepsStep, copy_fault_of};
 ghost use Rattle.ov_tidy.specs.declared.copying.CopyFault.TheVariants.{Disk as DiskFailed};
 
 use ov_disk::Disk;
@@ -80,6 +80,7 @@ fn add<E: Disk>(
     requires whole { new.old.failed ≡ false }
     ensures answer { Adds E.tells (sealed_update update) new.old new.new result }
     ensures any_moment { LeavesEither E.tells (sealed_update update) new.old new.new }
+    ensures step { OnOk result (KeepsStep E.tells new.old new.new) }
     ensures told { StaysTold (E.tells.reads new.old.disk) (E.tells.reads new.new.disk) }
     ensures call { IsCallOf E.tells new.old new.new (IsErrOf result DiskFailed) }
 {
@@ -99,6 +100,7 @@ fn copy_one<D: Disk, E: Disk>(
     requires whole { new.old.failed ≡ false }
     ensures copied { CopiesNext D.tells E.tells old.old place new.old new.new result }
     ensures whole { OnOk result (new.new.failed ≡ false) }
+    ensures step { OnOk result (KeepsStep E.tells new.old new.new) }
     ensures told { StaysTold (E.tells.reads new.old.disk) (E.tells.reads new.new.disk) }
     ensures stays { old.new ≡ record old.old { disk = old.new.disk } }
     ensures untouched { IsUntouched D.tells old.old.disk old.new.disk }
@@ -132,6 +134,8 @@ pub fn copy<D: Disk, E: Disk>(
     requires begins { BeginsFor D.tells E.tells old.old kept.now new.old }
     ensures copied { Copies D.tells E.tells old.old kept.now new.new result }
     ensures any_moment { LeavesCopy D.tells E.tells old.old kept.now new.old new.new }
+    // The new store is of the format in which it was begun.
+    ensures step { OnOk result (KeepsStep E.tells new.old new.new) }
 
     // Nothing is written to the old disk, and the old store stands for what it stood for.
     ensures stays { old.new ≡ record old.old { disk = old.new.disk } }

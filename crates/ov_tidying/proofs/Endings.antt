@@ -49,6 +49,21 @@ fault_no_empty fault old new status ends fourteen =
     not_code_or (fault_line fault) (fault_status fault) 14 old new status ends
     (fault_not_empty fault) (λ z. omega arith) (λ z. omega arith) fourteen
 
+fault_not_zero : (fault : BeginFault) → fault_status fault ≡ 0 → ⊥
+fault_not_zero DiskFailed e = omega arith
+fault_not_zero NoMemory e = omega arith
+fault_not_zero NotAStore e = omega arith
+fault_not_zero (Damaged area place) e = omega arith
+fault_not_zero (BaseDiffers stored given) e = omega arith
+fault_not_zero (SurfaceDiffers stored given) e = omega arith
+fault_not_zero (ModeDiffers stored given) e = omega arith
+
+pub fault_no_zero : (fault : BeginFault) (old new : Option (List ℕ)) (status : ℕ)
+    → EndsOr (fault_line fault) (fault_status fault) old new status → status ≡ 0 → ⊥
+fault_no_zero fault old new status ends zero =
+    not_code_or (fault_line fault) (fault_status fault) 0 old new status ends
+    (fault_not_zero fault) (λ z. omega arith) (λ z. omega arith) zero
+
 -- ---- by which causes
 
 module _ (old new : Option (List ℕ)) (status : ℕ) (faults : Type 0) (six : status ≡ 6 → faults) where

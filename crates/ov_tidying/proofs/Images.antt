@@ -10,11 +10,16 @@ use Rattle.ov_history.specs.History.{Update}
 use Rattle.ov_history.specs.Sealed.{IsSealed, SealedHistory, blank, outer_of, with_sealed}
 use Rattle.ov_history.specs.Sent.{SealedUpdate}
 use Rattle.ov_history.specs.Texts.{BriefHistory, brief_of}
+use Rattle.ov_images.proofs.Headers.{born_is_store}
 use Rattle.ov_images.proofs.Keeping.{keeps_once}
-use Rattle.ov_images.specs.Images.{Keeps, Keys}
+use Rattle.ov_images.specs.Images.{Keeps, Keys, header_of}
+use Rattle.ov_images.specs.Records.{bodies_of}
+use Rattle.ov_journal.specs.Book.{is_first, records_in}
+use Rattle.ov_journal.specs.Runs.{Run, run_after}
 use Rattle.ov_journal.specs.Standing.{IsUnborn}
 use Rattle.ov_store.proofs.Histories.{length-briefs}
 use Rattle.ov_store.specs.Beginning.{IsUnbornOrBlank, LeavesBlank}
+use Rattle.ov_store.specs.Carrying.{IsOfSecondFormat}
 use Rattle.ov_store.specs.Opened.{Opened, Serves}
 use Rattle.ov_store.specs.Owners.{with_first}
 use Rattle.ov_thinning.proofs.SealedLaws.{outer_length}
@@ -24,6 +29,7 @@ use Rattle.ov_tidy.proofs.FirstCopies.{gone_on, none_copied}
 use Rattle.ov_tidy.proofs.OneByOne.{outer_same}
 use Rattle.ov_tidy.specs.Agreeing.{IsCopyOf}
 use Rattle.ov_tidy.specs.Copies.{KeepsFirst}
+use Rattle.ov_updating.specs.Updating.{HasSameStep}
 use Rattle.ov_tidying.specs.Shorter.{Gets, IsUnbornOrFront}
 
 -- ---- fronts of lists
@@ -39,6 +45,27 @@ take_whole zero (u ∷ us) all = absurd (omega (arith, all))
 take_whole (suc n) [] all = refl
 take_whole (suc n) (u ∷ us) all =
     ap (λ (vs : List SealedUpdate). u ∷ vs) (take_whole n us (omega (arith, all)))
+
+-- ---- formats
+
+-- an image without a step record is none of the first format, and so is one with as many
+not_first : (before after : Bool) (run other : Run) → before ≡ false
+    → (records_in after other).step ≡ (records_in before run).step → after ≡ false
+not_first before false run other none same = refl
+not_first true true run other none same = absurd (cc none)
+not_first false true run other none same = absurd (cc same)
+
+-- an image that keeps a history is a store of the second format, if one was with as many records before
+-- its step record
+second_still : (k : Keys) (h : SealedHistory) (i x : Image) → IsOfSecondFormat i.book
+    → HasSameStep i x → Keeps k h x → IsOfSecondFormat x.book
+second_still k h i x second same (p, keeps) =
+    let r = keeps.records in (
+      (born_is_store (header_of k r.format p) r.step (bodies_of r.step p.updates) x.book r.known
+          r.book).0,
+      not_first (is_first (take 78 i.book)) (is_first (take 78 x.book)) (run_after 78 i.book)
+          (run_after 78 x.book) second.1 same,
+    )
 
 -- ---- the shorter history itself is a copy
 
@@ -147,15 +174,25 @@ module _ {E : Type 0} (tells : DiskTells E) (g : SealedHistory) (kept : List ℕ
     gets_none status not_whole = record {
       any_moment = begun_front;
       lasts = λ zero. absurd (not_whole zero);
+      second = λ zero. absurd (not_whole zero);
     }
 
     -- it is, and its updates are copied
     pub gets_copy : (last : E) → LeavesOnly tells mid last (KeepsFirst k h) → (status : ℕ)
         → (status ≡ 0 → (x : Image) → tells.may_leave last x → Keeps k h x)
+        → (status ≡ 0 → (x : Image) × (tells.reads last ≡ Some x)
+        × ((i : Image) × IsOfSecondFormat i.book × HasSameStep i x))
         → Gets tells k h status first last
-    gets_copy last leaves status lasts = record {
+    gets_copy last leaves status lasts begun_so = record {
       any_moment = λ i read unborn only.
           then_on tells first mid last (IsUnbornOrFront k h) (KeepsFirst k h)
           (begun_front i read unborn only) leaves (λ x front. inr front);
       lasts = lasts;
+      second = λ zero.
+          let (x, read, begun_as) = begun_so zero in
+          let (i, second, same) = begun_as in (
+            x,
+            read,
+            second_still k h i x second same (lasts zero x (tells.reads_one last x read)),
+          );
     }

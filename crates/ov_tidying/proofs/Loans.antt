@@ -43,6 +43,7 @@ module _ {D : Type 0} (tells : DiskTells D) (first last : MutBor D) (final : D)
         any_moment = λ i read unborn only.
             lent_leaves tells first last (IsUnbornOrFront k h) (gets.any_moment i read unborn only);
         lasts = gets.lasts;
+        second = gets.second;
       } in
       subst (λ (d : D). Gets tells k h status first.now d) back own
 

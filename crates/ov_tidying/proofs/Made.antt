@@ -17,12 +17,13 @@ use Rattle.ov_replaying.specs.Statuses.{IsFoundStatus}
 use Rattle.ov_report.specs.Ends.{EndsIn, EndsOr}
 use Rattle.ov_report.specs.Faults.{disk_line, memory_line}
 use Rattle.ov_store.specs.Beginning.{IsBeginAtFault, LeavesBlank, WritesNoBorn}
+use Rattle.ov_store.specs.Carrying.{IsOfSecondFormat}
 use Rattle.ov_store.specs.Opened.{Opened, Serves}
 use Rattle.ov_store.specs.Updating.{IsCallOf}
 use Rattle.ov_store.specs.declared.fault.BeginFault.{BeginFault}
 use Rattle.ov_store.specs.declared.fault.BeginFault.TheVariants.{Disk as DiskFailed}
 use Rattle.ov_thinning.specs.SealedThin.{thinned_sealed}
-use Rattle.ov_tidy.specs.Copies.{BeginsFor, ForEachThinned, KeepsFirst, LeavesCopy}
+use Rattle.ov_tidy.specs.Copies.{BeginsFor, ForEachThinned, KeepsFirst, KeepsStep, LeavesCopy}
 use Rattle.ov_tidying.proofs.Endings.{copied_by}
 use Rattle.ov_tidying.proofs.Images.{gets_copy, gets_none, keeps_it, whole_copy}
 use Rattle.ov_tidying.proofs.Unbegun.{not_empty, unbegun_by, unbegun_call, unbegun_kept, unbegun_not_read, unbegun_not_whole}
@@ -94,9 +95,12 @@ module _ {D E : Type 0} (olds : DiskTells D) (news : DiskTells E) (old : Opened 
         → ForEachThinned olds old kept (λ g.
         EndsCopied news g kept status put_old put_new after)
         → LeavesCopy olds news old kept store after → (status ≡ 4 → faults)
+        → Told (news.reads store.disk) (λ x. IsOfSecondFormat x.book)
+        → (status ≡ 0 → KeepsStep news store after)
         → ForEachThinned olds old kept (λ g. Told (news.reads first) (λ _.
         MakesCopy news k g status put_old put_new first last faults))
-    copied_made store after last is keys keys_then begun told told_then unborn copied left four =
+    copied_made store after last is keys keys_then begun told told_then unborn copied left four
+        second step =
         λ g serves thin i read j read_new.
         let mid = told j read_new in
         let later = told_then mid.0 mid.1 in
@@ -117,7 +121,9 @@ module _ {D E : Type 0} (olds : DiskTells D) (news : DiskTells E) (old : Opened 
                   first store.disk begun after.disk fronts status
                   (λ zero x may. let own = ends.whole zero in
                   keeps_it news g kept k h copy store after (keys_then ∙ keys) own.0 own.1 own.2
-                  fronts later.0 later.1 x may);
+                  fronts later.0 later.1 x may)
+                  (λ zero.
+                  (later.0, later.1, (mid.0, second mid.0 mid.1, step zero mid.0 mid.1 later.0 later.1)));
               ends = ends_kept g kept put_old put_new status ends.ends;
             },
           );

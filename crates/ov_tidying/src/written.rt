@@ -9,7 +9,7 @@ ghost use Rattle.ov_replaying.specs.Reading.{StaysAsItWas};
 ghost use Rattle.ov_replaying.specs.Statuses.{IsFoundStatus};
 ghost use Rattle.ov_report.specs.Ends.{EndsOr, IsPutTo};
 ghost use Rattle.ov_store.specs.Updating.{IsCallOf};
-ghost use Rattle.ov_tidy.specs.Copies.{BeginsFor, ForEachThinned, LeavesCopy};
+ghost use Rattle.ov_tidy.specs.Copies.{BeginsFor, ForEachThinned, KeepsStep, LeavesCopy};
 ghost use Rattle.ov_tidying.specs.Promises.{EndsOnBoth};
 ghost use Rattle.ov_tidying.specs.Writing.{CopyEnds, EndsCopied, HasThinned, MakesCopy, begin_line};
 ghost use Rattle.ov_tidying.specs.Writing.{begin_status, fault_for};
@@ -65,6 +65,7 @@ fn copy_all<O: Sink, D: Disk, E: Disk>(
     ensures copied { ForEachThinned D.tells old.old kept.now (λ g. EndsCopied E.tells g kept.now
         result (O.tells.written out.old) (O.tells.written out.new) new.new) }
     ensures any_moment { LeavesCopy D.tells E.tells old.old kept.now new.old new.new }
+    ensures step { result ≡ 0 → KeepsStep E.tells new.old new.new }
     ensures opened { Told (D.tells.reads old.old.disk) (λ _. IsRefused result → ⊥) }
     ensures stays { StaysAsItWas D.tells old.old old.new ⊥ }
     ensures told { StaysTold (E.tells.reads new.old.disk) (E.tells.reads new.new.disk) }

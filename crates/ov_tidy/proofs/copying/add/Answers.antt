@@ -1,6 +1,7 @@
 use Rattle.std.proofs.Common.{ℕ, Err, Result, subst, sym}
 use Rattle.std.specs.Prelude.{OnOk}
 use Rattle.ov_record.specs.Updates.{sealed_update}
+use Rattle.ov_store.specs.Carrying.{IsCarriedOver}
 use Rattle.ov_store.specs.Updating.{GoesOnAfter, ServesMore, Updates}
 use Rattle.ov_store.specs.declared.fault.StoreFault.{StoreFault}
 use Rattle.ov_tidy.specs.Copies.{Adds}
@@ -15,6 +16,13 @@ returns-in-Ok-clause-answer g c = (
   goes_on c.args.new.now c.update.new.self c.in-Ok.field-0 c.update.result c.in-Ok.is c.requires.whole
       c.update.ensures.state,
 )
+
+pub returns-in-Ok-clause-step : goal.returns-in-Ok-clause-step
+returns-in-Ok-clause-step g c =
+    let carried : IsCarriedOver g.E.Disk.tells c.args.new.now c.update.new.self =
+    subst (λ (r : Result ℕ StoreFault). OnOk r (IsCarriedOver g.E.Disk.tells c.args.new.now
+    c.update.new.self)) c.in-Ok.is c.update.ensures.carried in
+    λ i read k read_new. (carried i read k read_new).0
 
 pub returns-in-Err-clause-answer : goal.returns-in-Err-clause-answer
 returns-in-Err-clause-answer g c =

@@ -2,7 +2,7 @@ use Rattle.std.proofs.Common.{rules, ◌≡◌, ◌+◌, ◌<◌, ℕ, suc, arit
 use Rattle.std.proofs.lemmas.Option.{slice_get-get_or}
 use Rattle.ov_disk.proofs.Runs.{looks_then, untouched as untouched_yet}
 use Rattle.ov_tidy.specs.Copies.{HasCopied}
-use Rattle.ov_tidy.proofs.Copied.{calls_then, no_call, told_then}
+use Rattle.ov_tidy.proofs.Copied.{calls_then, no_call, step_still, step_then, told_then}
 use Rattle.ov_tidy.proofs.CopiedAll.{copied_all, left_all, left_then, next_copied, not_copied, nothing_copied}
 use Rattle.ov_tidy.proofs.copying.copy.Goals as goal
 
@@ -15,6 +15,7 @@ places-init g c = record {
   served = λ h serves. serves;
   whole = c.requires.whole;
   told = λ i is. (i, is);
+  step = step_still g.E.Disk.tells c.args.new.now;
   calls_old = no_call g.D.Disk.tells c.args.old.now;
   calls_new = no_call g.E.Disk.tells c.args.new.now;
 }
@@ -37,6 +38,8 @@ places-preserved g c =
       served = λ h serves. c.copy_one.ensures.served h (so_far.served h serves);
       whole = c.in-Ok.ensures.whole;
       told = told_then _ _ _ so_far.told c.copy_one.ensures.told;
+      step = step_then g.E.Disk.tells c.args.new.now c.places.new c.copy_one.new.new so_far.told
+          so_far.step c.in-Ok.ensures.step;
       calls_old = calls_then g.D.Disk.tells c.args.old.now c.places.old c.copy_one.new.old so_far.calls_old
           c.copy_one.ensures.calls.0;
       calls_new = calls_then g.E.Disk.tells c.args.new.now c.places.new c.copy_one.new.new so_far.calls_new

@@ -4,7 +4,7 @@ use Rattle.ov_disk.specs.Moments.{IsUntouched}
 use Rattle.ov_history.specs.Sealed.{SealedHistory}
 use Rattle.ov_store.specs.Opened.{Serves}
 use Rattle.ov_store.specs.Updating.{IsCallOf}
-use Rattle.ov_tidy.specs.Copies.{HasCopied}
+use Rattle.ov_tidy.specs.Copies.{HasCopied, KeepsStep}
 use Rattle.ov_tidy.proofs.copying.copy.Given as goal
 
 -- so many kept updates were copied, and nothing was written to the old disk
@@ -16,6 +16,7 @@ invariant-places g l = record {
   served : (h : SealedHistory) → Serves g.D.Disk.tells h l.fn.old → Serves g.D.Disk.tells h l.old;
   whole : l.new.failed ≡ false;
   told : StaysTold (g.E.Disk.tells.reads l.fn.new.disk) (g.E.Disk.tells.reads l.new.disk);
+  step : KeepsStep g.E.Disk.tells l.fn.new l.new;
   calls_old : IsCallOf g.D.Disk.tells l.fn.old l.old ⊥;
   calls_new : IsCallOf g.E.Disk.tells l.fn.new l.new ⊥;
 }

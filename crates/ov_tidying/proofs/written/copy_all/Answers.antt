@@ -3,6 +3,7 @@ use Rattle.ov_history.proofs.Showing.{history_is_shown}
 use Rattle.ov_history.specs.Catalogue.{Catalogue}
 use Rattle.ov_replaying.proofs.Endings.{fault_low, line_low}
 use Rattle.ov_tidying.proofs.Copying.{call_failed, copy_fault, fault_causes, fault_ends, some_fault, whole_causes, whole_ends}
+use Rattle.ov_tidying.proofs.Endings.{fault_no_zero}
 use Rattle.ov_tidying.proofs.written.copy_all.Goals as goal
 
 pub returns-in-Ok-clause-copied : goal.returns-in-Ok-clause-copied
@@ -64,3 +65,10 @@ returns-in-Err-clause-causes g c =
     (λ failed. c.in-Err.ensures.causes
     (ap Err (call_failed c.in-Err.fault c.fault_of.result c.fault_of.ensures failed)))
     c.put_fault.ensures.ends
+
+pub returns-in-Ok-clause-step : goal.returns-in-Ok-clause-step
+returns-in-Ok-clause-step g c = λ zero. c.in-Ok.ensures.step
+
+pub returns-in-Err-clause-step : goal.returns-in-Err-clause-step
+returns-in-Err-clause-step g c = λ zero.
+    absurd (fault_no_zero c.fault_of.result _ _ c.put_fault.result c.put_fault.ensures.ends zero)

@@ -40,7 +40,7 @@ returns-in-Ok-clause-made g c =
     c.in-Ok.store.disk) same c.in-Ok.ensures.any_moment)
     c.in-Ok.ensures.begun.told c.copy_all-code.ensures.told c.in-Ok.ensures.begun.unborn
     c.copy_all-code.ensures.copied c.copy_all-code.ensures.any_moment
-    (λ e. search rules)
+    (λ e. search rules) c.in-Ok.ensures.begun.fresh c.copy_all-code.ensures.step
 
 pub returns-in-Err-clause-made : goal.returns-in-Err-clause-made
 returns-in-Err-clause-made g c =
