@@ -114,4 +114,4 @@ module _ (master : List ℕ) where
 
   pub files_alike : (g : SealedHistory)
       → AreAlike (catalogue_of master g).files (matrix_of (outer_of g)).files
-  files_alike g = alike_all (empty_catalogue g.mode g.first) no_one g.updates (refl, λ n. refl)
+  files_alike g = alike_all (empty_catalogue g.mode g.first g.limits) no_one g.updates (refl, λ n. refl)

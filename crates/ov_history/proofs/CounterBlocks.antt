@@ -11,6 +11,9 @@ use Rattle.ov_history.specs.History.{Update, changed, delisted, epoch_of, listed
 use Rattle.ov_history.specs.History.{start_of, with_update}
 use Rattle.ov_history.specs.Plain.{history_of, measured_all}
 use Rattle.ov_history.specs.Layers.{layers_of}
+use Rattle.ov_history.specs.Limits.{Limits, most_files}
+use Rattle.ov_history.proofs.MatrixLaws.{limits_of-layers_of}
+use Rattle.std.proofs.Math.Nat.{min-le_right}
 use Rattle.ov_history.specs.Refusals.{AllAccepted, IsLegal, refusal_of, tests_of}
 use Rattle.ov_history.specs.Words.{IsPadded, longer_plain}
 use Rattle.ov_history.specs.WordLaws.{CounterBlocksDiffer, NoBlockTwice}
@@ -32,15 +35,16 @@ use Rattle.ov_history.specs.History.{Removed, Replaced}
 
 -- an update that isn't refused leaves no more files than there may be
 few_after : (h : History) (u : Update) → refusal_of h u ≡ None
-    → length (matrix_of h).files ≤ MAX_FILES
-    → length (changed (matrix_of h) u).files ≤ MAX_FILES
+    → length (matrix_of h).files ≤ most_files h.limits
+    → length (changed (matrix_of h) u).files ≤ most_files h.limits
 few_after h (Enrolled name) none few = few
 few_after h (Created name list size) none few =
     let m : Matrix = matrix_of h in
     let new : File = record { name = name; length = size; list = list } in
-    let full : nat_le MAX_FILES (length m.files) ≡ false =
+    let full : nat_le (most_files h.limits) (length m.files) ≡ false =
+    subst (λ (l : Limits). nat_le (most_files l) (length m.files) ≡ false) (limits_of-layers_of h)
     (none_applies (tests_of m (layers_of h) (epoch_of h) (Created name list size)) none).1.1.0 in
-    omega (arith, gt_of_false MAX_FILES (length m.files) full, length-append m.files (Some new ∷ []))
+    omega (arith, gt_of_false (most_files h.limits) (length m.files) full, length-append m.files (Some new ∷ []))
 few_after h (Granted user file) none few =
     omega (arith, length-change_at (option_map (listed user)) file (matrix_of h).files)
 few_after h (Revoked user file) none few =
@@ -49,23 +53,26 @@ few_after h (Removed file) none few =
     omega (arith, length-change_at gone file (matrix_of h).files)
 few_after h (Replaced file size) none few =
     let m : Matrix = matrix_of h in
-    let full : nat_le MAX_FILES (length m.files) ≡ false =
+    let full : nat_le (most_files h.limits) (length m.files) ≡ false =
+    subst (λ (l : Limits). nat_le (most_files l) (length m.files) ≡ false) (limits_of-layers_of h)
     (none_applies (tests_of m (layers_of h) (epoch_of h) (Replaced file size)) none).1.0 in
-    omega (arith, gt_of_false MAX_FILES (length m.files) full, length-anew m file size)
+    omega (arith, gt_of_false (most_files h.limits) (length m.files) full, length-anew m file size)
 
 few_all : (h : History) (updates : List Update) → AllAccepted h updates
-    → length (matrix_of h).files ≤ MAX_FILES
-    → length (matrix_of (with_updates h updates)).files ≤ MAX_FILES
+    → length (matrix_of h).files ≤ most_files h.limits
+    → length (matrix_of (with_updates h updates)).files ≤ most_files h.limits
 few_all h [] accepted few = few
 few_all h (u ∷ updates) accepted few =
     few_all (with_update h u) updates accepted.1
-    (subst (λ (m : Matrix). length m.files ≤ MAX_FILES) (sym (matrix_of-push h u))
+    (subst (λ (m : Matrix). length m.files ≤ most_files h.limits) (sym (matrix_of-push h u))
     (few_after h u accepted.0 few))
 
 few_files : (h : History) → IsLegal h → length (matrix_of h).files ≤ MAX_FILES
 few_files h legal =
-    subst (λ (g : History). length (matrix_of g).files ≤ MAX_FILES) (with_updates-all h)
-    (few_all (start_of h) h.updates legal (omega arith))
+    let few : length (matrix_of h).files ≤ most_files h.limits =
+    subst (λ (g : History). length (matrix_of g).files ≤ most_files h.limits) (with_updates-all h)
+    (few_all (start_of h) h.updates legal (omega arith)) in
+    omega (arith, few, min-le_right h.limits.files MAX_FILES)
 
 -- ---- the laws
 

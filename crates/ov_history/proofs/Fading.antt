@@ -480,7 +480,7 @@ faded_show_the_same master g fit =
     (ap (λ (m : Matrix). is_file m n) (sym (matrix-shown master g fit))
     ∙ ap (λ (o : Option File). is_some o) (shown_there (outline c) c.files n)
     ∙ is_some-map (file_shown (outline c)) (living_at c.files n) ∙ there) in
-    all_dim (is_gone_from g) master (empty_catalogue g.mode g.first) g.updates
+    all_dim (is_gone_from g) master (empty_catalogue g.mode g.first g.limits) g.updates
     ∙ ap (λ (files : List (Option Filed)). record c { files = files })
     (not_dim (is_gone_from g) 0 c.files none)
 
@@ -547,7 +547,7 @@ module _ (is_out : ℕ → Bool) where
 
 pub outer_faded_of : (g : SealedHistory) → outer_of (faded_of g) ≡ outer_of g
 outer_faded_of g =
-    ap (λ updates. record { mode = g.mode; first = g.first; updates = updates })
+    ap (λ updates. record { mode = g.mode; first = g.first; limits = g.limits; updates = updates })
     (outer_all_dim (is_gone_from g) 0 g.updates)
 
 pub faded_is_sealed : FadedIsSealed

@@ -122,4 +122,4 @@ module _ (master : List ℕ) where
 
   pub gone_bytes : (g : SealedHistory) → NoneLeft (catalogue_of master g).files (stored_of master g)
   gone_bytes g =
-      left_all (empty_catalogue g.mode g.first) [] g.updates refl (λ n none. refl)
+      left_all (empty_catalogue g.mode g.first g.limits) [] g.updates refl (λ n none. refl)

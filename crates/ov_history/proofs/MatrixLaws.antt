@@ -114,6 +114,19 @@ mode_of-layers_of = each_history (λ (h : History). (layers_of h).mode ≡ h.mod
     (λ h u same. ap (λ (y : Layers). y.mode) (layers_of-push h u) ∙ mode_after (layers_of h) u
     ∙ same)
 
+limits_after : (y : Layers) (u : Update) → (layers_after y u).limits ≡ y.limits
+limits_after y (Enrolled user) = refl
+limits_after y (Created file list size) = refl
+limits_after y (Granted user file) = refl
+limits_after y (Revoked user file) = refl
+limits_after y (Removed file) = refl
+limits_after y (Replaced file size) = refl
+
+pub limits_of-layers_of : (h : History) → (layers_of h).limits ≡ h.limits
+limits_of-layers_of = each_history (λ (h : History). (layers_of h).limits ≡ h.limits) (λ h. refl)
+    (λ h u same. ap (λ (y : Layers). y.limits) (layers_of-push h u) ∙ limits_after (layers_of h) u
+    ∙ same)
+
 epoch_after : (y : Layers) (u : Update) → (layers_after y u).epoch ≡ y.epoch + 1
 epoch_after y (Enrolled user) = refl
 epoch_after y (Created file list size) = refl

@@ -228,5 +228,5 @@ outline-all master c h (u ∷ updates) is fit =
 pub outline-shown : (master : List ℕ) (g : SealedHistory) → IsSealed g
     → outline (catalogue_of master g) ≡ layers_of (outer_of g)
 outline-shown master g fit =
-    outline-all master (empty_catalogue g.mode g.first) (start_of (outer_of g)) g.updates refl fit
+    outline-all master (empty_catalogue g.mode g.first g.limits) (start_of (outer_of g)) g.updates refl fit
     ∙ ap layers_of (with_updates-all (outer_of g))

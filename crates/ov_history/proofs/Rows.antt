@@ -3,6 +3,7 @@ use Rattle.std.specs.Prelude.{ℕ, ◌≡◌, List, [], ◌∷◌, ◌++◌, Som
 use Rattle.std.proofs.Common.{refl}
 use Rattle.ov_base.specs.declared.mode.Mode.TheVariants.{Full, Delta}
 use Rattle.ov_history.specs.History.{History, Update, Enrolled, Created, Granted, Revoked}
+use Rattle.ov_history.specs.Limits.{usual}
 use Rattle.ov_history.specs.Layers.{Layers, Place, layers_of}
 use Rattle.std.specs.Prelude.{Option}
 use Rattle.ov_history.specs.History.{Removed, Replaced}
@@ -25,12 +26,13 @@ shared =
     ∷ Created (102 ∷ 50 ∷ []) 3 0 ∷ Granted 2 0 ∷ []
 
 abbrev in_delta : List Update → Layers
-in_delta updates = layers_of (record { mode = Delta; first = 0; updates = updates })
+in_delta updates = layers_of (record { mode = Delta; first = 0; limits = usual; updates = updates })
 
 abbrev three_users : ℕ → List (Option Place) → Layers
 three_users epoch files = record {
   mode = Delta;
   epoch = epoch;
+  limits = usual;
   users = 3;
   base = 1 ∷ 2 ∷ 4 ∷ 3 ∷ [];
   surface = 1 ∷ 2 ∷ 4 ∷ 3 ∷ [];
@@ -57,6 +59,7 @@ abbrev emptied : History
 emptied = record {
   mode = Full;
   first = 0;
+  limits = usual;
   updates = Enrolled (97 ∷ []) ∷ Created (102 ∷ []) 1 0 ∷ Revoked 0 0 ∷ [];
 }
 
@@ -64,6 +67,7 @@ emptied = record {
 emptied_layers : layers_of emptied ≡ record {
   mode = Full;
   epoch = 3;
+  limits = usual;
   users = 1;
   base = 1 ∷ [];
   surface = 1 ∷ 0 ∷ [];
@@ -77,9 +81,10 @@ abbrev for_nobody : List Update
 for_nobody = Enrolled (97 ∷ []) ∷ Created (102 ∷ []) 0 0 ∷ []
 
 -- in Full both layers have the empty set as node 1
-nobody_in_full : layers_of (record { mode = Full; first = 0; updates = for_nobody }) ≡ record {
+nobody_in_full : layers_of (record { mode = Full; first = 0; limits = usual; updates = for_nobody }) ≡ record {
   mode = Full;
   epoch = 2;
+  limits = usual;
   users = 1;
   base = 1 ∷ 0 ∷ [];
   surface = 1 ∷ 0 ∷ [];
@@ -89,9 +94,10 @@ nobody_in_full : layers_of (record { mode = Full; first = 0; updates = for_nobod
 nobody_in_full = refl
 
 -- in Delta the base node's own list needs no surface
-nobody_in_delta : layers_of (record { mode = Delta; first = 0; updates = for_nobody }) ≡ record {
+nobody_in_delta : layers_of (record { mode = Delta; first = 0; limits = usual; updates = for_nobody }) ≡ record {
   mode = Delta;
   epoch = 2;
+  limits = usual;
   users = 1;
   base = 1 ∷ 0 ∷ [];
   surface = 1 ∷ [];
@@ -109,6 +115,7 @@ removal = Enrolled (97 ∷ []) ∷ Enrolled (98 ∷ []) ∷ Created (102 ∷ [])
 removed_layers : in_delta (removal ++ Created (102 ∷ []) 2 0 ∷ []) ≡ record {
   mode = Delta;
   epoch = 6;
+  limits = usual;
   users = 2;
   base = 1 ∷ 2 ∷ [];
   surface = 1 ∷ 2 ∷ [];
@@ -128,6 +135,7 @@ replacing =
 replaced_layers : in_delta replacing ≡ record {
   mode = Delta;
   epoch = 5;
+  limits = usual;
   users = 2;
   base = 1 ∷ 2 ∷ 3 ∷ [];
   surface = 1 ∷ 2 ∷ [];
@@ -146,6 +154,7 @@ replaced_edges = refl
 removed_again : in_delta (replacing ++ Removed 1 ∷ Created (102 ∷ []) 2 0 ∷ []) ≡ record {
   mode = Delta;
   epoch = 7;
+  limits = usual;
   users = 2;
   base = 1 ∷ 2 ∷ 3 ∷ [];
   surface = 1 ∷ 2 ∷ [];

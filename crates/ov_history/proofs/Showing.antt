@@ -246,7 +246,7 @@ matrix-all master c h (u ∷ updates) is same fit =
 pub matrix-shown : (master : List ℕ) (g : SealedHistory) → IsSealed g
     → matrix_shown (catalogue_of master g) ≡ matrix_of (outer_of g)
 matrix-shown master g fit =
-    matrix-all master (empty_catalogue g.mode g.first) (start_of (outer_of g)) g.updates refl refl
+    matrix-all master (empty_catalogue g.mode g.first g.limits) (start_of (outer_of g)) g.updates refl refl
     fit
     ∙ ap (λ (h : History). matrix_of h) (with_updates-all (outer_of g))
 

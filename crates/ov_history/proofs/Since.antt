@@ -74,7 +74,7 @@ end_fades g =
 -- what fades from a start is the same update without its parts
 outer_from : (start : History) (g : SealedHistory) → outer_of (faded_from start g) ≡ outer_of g
 outer_from start g =
-    ap (λ (us : List Update). record { mode = g.mode; first = g.first; updates = us })
+    ap (λ (us : List Update). record { mode = g.mode; first = g.first; limits = g.limits; updates = us })
     (outer_all_dim (was_gone start) 0 g.updates)
 
 -- histories that agree do so from their own end

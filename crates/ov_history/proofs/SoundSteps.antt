@@ -5,6 +5,8 @@ use Rattle.std.specs.Prelude.{Contains, Option, Some, None, is_some, option_map,
 use Rattle.ov_base.specs.Sets.{empty as nobody, IsBelow}
 use Rattle.ov_base.proofs.SetLaws.{IsBelow-Within}
 use Rattle.ov_base.specs.declared.limits.TheConstants.{MAX_LAYER_NODES}
+use Rattle.ov_history.specs.Limits.{most_nodes}
+use Rattle.std.proofs.Math.Nat.{min-le_right}
 use Rattle.ov_graph.proofs.ListLaws.{Contains-none}
 use Rattle.ov_base_layer.specs.Holders.{accesses_of, AreFirst}
 use Rattle.ov_history.specs.Layers.{Layers, holders, list_at, list_in, lists_after, lists_of}
@@ -113,14 +115,16 @@ ready_after c b sound fine parts = record {
       (λ file f is. let placed = sound.files file f is in (placed.base, placed.list))
 
 settled_sound : (master : List ℕ) (c : Catalogue) (lists : List (Option ℕ)) → IsReady c lists
-    → length c.base.sets ≤ MAX_LAYER_NODES
-    → length (with_wants c.surface.sets (wants_of (outline c) lists)) ≤ MAX_LAYER_NODES
+    → length c.base.sets ≤ most_nodes c.limits
+    → length (with_wants c.surface.sets (wants_of (outline c) lists)) ≤ most_nodes c.limits
     → IsSound (settled_catalogue master c lists)
 settled_sound master c lists ready few_base few_surface = record {
-  base = formed-layer (length c.users) c.base ready.base few_base;
+  base = formed-layer (length c.users) c.base ready.base (bounded few_base);
   surface = formed-layer (length c.users) (with_surfaces master c.surface wants)
       (formed_surfaces master (length c.users) c.surface wants ready.surface wanted_below)
-      (subst (λ sets. length sets ≤ MAX_LAYER_NODES) (sym same) few_surface);
+      (bounded few_there);
+  few_base = few_base;
+  few_surface = few_there;
   accesses = ready.accesses;
   files = placed;
 } where
@@ -132,6 +136,12 @@ settled_sound master c lists ready few_base few_surface = record {
 
   same : after.surface.sets ≡ with_wants c.surface.sets wants
   same = with_surfaces-sets master wants c.surface
+
+  few_there : length after.surface.sets ≤ most_nodes c.limits
+  few_there = subst (λ sets. length sets ≤ most_nodes c.limits) (sym same) few_surface
+
+  bounded : {n : ℕ} → n ≤ most_nodes c.limits → n ≤ MAX_LAYER_NODES
+  bounded few = omega (arith, few, min-le_right c.limits.nodes MAX_LAYER_NODES)
 
   wanted_below : (set : ℕ) → Contains wants (Some set) → IsBelow (length c.users) set
   wanted_below = wants_below (length c.users) (outline c) lists (places c.files) ready.held
@@ -154,8 +164,8 @@ sound_after master c b sound refused parts =
     let grows = outline-grown c b parts in
     let lists : List (Option ℕ) = lists_after (lists_of (outline c)) (outer b) in
     settled_sound master (grown_catalogue c b) lists (ready_after c b sound passed.0 parts)
-    (subst (λ (y : Layers). length y.base ≤ MAX_LAYER_NODES) (sym grows) passed.1.base)
-    (subst (λ (y : Layers). length (with_wants y.surface (wants_of y lists)) ≤ MAX_LAYER_NODES)
+    (subst (λ (y : Layers). length y.base ≤ most_nodes y.limits) (sym grows) passed.1.base)
+    (subst (λ (y : Layers). length (with_wants y.surface (wants_of y lists)) ≤ most_nodes y.limits)
     (sym grows) passed.1.surface)
 
 -- ---- the beginning
@@ -176,9 +186,11 @@ none_formed = record {
 }
 
 pub nothing_is_sound : NothingIsSound
-nothing_is_sound mode first = record {
+nothing_is_sound mode first limits = record {
   base = none_formed;
   surface = none_formed;
+  few_base = omega arith;
+  few_surface = omega arith;
   accesses = record {
     users = λ access there. absurd (Contains-none access there);
     nodes = λ access there. absurd (Contains-none access there);

@@ -5,7 +5,7 @@ use Rattle.std.specs.Prelude.{not, nat_lt, None}
 use Rattle.std.proofs.lemmas.Bool.{cases_lt, or_parts}
 use Rattle.std.proofs.lemmas.Nat.Bits.{bit_at_ones_above}
 use Rattle.ov_base.specs.Sets.{IsBelow}
-use Rattle.ov_base.specs.declared.limits.TheConstants.{MAX_LAYER_NODES}
+use Rattle.ov_history.specs.Limits.{most_nodes}
 use Rattle.ov_base.proofs.SetLaws.{Has-bit, within-Within}
 use Rattle.ov_base.proofs.Tests.{ge_of_false, lt_of_true, true_of_not}
 use Rattle.ov_history.specs.Lists.{everyone}
@@ -38,8 +38,8 @@ IsFine c (BriefReplace file tokens tag size) = is_some (living_at c.files file) 
 
 -- neither layer has too many nodes
 pub record HasFewNodes (y : Layers) : Type 0 where
-  pub base : length y.base ≤ MAX_LAYER_NODES
-  pub surface : length y.surface ≤ MAX_LAYER_NODES
+  pub base : length y.base ≤ most_nodes y.limits
+  pub surface : length y.surface ≤ most_nodes y.limits
 
 -- no test of these applies
 abbrev pub NoneApplies : List Test → Type 0
@@ -54,10 +54,10 @@ none_applies ((why, false) ∷ tests) e = (refl, none_applies tests e)
 few_nodes : (y : Layers) → is_past_nodes y ≡ false → HasFewNodes y
 few_nodes y e =
     let both =
-    or_parts (nat_lt MAX_LAYER_NODES (length y.base)) (nat_lt MAX_LAYER_NODES (length y.surface))
+    or_parts (nat_lt (most_nodes y.limits) (length y.base)) (nat_lt (most_nodes y.limits) (length y.surface))
     e in record {
-      base = ge_of_false MAX_LAYER_NODES (length y.base) both.0;
-      surface = ge_of_false MAX_LAYER_NODES (length y.surface) both.1;
+      base = ge_of_false (most_nodes y.limits) (length y.base) both.0;
+      surface = ge_of_false (most_nodes y.limits) (length y.surface) both.1;
     }
 
 -- everyone is below the number of users

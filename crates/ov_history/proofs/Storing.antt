@@ -288,7 +288,7 @@ pub coats_of : (master : List ℕ) (g : SealedHistory)
     → let files = (catalogue_of master g).files in
     HasCoats master files files (sent_of g) (stored_of master g)
 coats_of master g =
-    coats_all master (empty_catalogue g.mode g.first) [] [] g.updates (record {
+    coats_all master (empty_catalogue g.mode g.first g.limits) [] [] g.updates (record {
       texts_many = refl;
       stored_many = refl;
       sizes = λ n f is. absurd (cc);

@@ -1,4 +1,5 @@
 -- The catalogue: all that a store publishes.
+use Rattle.ov_history.specs.Limits.{Limits}
 use Rattle.std.specs.Prelude.{ℕ, ◌+◌, Bool, true, false, List, [], ◌∷◌, ◌++◌, length}
 use Rattle.std.specs.Prelude.{Option, Some, None, option_map, unwrap_or}
 use Rattle.ov_base.specs.Sets.{single}
@@ -40,6 +41,7 @@ pub record Filed : Type 0 where
 pub record Catalogue : Type 0 where
   pub mode : Mode
   pub epoch : ℕ
+  pub limits : Limits
   pub users : List (List ℕ)
   pub base : Nodes
   pub surface : Nodes
@@ -51,10 +53,11 @@ abbrev pub no_nodes : Nodes
 no_nodes = record { sets = []; edges = [] }
 
 -- the catalogue of a store of this mode that begins empty, at this epoch
-abbrev pub empty_catalogue : Mode → ℕ → Catalogue
-empty_catalogue mode first = record {
+abbrev pub empty_catalogue : Mode → ℕ → Limits → Catalogue
+empty_catalogue mode first limits = record {
   mode = mode;
   epoch = first;
+  limits = limits;
   users = [];
   base = no_nodes;
   surface = no_nodes;
@@ -86,6 +89,7 @@ abbrev pub outline : Catalogue → Layers
 outline c = record {
   mode = c.mode;
   epoch = c.epoch;
+  limits = c.limits;
   users = length c.users;
   base = c.base.sets;
   surface = c.surface.sets;

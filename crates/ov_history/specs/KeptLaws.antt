@@ -1,4 +1,5 @@
 -- The laws of sealing, and of stores that keep a legal history that is sealed under two masters.
+use Rattle.ov_history.specs.Limits.{Limits}
 use Rattle.std.specs.Prelude.{◌≡◌, ◌↔◌, ℕ, ◌<◌, List, [], ◌∷◌, length, slice_index_or}
 use Rattle.std.specs.Prelude.{Some, None, true}
 use Rattle.ov_base.specs.declared.mode.Mode.{Mode}
@@ -65,9 +66,9 @@ OwnersHistories =
 -- a store that begins empty keeps the history without updates
 abbrev pub NothingIsKept : Type 0
 NothingIsKept =
-    (k : Masters) (mode : Mode) (first : ℕ)
-    → IsKept k (empty_plain mode first) (empty_catalogue mode first)
-    × AreKept k (empty_plain mode first) []
+    (k : Masters) (mode : Mode) (first : ℕ) (limits : Limits)
+    → IsKept k (empty_plain mode first limits) (empty_catalogue mode first limits)
+    × AreKept k (empty_plain mode first limits) []
 
 -- a store that keeps a history goes on with each update that the history doesn't refuse, in both
 -- halves

@@ -1,4 +1,5 @@
 -- The two layers of sets that a history makes, and where each file is in them.
+use Rattle.ov_history.specs.Limits.{Limits}
 use Rattle.std.specs.Prelude.{ℕ, ◌+◌, ◌==◌, Bool, true, false, List, [], ◌∷◌, ◌++◌, slice_index}
 use Rattle.std.specs.Prelude.{Option, Some, None, option_map, unwrap_or}
 use Rattle.ov_base.specs.Sets.{empty as nobody, single, has, with, without}
@@ -43,6 +44,7 @@ pub record Place : Type 0 where
 pub record Layers : Type 0 where
   pub mode : Mode
   pub epoch : ℕ
+  pub limits : Limits
   pub users : ℕ
   pub base : List ℕ
   pub surface : List ℕ
@@ -50,10 +52,11 @@ pub record Layers : Type 0 where
   pub files : List (Option Place)
 
 -- the layers of a store that begins empty
-abbrev pub no_layers : Mode → ℕ → Layers
-no_layers mode first = record {
+abbrev pub no_layers : Mode → ℕ → Limits → Layers
+no_layers mode first limits = record {
   mode = mode;
   epoch = first;
+  limits = limits;
   users = 0;
   base = [];
   surface = [];
@@ -230,4 +233,4 @@ layers_all y (u ∷ updates) = layers_all (layers_after y u) updates
 
 -- the layers that a history makes
 abbrev pub layers_of : History → Layers
-layers_of h = layers_all (no_layers h.mode h.first) h.updates
+layers_of h = layers_all (no_layers h.mode h.first h.limits) h.updates

@@ -2,6 +2,7 @@
 use Rattle.std.specs.Prelude.{◌≡◌, ℕ, ◌<◌, ◌≤◌, length, Contains, Some, IfSome}
 use Rattle.ov_base.specs.Sets.{single, IsBelow, Within}
 use Rattle.ov_base.specs.declared.limits.TheConstants.{MAX_LAYER_NODES}
+use Rattle.ov_history.specs.Limits.{most_nodes}
 use Rattle.ov_base_layer.specs.Holders.{accesses_of, AreFirst}
 use Rattle.ov_graph.specs.Contents.{IsGraph}
 use Rattle.ov_history.specs.Places.{living_at}
@@ -22,9 +23,11 @@ pub record IsPlaced (c : Catalogue) (f : Filed) : Type 0 where
   pub surface : IfSome f.surface (λ n. n < length c.surface.sets)
   pub list : Within (list_at (outline c) (place_of_file f)) (holders (outline c) f.node)
 
--- what holds of a catalogue: of both layers, of the accesses, and of each file
+-- what holds of a catalogue: of both layers, which are within its limits, of the accesses, and of each file
 pub record IsSound (c : Catalogue) : Type 0 where
   pub base : IsLayer (length c.users) c.base
   pub surface : IsLayer (length c.users) c.surface
+  pub few_base : length c.base.sets ≤ most_nodes c.limits
+  pub few_surface : length c.surface.sets ≤ most_nodes c.limits
   pub accesses : AreFirst (length c.users) c.base.sets (accesses_of c.grants)
   pub files : (file : ℕ) (f : Filed) → living_at c.files file ≡ Some f → IsPlaced c f

@@ -1,4 +1,6 @@
 -- A change as it is made, part by part.
+use Rattle.ov_history.specs.Limits.{Limits}
+use Rattle.std.proofs.Math.Nat.{min-le_right}
 use Rattle.std.specs.Prelude.{Option, option_map}
 use Rattle.std.proofs.Common.{◌≡◌, ℕ, ◌+◌, ◌≤◌, List, [], ◌∷◌, length, refl, sym, ◌∙◌, ap, subst, arith}
 use Rattle.std.specs.Prelude.{None}
@@ -15,20 +17,21 @@ use Rattle.ov_state.specs.Changes.{applied, users_grown, files_grown, grants_gro
 use Rattle.ov_state.specs.declared.change.Change.{Change}
 
 -- the catalogue of the parts after a change, where each part was changed as it says
-pub made_is_applied : {W : ℕ} (old : Catalogue) (c : Change W) (mode : Mode) (epoch : ℕ) (users new_users : List (List ℕ)) (base new_base : BaseContents)
+pub made_is_applied : {W : ℕ} (old : Catalogue) (c : Change W) (mode : Mode) (epoch : ℕ) (limits : Limits) (users new_users : List (List ℕ)) (base new_base : BaseContents)
     (surface new_surface : Contents) (files grown new_files : List (Option Filed))
-    → catalogue_by mode epoch users base surface files ≡ old
+    → catalogue_by mode epoch limits users base surface files ≡ old
     → new_users ≡ users_grown users c.growth
     → nodes_of new_base.graph ≡ node_added_if (nodes_of base.graph) c.base
     → new_base.grants ≡ grants_grown base.grants c.growth
     → nodes_of new_surface ≡ nodes_added (nodes_of surface) c.surface.items
     → grown ≡ files_grown files c.growth
     → new_files ≡ all_rewritten (epoch + 1) c.rewrites.items grown
-    → catalogue_by mode (epoch + 1) new_users new_base new_surface new_files ≡ applied old c
-made_is_applied {W} old c mode epoch users new_users base new_base surface new_surface files grown new_files view u n g s f r =
+    → catalogue_by mode (epoch + 1) limits new_users new_base new_surface new_files ≡ applied old c
+made_is_applied {W} old c mode epoch limits users new_users base new_base surface new_surface files grown new_files view u n g s f r =
     (λ i. record {
       mode = mode;
       epoch = epoch + 1;
+      limits = limits;
       users = u i;
       base = n i;
       surface = s i;
@@ -56,4 +59,5 @@ grown_few limit old c suits files is =
       ap (λ (fs : List (Option Filed)). length (files_grown fs c.growth)) is,
       length-rewritten (old.epoch + 1) c.rewrites.items (files_grown old.files c.growth),
       suits.well.files,
+      min-le_right (applied old c).limits.files MAX_FILES,
     )

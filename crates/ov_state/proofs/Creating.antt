@@ -1,4 +1,5 @@
 -- Creations: what they make, and why they are refused.
+use Rattle.ov_history.specs.Limits.{most_nodes}
 use Rattle.std.proofs.Common.{◌≡◌, ℕ, ◌+◌, ◌<◌, Bool, true, false, not, List, [], ◌∷◌, ◌++◌, length, refl, sym, ◌∙◌, ap, arith, true≢false}
 use Rattle.std.specs.Prelude.{◌||◌, nat_lt, Option, Some, None}
 use Rattle.std.proofs.lemmas.Bool.Decides.{nat_tests}
@@ -29,7 +30,7 @@ use Rattle.ov_state.proofs.NewTests.{first_among, first_after}
 use Rattle.ov_state.proofs.SettledMore.{rewrites-appended}
 use Rattle.ov_state.proofs.Staying.{AreKept, kept-with_wants, surfaces-kept, wants-kept, files-kept}
 use Rattle.ov_state.proofs.StayingFiles.{HasHolders, files_kept, files_below, wants-stay, wants-append}
-use Rattle.ov_base.specs.declared.limits.TheConstants.{LAST_EPOCH, MAX_LAYER_NODES}
+use Rattle.ov_base.specs.declared.limits.TheConstants.{LAST_EPOCH}
 
 -- ---- what is made
 
@@ -159,7 +160,7 @@ module _ (limit : ℕ) (master : List ℕ) (s : Catalogue) (name : List ℕ) (li
 
   pub past_nodes : is_past_nodes (layers_after (outline s) (Created name list size)) ≡ is_past_then s list
   past_nodes =
-      ap (λ sets. nat_lt MAX_LAYER_NODES (length (with_set s.base.sets list)) || nat_lt MAX_LAYER_NODES (length sets)) surface_sets
+      ap (λ sets. nat_lt (most_nodes s.limits) (length (with_set s.base.sets list)) || nat_lt (most_nodes s.limits) (length sets)) surface_sets
 
   refusal_create : refusal_shown s update
       ≡ first_of_tests (tests_before s name list size ++ (NodesFull, is_past_then s list) ∷ (Spent, is_last s.epoch) ∷ [])

@@ -1,4 +1,6 @@
 -- The change of a creation makes the catalogue after it.
+use Rattle.ov_history.specs.Limits.{most_nodes}
+use Rattle.std.proofs.Math.Nat.{min-le_right}
 use Rattle.std.specs.Prelude.{option_map, Some}
 use Rattle.std.specs.Prelude.{Option}
 use Rattle.std.proofs.Common.{◌≡◌, ℕ, ◌+◌, ◌<◌, ◌≤◌, Bool, true, false, List, [], ◌∷◌, ◌++◌, length, refl, sym, ◌∙◌, ap, subst, arith, length-append, true≢false}
@@ -74,6 +76,7 @@ module _ {W : ℕ} (limit : ℕ) (master : List ℕ) (s : Catalogue) (name : Lis
   by_parts : applied s c ≡ record {
     mode = s.mode;
     epoch = s.epoch + 1;
+    limits = s.limits;
     users = s.users;
     base = node_added_if s.base (new_node_if site.cover.fresh (node site.cover));
     surface = nodes_added s.surface site.surface.items;
@@ -83,6 +86,7 @@ module _ {W : ℕ} (limit : ℕ) (master : List ℕ) (s : Catalogue) (name : Lis
   by_parts = (λ i. record {
     mode = s.mode;
     epoch = s.epoch + 1;
+    limits = s.limits;
     users = users_grown s.users (is.growth i);
     base = node_added_if s.base (is.base i);
     surface = nodes_added s.surface (is.surface i);
@@ -91,6 +95,7 @@ module _ {W : ℕ} (limit : ℕ) (master : List ℕ) (s : Catalogue) (name : Lis
   }) ∙ ap (λ (files : List (Option Filed)). record {
     mode = s.mode;
     epoch = s.epoch + 1;
+    limits = s.limits;
     users = s.users;
     base = node_added_if s.base (new_node_if site.cover.fresh (node site.cover));
     surface = nodes_added s.surface site.surface.items;
@@ -104,6 +109,7 @@ module _ {W : ℕ} (limit : ℕ) (master : List ℕ) (s : Catalogue) (name : Lis
       ∙ (λ i. record {
         mode = s.mode;
         epoch = s.epoch + 1;
+        limits = s.limits;
         users = s.users;
         base = node_added_if s.base (new_node_if (place.cover i).fresh (node (place.cover i)));
         surface = place.nodes i;
@@ -122,13 +128,14 @@ module _ {W : ℕ} (limit : ℕ) (master : List ℕ) (s : Catalogue) (name : Lis
       → length s.base.sets < MAX_LAYER_NODES
   few false e fresh none = absurd (true≢false (sym fresh))
   few true e fresh none =
-      room (nat_lt MAX_LAYER_NODES (length (with_set s.base.sets list))) _ none
-      (ap (λ b. nat_lt MAX_LAYER_NODES (length (appended b s.base.sets list))) e) where
-        room : (one other : Bool) → (one || other) ≡ false → one ≡ nat_lt MAX_LAYER_NODES (length (s.base.sets ++ list ∷ []))
+      room (nat_lt (most_nodes s.limits) (length (with_set s.base.sets list))) _ none
+      (ap (λ b. nat_lt (most_nodes s.limits) (length (appended b s.base.sets list))) e) where
+        room : (one other : Bool) → (one || other) ≡ false → one ≡ nat_lt (most_nodes s.limits) (length (s.base.sets ++ list ∷ []))
             → length s.base.sets < MAX_LAYER_NODES
         room true other none e = absurd (true≢false none)
         room false other none e =
             let sum = length-append s.base.sets (list ∷ []) in
+            let low = min-le_right s.limits.nodes MAX_LAYER_NODES in
             grind (arith, nat_tests)
 
   fresh_node : (b : Bool) → site.cover.fresh ≡ b → IsBelow (length s.users) list → length tokens ≡ length (plan_of s.base.sets list).from

@@ -1,4 +1,5 @@
 -- What a grant or a revocation makes of the list of a file, or why it is refused.
+use Rattle.ov_history.specs.Limits.{most_nodes}
 use Rattle.std.proofs.Common.{◌≡◌, ℕ, Bool, true, false, List, length, refl, sym, ◌∙◌, ap, subst}
 use Rattle.std.specs.Prelude.{Option, Some}
 use Rattle.ov_base.specs.Sets.{has, with, without}
@@ -19,7 +20,7 @@ module _ (limit : ℕ) (s : Catalogue) (user file : ℕ) (well : IsWell limit s)
   -- the user or the file isn't there
   pub decided-missing : (v : Verb) (why : Refusal) → IsMissing s user file why → refusal_at s (update_by v user file) ≡ Some why
   decided-missing v why missing =
-      verb_tests s well.sound.base.few v user file ∙ missing-first _ _ (refusal_by v) why _ _ _ missing
+      verb_tests s well.sound.few_base v user file ∙ missing-first _ _ _ (refusal_by v) why _ _ _ missing
 
   module _ {W : ℕ} (r : Relisting W) (listing : IsListing s user file r) where
     refuses_is : (v : Verb) (b : Bool) → has r.list user ≡ b → refuses v (is_listed (matrix_shown s) user file) ≡ refuses v b
@@ -30,7 +31,7 @@ module _ (limit : ℕ) (s : Catalogue) (user file : ℕ) (well : IsWell limit s)
     pub decided-refused : (v : Verb) (b : Bool) → has r.list user ≡ b → refuses v b ≡ true
         → refusal_at s (update_by v user file) ≡ Some (refusal_by v)
     decided-refused v b is refused =
-        verb_tests s well.sound.base.few v user file
+        verb_tests s well.sound.few_base v user file
         ∙ list-first s user file listing.enrolled listing.there (refusal_by v) (length (with_wants s.surface.sets (wants_by s v user file))) _
         (refuses_is v b is ∙ refused)
 
@@ -44,10 +45,10 @@ module _ (limit : ℕ) (s : Catalogue) (user file : ℕ) (well : IsWell limit s)
       there = listing.there;
       node = node ∙ listing.node;
       wants = wants;
-      rest = verb_tests s well.sound.base.few v user file
+      rest = verb_tests s well.sound.few_base v user file
           ∙ list-passed s user file listing.enrolled listing.there (refusal_by v) (length (with_wants s.surface.sets (wants_by s v user file))) _
           (refuses_is v b is ∙ passes)
-          ∙ ap (λ (ws : List (Option ℕ)). room_refusal (with_wants s.surface.sets ws) s.epoch) (sym wants);
+          ∙ ap (λ (ws : List (Option ℕ)). room_refusal (most_nodes s.limits) (with_wants s.surface.sets ws) s.epoch) (sym wants);
     }
 
     pub decided-granted : has r.list user ≡ false → (next : Relisting W)

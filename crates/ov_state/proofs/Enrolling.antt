@@ -1,4 +1,6 @@
 -- Enrolments: what they make, and why they are refused.
+use Rattle.ov_history.specs.Limits.{most_nodes}
+use Rattle.std.proofs.Math.Nat.{min-le_right}
 use Rattle.std.proofs.Common.{◌≡◌, ℕ, ◌+◌, ◌<◌, ◌≤◌, Bool, true, false, List, [], ◌∷◌, ◌++◌, length, refl, sym, ◌∙◌, ap, subst, arith, length-append}
 use Rattle.std.specs.Prelude.{◌||◌, nat_le, nat_lt, Option, None}
 use Rattle.std.proofs.lemmas.Bool.Decides.{nat_tests}
@@ -70,10 +72,10 @@ module _ (limit : ℕ) (s : Catalogue) (name : List ℕ) (well : IsWell limit s)
 
   -- ---- why it is refused
 
-  past_one_more : (sets : List ℕ) (set : ℕ) → nat_lt MAX_LAYER_NODES (length (sets ++ set ∷ [])) ≡ nat_le MAX_LAYER_NODES (length sets)
-  past_one_more sets set =
-      ap (λ n. nat_lt MAX_LAYER_NODES n) (length-append sets (set ∷ [])) ∙ by_test (nat_le MAX_LAYER_NODES (length sets)) refl where
-        by_test : (b : Bool) → nat_le MAX_LAYER_NODES (length sets) ≡ b → nat_lt MAX_LAYER_NODES (length sets + 1) ≡ b
+  past_one_more : (most : ℕ) (sets : List ℕ) (set : ℕ) → nat_lt most (length (sets ++ set ∷ [])) ≡ nat_le most (length sets)
+  past_one_more most sets set =
+      ap (λ n. nat_lt most n) (length-append sets (set ∷ [])) ∙ by_test (nat_le most (length sets)) refl where
+        by_test : (b : Bool) → nat_le most (length sets) ≡ b → nat_lt most (length sets + 1) ≡ b
         by_test true e = grind (arith, nat_tests)
         by_test false e = grind (arith, nat_tests)
 
@@ -83,16 +85,16 @@ module _ (limit : ℕ) (s : Catalogue) (name : List ℕ) (well : IsWell limit s)
       ∙ no_more [] next (wants_of (outline next) (lists_of (outline s))) next_kept
 
   past_nodes : is_past_nodes (layers_after (outline s) (Enrolled name))
-      ≡ (nat_le MAX_LAYER_NODES (length s.base.sets) || nat_le MAX_LAYER_NODES (length s.surface.sets))
+      ≡ (nat_le (most_nodes s.limits) (length s.base.sets) || nat_le (most_nodes s.limits) (length s.surface.sets))
   past_nodes =
-      ap (λ sets. nat_lt MAX_LAYER_NODES (length (s.base.sets ++ alone_last)) || nat_lt MAX_LAYER_NODES (length sets)) surface_sets
-      ∙ ap (λ b. b || nat_lt MAX_LAYER_NODES (length (s.surface.sets ++ alone_last))) (past_one_more s.base.sets (single (length s.users)))
-      ∙ ap (λ b. nat_le MAX_LAYER_NODES (length s.base.sets) || b) (past_one_more s.surface.sets (single (length s.users)))
+      ap (λ sets. nat_lt (most_nodes s.limits) (length (s.base.sets ++ alone_last)) || nat_lt (most_nodes s.limits) (length sets)) surface_sets
+      ∙ ap (λ b. b || nat_lt (most_nodes s.limits) (length (s.surface.sets ++ alone_last))) (past_one_more (most_nodes s.limits) s.base.sets (single (length s.users)))
+      ∙ ap (λ b. nat_le (most_nodes s.limits) (length s.base.sets) || b) (past_one_more (most_nodes s.limits) s.surface.sets (single (length s.users)))
 
   abbrev pub tests_enrol : List Test
   tests_enrol =
       (Taken, is_among name s.users) ∷ (UsersFull, nat_le MAX_USERS (length s.users))
-      ∷ (NodesFull, nat_le MAX_LAYER_NODES (length s.base.sets) || nat_le MAX_LAYER_NODES (length s.surface.sets))
+      ∷ (NodesFull, nat_le (most_nodes s.limits) (length s.base.sets) || nat_le (most_nodes s.limits) (length s.surface.sets))
       ∷ (Spent, is_last s.epoch) ∷ []
 
   pub refusal_enrol : refusal_shown s (BriefEnrol name) ≡ first_of_tests tests_enrol
@@ -139,6 +141,7 @@ module _ {W : ℕ} (limit : ℕ) (s : Catalogue) (name : List ℕ) (c : Change W
   applied_is = λ i. record {
     mode = s.mode;
     epoch = s.epoch + 1;
+    limits = s.limits;
     users = users_grown s.users (is.growth i);
     base = node_added_if s.base (is.base i);
     surface = nodes_added s.surface (is.surface i);
@@ -154,7 +157,7 @@ module _ {W : ℕ} (limit : ℕ) (s : Catalogue) (name : List ℕ) (c : Change W
 
     by_tests : NoneApplies (tests_enrol limit s name well) → IsChange limit master s (BriefEnrol name) c
     by_tests (taken, (full, (nodes, (spent, nothing)))) =
-        let room = or_parts (nat_le MAX_LAYER_NODES (length s.base.sets)) (nat_le MAX_LAYER_NODES (length s.surface.sets)) nodes in
+        let room = or_parts (nat_le (most_nodes s.limits) (length s.base.sets)) (nat_le (most_nodes s.limits) (length s.surface.sets)) nodes in
         record {
           taken = (refused, tt);
           made = made;
@@ -162,9 +165,9 @@ module _ {W : ℕ} (limit : ℕ) (s : Catalogue) (name : List ℕ) (c : Change W
           suits = record {
             growth = subst (λ (g : Growth). Fits limit s.users s.files s.base.sets s.grants g) (sym is.growth) taken;
             base = subst (λ o. IsNewNodeIf s.base.sets o) (sym is.base)
-                (alone_fresh (length s.users) s.base well.sound.base (gt_of_false MAX_LAYER_NODES (length s.base.sets) room.0));
+                (alone_fresh (length s.users) s.base well.sound.base (omega (arith, gt_of_false (most_nodes s.limits) (length s.base.sets) room.0, min-le_right s.limits.nodes MAX_LAYER_NODES)));
             surface = subst (λ fs. AreNewNodes s.surface.sets fs) (sym is.surface)
-                (alone_fresh (length s.users) s.surface well.sound.surface (gt_of_false MAX_LAYER_NODES (length s.surface.sets) room.1), tt);
+                (alone_fresh (length s.users) s.surface well.sound.surface (omega (arith, gt_of_false (most_nodes s.limits) (length s.surface.sets) room.1, min-le_right s.limits.nodes MAX_LAYER_NODES)), tt);
             rewrites = subst (λ cs. AreOfFiles (length (files_grown s.files c.growth)) cs) (sym is.rewrites) tt;
             well = subst (λ (t : Catalogue). IsWell limit t) (sym made) (well_after limit master s (BriefEnrol name) well refused tt tt);
             size = is.size ∙ byte_sum-shown s ∙ sym (byte_sum-shown (grown_catalogue s (BriefEnrol name))) ∙ ap (λ (t : Catalogue). byte_sum (matrix_shown t).files) (sym applied_is);

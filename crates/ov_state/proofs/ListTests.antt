@@ -1,4 +1,5 @@
 -- Why a grant or a revocation is refused, by what is looked at.
+use Rattle.ov_history.specs.Limits.{most_nodes}
 use Rattle.std.proofs.Common.{◌≡◌, ℕ, ◌<◌, ◌≤◌, Bool, true, false, List, [], ◌∷◌, length, ◌∙◌, ap}
 use Rattle.std.specs.Prelude.{not, is_some, nat_lt, unwrap_or, ◌||◌, Option, Some}
 use Rattle.ov_base.specs.Sets.{empty as nobody, has}
@@ -20,7 +21,6 @@ use Rattle.ov_state.specs.declared.relisting.Verb.TheVariants.{Grant, Revoke}
 use Rattle.ov_state.proofs.ChangedWants.{place-at}
 use Rattle.ov_state.proofs.FilesByNumber.{filed-there}
 use Rattle.ov_state.proofs.Relistings.{list-of}
-use Rattle.ov_base.specs.declared.limits.TheConstants.{MAX_LAYER_NODES}
 use Rattle.ov_base.proofs.Tests.{below_passes, lt_is_false}
 
 -- whether a user is listed
@@ -34,9 +34,9 @@ listed-is s user file there =
     (place-at s.files file (filed_at s file) (filed-there s file there)))
 
 -- the tests of a user, a file, its list, the surface nodes and the epoch
-abbrev pub list_tests : Bool → Bool → Refusal → Bool → ℕ → ℕ → List Test
-list_tests user file why listed nodes epoch =
-    (NoUser, not user) ∷ (NoFile, not file) ∷ (why, listed) ∷ (NodesFull, nat_lt MAX_LAYER_NODES nodes) ∷ (Spent, is_last epoch) ∷ []
+abbrev pub list_tests : ℕ → Bool → Bool → Refusal → Bool → ℕ → ℕ → List Test
+list_tests most user file why listed nodes epoch =
+    (NoUser, not user) ∷ (NoFile, not file) ∷ (why, listed) ∷ (NodesFull, nat_lt most nodes) ∷ (Spent, is_last epoch) ∷ []
 
 -- why the list refuses an update
 abbrev pub refusal_by : Verb → Refusal
@@ -53,57 +53,57 @@ abbrev pub wants_by : Catalogue → Verb → ℕ → ℕ → List (Option ℕ)
 wants_by s v user file =
     let u = update_by v user file in wants_of (grown (outline s) u) (lists_after (lists_of (outline s)) u)
 
-module _ (s : Catalogue) (few : length s.base.sets ≤ MAX_LAYER_NODES) where
+module _ (s : Catalogue) (few : length s.base.sets ≤ most_nodes s.limits) where
   -- the tests that are looked at are those of the update
   tests_by : (why : Refusal) (listed : Bool) (user file : ℕ) (sets : List ℕ)
       → first_of_tests ((NoUser, not (nat_lt user (length s.users))) ∷ (NoFile, not (is_some (living_at (files_shown (outline s) s.files) file)))
-      ∷ (why, listed) ∷ (NodesFull, nat_lt MAX_LAYER_NODES (length s.base.sets) || nat_lt MAX_LAYER_NODES (length sets)) ∷ (Spent, is_last s.epoch) ∷ [])
-      ≡ first_of_tests (list_tests (nat_lt user (length s.users)) (is_some (living_at s.files file)) why listed (length sets) s.epoch)
+      ∷ (why, listed) ∷ (NodesFull, nat_lt (most_nodes s.limits) (length s.base.sets) || nat_lt (most_nodes s.limits) (length sets)) ∷ (Spent, is_last s.epoch) ∷ [])
+      ≡ first_of_tests (list_tests (most_nodes s.limits) (nat_lt user (length s.users)) (is_some (living_at s.files file)) why listed (length sets) s.epoch)
   tests_by why listed user file sets =
       ap (λ b. first_of_tests ((NoUser, not (nat_lt user (length s.users))) ∷ (NoFile, not b)
-      ∷ (why, listed) ∷ (NodesFull, nat_lt MAX_LAYER_NODES (length s.base.sets) || nat_lt MAX_LAYER_NODES (length sets)) ∷ (Spent, is_last s.epoch) ∷ []))
+      ∷ (why, listed) ∷ (NodesFull, nat_lt (most_nodes s.limits) (length s.base.sets) || nat_lt (most_nodes s.limits) (length sets)) ∷ (Spent, is_last s.epoch) ∷ []))
       (ap (λ (o : Option File). is_some o) (shown_there (outline s) s.files file)
       ∙ is_some-map (file_shown (outline s)) (living_at s.files file))
       ∙ ap (λ b. first_of_tests ((NoUser, not (nat_lt user (length s.users))) ∷ (NoFile, not (is_some (living_at s.files file)))
-      ∷ (why, listed) ∷ (NodesFull, b || nat_lt MAX_LAYER_NODES (length sets)) ∷ (Spent, is_last s.epoch) ∷ []))
-      (lt_is_false MAX_LAYER_NODES (length s.base.sets) few)
+      ∷ (why, listed) ∷ (NodesFull, b || nat_lt (most_nodes s.limits) (length sets)) ∷ (Spent, is_last s.epoch) ∷ []))
+      (lt_is_false (most_nodes s.limits) (length s.base.sets) few)
 
   -- the tests that are looked at, for a user and the list of a file
   pub verb_tests : (v : Verb) (user file : ℕ)
       → refusal_at s (update_by v user file)
-      ≡ first_of_tests (list_tests (nat_lt user (length s.users)) (is_some (living_at s.files file)) (refusal_by v)
+      ≡ first_of_tests (list_tests (most_nodes s.limits) (nat_lt user (length s.users)) (is_some (living_at s.files file)) (refusal_by v)
       (refuses v (is_listed (matrix_shown s) user file)) (length (with_wants s.surface.sets (wants_by s v user file))) s.epoch)
   verb_tests Grant user file = tests_by Listed (is_listed (matrix_shown s) user file) user file _
   verb_tests Revoke user file = tests_by NotListed (not (is_listed (matrix_shown s) user file)) user file _
 
 -- ---- what the tests find
 
-pub missing-first : (user file : Bool) (why found : Refusal) (listed : Bool) (nodes epoch : ℕ)
+pub missing-first : (most : ℕ) (user file : Bool) (why found : Refusal) (listed : Bool) (nodes epoch : ℕ)
     → first_of_tests ((NoUser, not user) ∷ (NoFile, not file) ∷ []) ≡ Some found
-    → first_of_tests (list_tests user file why listed nodes epoch) ≡ Some found
-missing-first true true why found listed nodes epoch e = absurd (cc)
-missing-first true false why found listed nodes epoch e = e
-missing-first false file why found listed nodes epoch e = e
+    → first_of_tests (list_tests most user file why listed nodes epoch) ≡ Some found
+missing-first most true true why found listed nodes epoch e = absurd (cc)
+missing-first most true false why found listed nodes epoch e = e
+missing-first most false file why found listed nodes epoch e = e
 
 module _ (s : Catalogue) (user file : ℕ) (enrolled : user < length s.users) (there : is_some (living_at s.files file) ≡ true) (why : Refusal) (nodes : ℕ) where
   abbrev all : Bool → List Test
-  all listed = list_tests (nat_lt user (length s.users)) (is_some (living_at s.files file)) why listed nodes s.epoch
+  all listed = list_tests (most_nodes s.limits) (nat_lt user (length s.users)) (is_some (living_at s.files file)) why listed nodes s.epoch
 
   both_there : (listed : Bool)
-      → first_of_tests (all listed) ≡ first_of_tests ((why, listed) ∷ (NodesFull, nat_lt MAX_LAYER_NODES nodes) ∷ (Spent, is_last s.epoch) ∷ [])
+      → first_of_tests (all listed) ≡ first_of_tests ((why, listed) ∷ (NodesFull, nat_lt (most_nodes s.limits) nodes) ∷ (Spent, is_last s.epoch) ∷ [])
   both_there listed =
-      ap (λ b. first_of_tests ((NoUser, b) ∷ (NoFile, not (is_some (living_at s.files file))) ∷ (why, listed) ∷ (NodesFull, nat_lt MAX_LAYER_NODES nodes) ∷ (Spent, is_last s.epoch) ∷ []))
+      ap (λ b. first_of_tests ((NoUser, b) ∷ (NoFile, not (is_some (living_at s.files file))) ∷ (why, listed) ∷ (NodesFull, nat_lt (most_nodes s.limits) nodes) ∷ (Spent, is_last s.epoch) ∷ []))
       (below_passes user (length s.users) enrolled)
-      ∙ ap (λ b. first_of_tests ((NoFile, b) ∷ (why, listed) ∷ (NodesFull, nat_lt MAX_LAYER_NODES nodes) ∷ (Spent, is_last s.epoch) ∷ []))
+      ∙ ap (λ b. first_of_tests ((NoFile, b) ∷ (why, listed) ∷ (NodesFull, nat_lt (most_nodes s.limits) nodes) ∷ (Spent, is_last s.epoch) ∷ []))
       (ap not there)
 
   -- the list refuses the update
   pub list-first : (listed : Bool) → listed ≡ true → first_of_tests (all listed) ≡ Some why
   list-first listed is =
-      both_there listed ∙ ap (λ b. first_of_tests ((why, b) ∷ (NodesFull, nat_lt MAX_LAYER_NODES nodes) ∷ (Spent, is_last s.epoch) ∷ [])) is
+      both_there listed ∙ ap (λ b. first_of_tests ((why, b) ∷ (NodesFull, nat_lt (most_nodes s.limits) nodes) ∷ (Spent, is_last s.epoch) ∷ [])) is
 
   -- the list doesn't refuse the update
   pub list-passed : (listed : Bool) → listed ≡ false
-      → first_of_tests (all listed) ≡ first_of_tests ((NodesFull, nat_lt MAX_LAYER_NODES nodes) ∷ (Spent, is_last s.epoch) ∷ [])
+      → first_of_tests (all listed) ≡ first_of_tests ((NodesFull, nat_lt (most_nodes s.limits) nodes) ∷ (Spent, is_last s.epoch) ∷ [])
   list-passed listed is =
-      both_there listed ∙ ap (λ b. first_of_tests ((why, b) ∷ (NodesFull, nat_lt MAX_LAYER_NODES nodes) ∷ (Spent, is_last s.epoch) ∷ [])) is
+      both_there listed ∙ ap (λ b. first_of_tests ((why, b) ∷ (NodesFull, nat_lt (most_nodes s.limits) nodes) ∷ (Spent, is_last s.epoch) ∷ [])) is

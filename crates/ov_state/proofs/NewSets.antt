@@ -38,12 +38,19 @@ had-by sets new set false in_sets decided is = is ∙ by_node (node_of sets set)
       ap is_some none ∙ sym (ap (λ (o : Option ℕ). not (planned o (sets ++ new) set).fresh) (node_of_none sets new set none later))
 
 -- there is room for a wanted set
-pub want-few : (sets old new : List ℕ) (want wanted : Option ℕ) → old ≡ [] → want ≡ wanted
-    → sets ++ new ≡ with_wants (sets ++ old) (want ∷ []) → length sets + length new ≤ MAX_LAYER_NODES
-    → length (with_wants sets (wanted ∷ [])) ≤ MAX_LAYER_NODES
-want-few sets old new want wanted none is added few =
+pub want-few : {most : ℕ} (sets old new : List ℕ) (want wanted : Option ℕ) → old ≡ [] → want ≡ wanted
+    → sets ++ new ≡ with_wants (sets ++ old) (want ∷ []) → length sets + length new ≤ most
+    → length (with_wants sets (wanted ∷ [])) ≤ most
+want-few {most} sets old new want wanted none is added few =
     let all = added ∙ (λ i. with_wants (sets ++ none i) (is i ∷ [])) ∙ ap (λ sets. with_wants sets (wanted ∷ [])) (append-nil sets) in
     omega (arith, ap length all, length-append sets new, few)
+
+-- how many sets there are with a wanted set
+pub want-many : (sets old new : List ℕ) (want wanted : Option ℕ) → old ≡ [] → want ≡ wanted
+    → sets ++ new ≡ with_wants (sets ++ old) (want ∷ []) → length sets + length new ≡ length (with_wants sets (wanted ∷ []))
+want-many sets old new want wanted none is added =
+    let all = added ∙ (λ i. with_wants (sets ++ none i) (is i ∷ [])) ∙ ap (λ sets. with_wants sets (wanted ∷ [])) (append-nil sets) in
+    omega (arith, ap length all, length-append sets new)
 
 -- there is no room for a wanted set, so there is none for it after sets that are no others
 pub want-full : (sets old : List ℕ) (want wanted : Option ℕ) (why : GraphRefusal) → old ≡ [] → want ≡ wanted

@@ -1,5 +1,6 @@
 -- The tests of an enrolment and of a creation, as a state makes them.
-use Rattle.std.proofs.Common.{◌≡◌, ℕ, suc, ◌<◌, ◌≤◌, Bool, true, false, List, [], ◌∷◌, ◌++◌, length, refl, sym, ◌∙◌, ap, subst, arith}
+use Rattle.ov_history.specs.Limits.{most_files}
+use Rattle.std.proofs.Common.{◌≡◌, ℕ, suc, Bool, true, false, List, [], ◌∷◌, ◌++◌, length, refl, sym, ◌∙◌, ap, subst, arith}
 use Rattle.std.specs.Prelude.{◌||◌, nat_le, nat_lt, is_some, IfSome, Option, Some, None}
 use Rattle.std.specs.Str.{bytes_eq}
 use Rattle.std.proofs.lemmas.Bool.Decides.{nat_tests}
@@ -15,7 +16,6 @@ use Rattle.ov_history.proofs.PlaceLaws.{everyone-Has, everyone-below}
 use Rattle.ov_history.proofs.SoundTests.{files_shown-length}
 use Rattle.ov_state.specs.Entries.{filed_names as names_of}
 use Rattle.ov_state.proofs.QueryLaws.{file_number_by, file_there, no_file_there}
-use Rattle.ov_base.specs.declared.limits.TheConstants.{MAX_FILES}
 use Rattle.ov_base.proofs.Tests.{lt_is_true, lt_is_false}
 
 -- ---- names
@@ -83,8 +83,8 @@ file_test s name r number there = by_number r (file_number_by s name r number) t
   by_number None none there = sym (no_file_there s name none)
   by_number (Some file) (is, low) there = sym (subst (λ n. is_file (matrix_shown s) n ≡ true) is (file_there s file there))
 
-pub files_test : (s : Catalogue) → nat_le MAX_FILES (length (matrix_shown s).files) ≡ nat_le MAX_FILES (length s.files)
-files_test s = ap (λ n. nat_le MAX_FILES n) (files_shown-length (outline s) s.files)
+pub files_test : (s : Catalogue) → nat_le (most_files s.limits) (length (matrix_shown s).files) ≡ nat_le (most_files s.limits) (length s.files)
+files_test s = ap (λ n. nat_le (most_files s.limits) n) (files_shown-length (outline s) s.files)
 
 -- a file is looked up by its name
 pub number_there : (name : List ℕ) (names : List (List ℕ)) (r : Option ℕ) → IsNumber names name r → is_some r ≡ is_among name names

@@ -1,8 +1,8 @@
 -- Removals: what they make, and why they are refused.
+use Rattle.ov_history.specs.Limits.{most_nodes}
 use Rattle.std.proofs.Common.{◌≡◌, ℕ, zero, suc, ◌+◌, Bool, true, false, not, List, [], ◌∷◌, length, refl, sym, ◌∙◌, ap, subst}
 use Rattle.std.specs.Prelude.{◌||◌, is_some, nat_lt, option_map, Option, None}
 use Rattle.ov_base.specs.declared.refusal.Refusal.TheVariants.{NoFile, NodesFull, Spent}
-use Rattle.ov_base.specs.declared.limits.TheConstants.{MAX_LAYER_NODES}
 use Rattle.ov_base.proofs.Tests.{lt_is_false, true_of_not}
 use Rattle.ov_history.specs.Briefs.{BriefRemove}
 use Rattle.ov_history.specs.History.{Removed}
@@ -91,9 +91,9 @@ module _ (limit : ℕ) (s : Catalogue) (file : ℕ) (well : IsWell limit s) wher
   -- no layer gets a node
   past_nodes : is_past_nodes (layers_after (outline s) (Removed file)) ≡ false
   past_nodes =
-      ap (λ sets. nat_lt MAX_LAYER_NODES (length s.base.sets) || nat_lt MAX_LAYER_NODES (length sets)) surface_sets
-      ∙ ap (λ b. b || nat_lt MAX_LAYER_NODES (length s.surface.sets)) (lt_is_false MAX_LAYER_NODES (length s.base.sets) well.sound.base.few)
-      ∙ lt_is_false MAX_LAYER_NODES (length s.surface.sets) well.sound.surface.few
+      ap (λ sets. nat_lt (most_nodes s.limits) (length s.base.sets) || nat_lt (most_nodes s.limits) (length sets)) surface_sets
+      ∙ ap (λ b. b || nat_lt (most_nodes s.limits) (length s.surface.sets)) (lt_is_false (most_nodes s.limits) (length s.base.sets) well.sound.few_base)
+      ∙ lt_is_false (most_nodes s.limits) (length s.surface.sets) well.sound.few_surface
 
   abbrev pub tests_remove : List Test
   tests_remove = (NoFile, not (is_some (living_at s.files file))) ∷ (Spent, is_last s.epoch) ∷ []
@@ -126,6 +126,7 @@ module _ {W : ℕ} (limit : ℕ) (s : Catalogue) (file : ℕ) (c : Change W) (we
   applied_is = λ i. record {
     mode = s.mode;
     epoch = s.epoch + 1;
+    limits = s.limits;
     users = users_grown s.users (is.growth i);
     base = node_added_if s.base (is.base i);
     surface = nodes_added s.surface (is.surface i);

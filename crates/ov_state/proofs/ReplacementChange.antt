@@ -101,6 +101,7 @@ module _ {W : ℕ} (limit : ℕ) (master : List ℕ) (s : Catalogue) (file : ℕ
   applied_is = λ i. record {
     mode = s.mode;
     epoch = s.epoch + 1;
+    limits = s.limits;
     users = users_grown s.users (is.growth i);
     base = node_added_if s.base c.base;
     surface = nodes_added s.surface c.surface.items;

@@ -1,11 +1,11 @@
 -- Replacements: what they make, and why they are refused. A replacement makes what a creation makes
 -- of the catalogue in which the old file is gone.
+use Rattle.ov_history.specs.Limits.{most_files}
 use Rattle.std.proofs.Common.{◌≡◌, ℕ, zero, suc, ◌+◌, ◌≤◌, true, List, [], ◌∷◌, ◌++◌, length, refl, sym, ◌∙◌, ap, subst, arith}
 use Rattle.std.specs.Prelude.{is_some, Option, Some, None}
 use Rattle.ov_base.proofs.Tests.{true_of_not}
 use Rattle.ov_base.specs.declared.refusal.Refusal.{Refusal}
 use Rattle.ov_base.specs.declared.refusal.Refusal.TheVariants.{NodesFull, Spent}
-use Rattle.ov_base.specs.declared.limits.TheConstants.{MAX_FILES}
 use Rattle.ov_tokens.specs.declared.token.Token.{Token}
 use Rattle.ov_history.specs.Asking.{refusal_at}
 use Rattle.ov_history.specs.Briefs.{Brief, BriefCreate, BriefReplace}
@@ -45,13 +45,15 @@ well_left limit s file well = record {
   sound = record {
     base = well.sound.base;
     surface = well.sound.surface;
+    few_base = well.sound.few_base;
+    few_surface = well.sound.few_surface;
     accesses = well.sound.accesses;
     files = λ n f is. placed_left s file f (well.sound.files n f (was_there s file n f is));
   };
   settled = λ n f is. well.settled n f (was_there s file n f is);
   users = well.users;
   width = well.width;
-  files = subst (λ n. n ≤ MAX_FILES) (sym (length-change_at gone file s.files)) well.files;
+  files = subst (λ n. n ≤ most_files s.limits) (sym (length-change_at gone file s.files)) well.files;
   bytes = omega (arith, byte_sum-shown s, byte_sum-shown (left s file), bytes_in-fewer s.files file, well.bytes);
   each = λ n f is. well.each n f (was_there s file n f is);
   epoch = well.epoch;
@@ -121,6 +123,7 @@ module _ (limit : ℕ) (s : Catalogue) (file size : ℕ) (well : IsWell limit s)
       ap (λ (lists : List (Option ℕ)). settled (grown (outline s) (Replaced file size)) (lists ++ Some list_here ∷ [])) (sym (lists-left s file))
       ∙ ap (λ (ps : List (Option Place)). settled (record (outline s) {
         epoch = s.epoch + 1;
+        limits = s.limits;
         base = with_set s.base.sets list_here;
         files = ps ++ Some (new_place (outline s) list_here) ∷ [];
       }) (lists_of (outline (left s file)) ++ Some list_here ∷ [])) (sym (places-left file s.files))

@@ -227,3 +227,12 @@ settled-few master s wants plan h =
     let sets : s.surface.sets ++ sets_in plan.nodes.nodes.items ≡ with_wants s.surface.sets wants =
     sym (nodes_added-sets s.surface plan.nodes.nodes.items) ∙ ap (λ (n : Nodes). n.sets) h.nodes ∙ with_surfaces-sets master wants s.surface in
     omega (arith, ap length sets, length-append s.surface.sets (sets_in plan.nodes.nodes.items), length-sets_in plan.nodes.nodes.items, h.planned.few)
+
+-- how many nodes a layer has with what is planned
+pub settled-many : {W : ℕ} (master : List ℕ) (s : Catalogue) (wants : List (Option ℕ)) (plan : Rewrites W) (here : ℕ)
+    → here ≡ length s.surface.sets → AreSettled master s wants plan
+    → here + length plan.nodes.sets.items ≡ length (with_wants s.surface.sets wants)
+settled-many master s wants plan here is h =
+    let sets : s.surface.sets ++ sets_in plan.nodes.nodes.items ≡ with_wants s.surface.sets wants =
+    sym (nodes_added-sets s.surface plan.nodes.nodes.items) ∙ ap (λ (n : Nodes). n.sets) h.nodes ∙ with_surfaces-sets master wants s.surface in
+    omega (arith, is, ap length sets, length-append s.surface.sets (sets_in plan.nodes.nodes.items), ap length h.planned.listed)

@@ -1,5 +1,8 @@
 -- A new file has its place where no layer is full.
-use Rattle.std.proofs.Common.{◌≡◌, ℕ, ◌+◌, ◌≤◌, ◌==◌, Bool, true, false, List, [], ◌∷◌, ◌++◌, length, refl, sym, ◌∙◌, ap, subst, arith, length-append, eqb-true}
+use Rattle.std.specs.Prelude.{nat_le}
+use Rattle.ov_history.specs.Limits.{most_nodes}
+use Rattle.std.proofs.Math.Nat.{min-le_right}
+use Rattle.std.proofs.Common.{◌≡◌, ℕ, ◌+◌, ◌≤◌, Bool, true, false, List, [], ◌∷◌, ◌++◌, length, refl, sym, ◌∙◌, ap, subst, arith, length-append}
 use Rattle.std.specs.Prelude.{◌||◌, nat_lt, Option, Some, None, IfSome, IsTrue}
 use Rattle.std.proofs.lemmas.Bool.Decides.{nat_tests}
 use Rattle.ov_base.specs.Sets.{IsBelow}
@@ -43,12 +46,12 @@ length-added nodes [] = omega arith
 length-added nodes (one ∷ fresh) =
     omega (arith, length-added (node_added nodes one) fresh, length-append nodes.sets (one.set ∷ []))
 
-few_if : (b : Bool) (sets : List ℕ) (set : ℕ) → length sets ≤ MAX_LAYER_NODES → (length sets ≡ MAX_LAYER_NODES → IsTrue b → ⊥)
-    → length (appended b sets set) ≤ MAX_LAYER_NODES
-few_if false sets set few room = few
-few_if true sets set few room = by_test (length sets == MAX_LAYER_NODES) refl where
-  by_test : (b : Bool) → (length sets == MAX_LAYER_NODES) ≡ b → length (sets ++ set ∷ []) ≤ MAX_LAYER_NODES
-  by_test true e = absurd (room (eqb-true (length sets) MAX_LAYER_NODES e) refl)
+few_if : (most : ℕ) (b : Bool) (sets : List ℕ) (set : ℕ) → length sets ≤ most → (most ≤ length sets → IsTrue b → ⊥)
+    → length (appended b sets set) ≤ most
+few_if most false sets set few room = few
+few_if most true sets set few room = by_test (nat_le most (length sets)) refl where
+  by_test : (b : Bool) → nat_le most (length sets) ≡ b → length (sets ++ set ∷ []) ≤ most
+  by_test true e = absurd (room (grind (arith, nat_tests)) refl)
   by_test false e =
       let sum = length-append sets (set ∷ []) in
       grind (arith, nat_tests)
@@ -60,29 +63,47 @@ module _ (s : Catalogue) (list : ℕ) where
   sets_then = with_wants s.surface.sets (want_then s list ∷ [])
 
   -- no layer is full
-  pub room_then : length s.base.sets ≤ MAX_LAYER_NODES
-      → (length s.base.sets ≡ MAX_LAYER_NODES → IsTrue (plan_of s.base.sets list).fresh → ⊥)
-      → length sets_then ≤ MAX_LAYER_NODES → is_past_then s list ≡ false
+  pub room_then : length s.base.sets ≤ most_nodes s.limits
+      → (most_nodes s.limits ≤ length s.base.sets → IsTrue (plan_of s.base.sets list).fresh → ⊥)
+      → length sets_then ≤ most_nodes s.limits → is_past_then s list ≡ false
   room_then few room few_surface =
-      ap (λ b. b || nat_lt MAX_LAYER_NODES (length sets_then))
-      (lt_is_false MAX_LAYER_NODES _ (few_if (plan_of s.base.sets list).fresh s.base.sets list few room))
-      ∙ lt_is_false MAX_LAYER_NODES (length sets_then) few_surface
+      ap (λ b. b || nat_lt (most_nodes s.limits) (length sets_then))
+      (lt_is_false (most_nodes s.limits) _ (few_if (most_nodes s.limits) (plan_of s.base.sets list).fresh s.base.sets list few room))
+      ∙ lt_is_false (most_nodes s.limits) (length sets_then) few_surface
 
   -- the surface layer is full
   pub full_then : (why : GraphRefusal) → IsFull sets_then why → HasNoSite s list (fault_of why)
   full_then GraphMemory full = tt
   full_then NodesFull full = (
     refl,
-    or_right (nat_lt MAX_LAYER_NODES (length (with_set s.base.sets list))) _ (lt_is_true MAX_LAYER_NODES (length sets_then) full),
+    or_right (nat_lt (most_nodes s.limits) (length (with_set s.base.sets list))) _ (lt_is_true (most_nodes s.limits) (length sets_then) (omega (arith, full, min-le_right s.limits.nodes MAX_LAYER_NODES))),
+  )
+
+  -- the surface layer would have more nodes than it may have
+  pub past_then : (n : ℕ) → n ≡ length sets_then → nat_lt (most_nodes s.limits) n ≡ true → HasNoSite s list (fault_of NodesFull)
+  past_then n is past = (
+    refl,
+    or_right (nat_lt (most_nodes s.limits) (length (with_set s.base.sets list))) _
+        (ap (λ n. nat_lt (most_nodes s.limits) n) (sym is) ∙ past),
   )
 
 module _ {W : ℕ} (master : List ℕ) (s : Catalogue) (list : ℕ) where
+  pub many_then : (want to : Option ℕ) (old new : NewNodes W) → old.nodes.items ≡ [] → want ≡ want_then s list
+      → IsSurfaceFor master s.surface want old new to → length s.surface.sets + length new.nodes.items ≡ length (sets_then s list)
+  many_then want to old new none wanted target =
+      let nodes : nodes_added s.surface new.nodes.items ≡ surface_then master s list =
+      target.nodes ∙ (λ i. with_want master (nodes_added s.surface (none i)) (wanted i)) in
+      let sets : (nodes_added s.surface new.nodes.items).sets ≡ sets_then s list =
+      ap (λ (n : Nodes). n.sets) nodes ∙ with_surfaces-sets master (want_then s list ∷ []) s.surface in
+      omega (arith, ap length sets, length-added s.surface new.nodes.items)
+
   pub site_is : (cover : Cover) (want to : Option ℕ) (old new : NewNodes W) → cover ≡ plan_of s.base.sets list
-      → length s.base.sets ≤ MAX_LAYER_NODES
-      → (length s.base.sets ≡ MAX_LAYER_NODES → IsTrue (plan_of s.base.sets list).fresh → ⊥)
+      → length s.base.sets ≤ most_nodes s.limits
+      → (most_nodes s.limits ≤ length s.base.sets → IsTrue (plan_of s.base.sets list).fresh → ⊥)
+      → length s.surface.sets + length new.nodes.items ≤ most_nodes s.limits
       → old.nodes.items ≡ [] → want ≡ want_then s list → IsSurfaceFor master s.surface want old new to
       → IsSite master s list (record { cover = cover; surface = new.nodes; to = to })
-  site_is cover want to old new planned few room none wanted target = record {
+  site_is cover want to old new planned few room within none wanted target = record {
     cover = planned;
     planned = target.planned.planned;
     nodes = nodes;
@@ -95,9 +116,9 @@ module _ {W : ℕ} (master : List ℕ) (s : Catalogue) (list : ℕ) where
     sets : (nodes_added s.surface new.nodes.items).sets ≡ sets_then s list
     sets = ap (λ (n : Nodes). n.sets) nodes ∙ with_surfaces-sets master (want_then s list ∷ []) s.surface
 
-    few_surface : length (sets_then s list) ≤ MAX_LAYER_NODES
+    few_surface : length (sets_then s list) ≤ most_nodes s.limits
     few_surface =
-        omega (arith, sym (ap length sets), length-added s.surface new.nodes.items, target.planned.few)
+        omega (arith, sym (ap length sets), length-added s.surface new.nodes.items, within)
 
   -- a new file has no site where the surface layer is full
   pub surface_full : (want : Option ℕ) (old : NewNodes W) (why : GraphRefusal) → old.nodes.items ≡ [] → want ≡ want_then s list

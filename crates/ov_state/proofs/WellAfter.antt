@@ -1,4 +1,5 @@
 -- What holds of every state holds after each update that isn't refused and has its parts.
+use Rattle.ov_history.specs.Limits.{Limits, most_bytes, most_files}
 use Rattle.std.specs.Prelude.{Some}
 use Rattle.std.proofs.Common.{◌≡◌, ℕ, ◌+◌, ◌≤◌, ◌*◌, List, [], ◌∷◌, length, sym, ◌∙◌, subst, arith, length-append, false}
 use Rattle.std.specs.Prelude.{Option, None, nat_le}
@@ -18,7 +19,7 @@ use Rattle.ov_history.proofs.SoundTests.{NoneApplies, none_applies, files_shown-
 use Rattle.ov_state.specs.Contents.{IsWell}
 use Rattle.ov_state.proofs.WellFiles.{bytes_in, byte_sum-left, byte_sum-shown, bytes_in-append, AllWithin, within-each, each-within, within-append, within-gone, length-settled, bytes_in-fewer, bytes_in-settled, within-settled}
 use Rattle.ov_state.proofs.WellSettled.{settled-each, settled_after}
-use Rattle.ov_base.specs.declared.limits.TheConstants.{LAST_EPOCH, MAX_FILES, MAX_FILE_BYTES, MAX_SET_WORDS, MAX_STORE_BYTES, MAX_USERS}
+use Rattle.ov_base.specs.declared.limits.TheConstants.{LAST_EPOCH, MAX_FILE_BYTES, MAX_SET_WORDS, MAX_USERS}
 use Rattle.ov_base.proofs.Tests.{ge_of_false}
 
 -- ---- before the files are settled
@@ -26,8 +27,8 @@ use Rattle.ov_base.proofs.Tests.{ge_of_false}
 -- no limit is passed, apart from those of nodes
 pub record IsWithin (s : Catalogue) : Type 0 where
   pub users : length s.users ≤ MAX_USERS
-  pub files : length s.files ≤ MAX_FILES
-  pub bytes : bytes_in s.files ≤ MAX_STORE_BYTES
+  pub files : length s.files ≤ most_files s.limits
+  pub bytes : bytes_in s.files ≤ most_bytes s.limits
   pub each : AllWithin MAX_FILE_BYTES s.files
   pub epoch : s.epoch ≤ LAST_EPOCH
 
@@ -35,7 +36,7 @@ within_before : (limit : ℕ) (s : Catalogue) → IsWell limit s → IsWithin s
 within_before limit s well = record {
   users = well.users;
   files = well.files;
-  bytes = subst (λ n. n ≤ MAX_STORE_BYTES) (byte_sum-shown s) well.bytes;
+  bytes = subst (λ n. n ≤ most_bytes s.limits) (byte_sum-shown s) well.bytes;
   each = each-within MAX_FILE_BYTES s.files well.each;
   epoch = well.epoch;
 }
@@ -66,8 +67,8 @@ within_grown s (BriefEnrol user) within (taken, (full, (room, (spent, none)))) f
 }
 within_grown s (BriefCreate file list tokens tag size) within (taken, (outside, (files, (bytes, (room, (spent, none)))))) fits = record {
   users = within.users;
-  files = omega (arith, length-append s.files (Some new ∷ []), files_shown-length (outline s) s.files, one_more MAX_FILES (length (matrix_shown s).files) files);
-  bytes = omega (arith, bytes_in-append s.files new, byte_sum-shown s, ge_of_false MAX_STORE_BYTES (byte_sum (matrix_shown s).files + size) bytes);
+  files = omega (arith, length-append s.files (Some new ∷ []), files_shown-length (outline s) s.files, one_more (most_files s.limits) (length (matrix_shown s).files) files);
+  bytes = omega (arith, bytes_in-append s.files new, byte_sum-shown s, ge_of_false (most_bytes s.limits) (byte_sum (matrix_shown s).files + size) bytes);
   each = within-append MAX_FILE_BYTES s.files new within.each fits;
   epoch = next_epoch s.epoch spent;
 } where
@@ -89,7 +90,7 @@ within_grown s (BriefRevoke user file) within (no_user, (no_file, (listed, (room
 }
 within_grown s (BriefRemove file) within (no_file, (room, (spent, none))) fits = record {
   users = within.users;
-  files = subst (λ n. n ≤ MAX_FILES) (sym (length-change_at gone file s.files)) within.files;
+  files = subst (λ n. n ≤ most_files s.limits) (sym (length-change_at gone file s.files)) within.files;
   bytes = omega (arith, within.bytes, bytes_in-fewer s.files file);
   each = within-gone MAX_FILE_BYTES s.files file within.each;
   epoch = next_epoch s.epoch spent;
@@ -101,13 +102,13 @@ within_grown s (BriefReplace file tokens tag size) within (no_file, (files, (byt
     length-append left (Some new ∷ []),
     length-change_at gone file s.files,
     files_shown-length (outline s) s.files,
-    one_more MAX_FILES (length (matrix_shown s).files) files,
+    one_more (most_files s.limits) (length (matrix_shown s).files) files,
   );
   bytes = omega (
     arith,
     bytes_in-append left new,
     byte_sum-left s file,
-    ge_of_false MAX_STORE_BYTES (byte_sum (change_at gone file (matrix_shown s).files) + size) bytes,
+    ge_of_false (most_bytes s.limits) (byte_sum (change_at gone file (matrix_shown s).files) + size) bytes,
   );
   each = within-append MAX_FILE_BYTES left new (within-gone MAX_FILE_BYTES s.files file within.each) fits;
   epoch = next_epoch s.epoch spent;
@@ -127,8 +128,8 @@ well_after limit master s u well refused parts fits = record {
   settled = settled-each (outline after) after.files (settled_after master s u parts);
   users = within.users;
   width = well.width;
-  files = subst (λ n. n ≤ MAX_FILES) (sym (length-settled next.epoch sets wants next.files)) within.files;
-  bytes = subst (λ n. n ≤ MAX_STORE_BYTES)
+  files = subst (λ n. n ≤ most_files next.limits) (sym (length-settled next.epoch sets wants next.files)) within.files;
+  bytes = subst (λ n. n ≤ most_bytes next.limits)
       (sym (byte_sum-shown after ∙ bytes_in-settled next.epoch sets wants next.files)) within.bytes;
   each = within-each MAX_FILE_BYTES after.files (within-settled next.epoch sets MAX_FILE_BYTES wants next.files within.each);
   epoch = within.epoch;
@@ -151,10 +152,10 @@ well_after limit master s u well refused parts fits = record {
 
 -- ---- the beginning
 
-pub well_nothing : (limit : ℕ) → MAX_USERS ≤ limit → limit ≤ 64 * MAX_SET_WORDS → (mode : Mode) (first : ℕ) → first ≤ LAST_EPOCH
-    → IsWell limit (empty_catalogue mode first)
-well_nothing limit wide narrow mode first low = record {
-  sound = nothing_is_sound mode first;
+pub well_nothing : (limit : ℕ) → MAX_USERS ≤ limit → limit ≤ 64 * MAX_SET_WORDS → (mode : Mode) (first : ℕ) (limits : Limits) → first ≤ LAST_EPOCH
+    → IsWell limit (empty_catalogue mode first limits)
+well_nothing limit wide narrow mode first limits low = record {
+  sound = nothing_is_sound mode first limits;
   settled = λ file f is. absurd (cc);
   users = omega arith;
   width = (wide, narrow);

@@ -84,6 +84,7 @@ abbrev pub applied : {W : ℕ} → Catalogue → Change W → Catalogue
 applied c change = record {
   mode = c.mode;
   epoch = c.epoch + 1;
+  limits = c.limits;
   users = users_grown c.users change.growth;
   base = node_added_if c.base change.base;
   surface = nodes_added c.surface change.surface.items;

@@ -1,8 +1,9 @@
 -- What a state contains: its catalogue, and the room that it has.
+use Rattle.ov_history.specs.Limits.{Limits, most_bytes, most_files}
 use Rattle.std.specs.Prelude.{◌≡◌, ℕ, ◌*◌, ◌≤◌, List, length, Option, Some}
 use Rattle.std.specs.Prelude.{IfSome, IsTrue}
-use Rattle.ov_base.specs.declared.limits.TheConstants.{LAST_EPOCH, MAX_FILES, MAX_FILE_BYTES}
-use Rattle.ov_base.specs.declared.limits.TheConstants.{MAX_SET_WORDS, MAX_STORE_BYTES, MAX_USERS}
+use Rattle.ov_base.specs.declared.limits.TheConstants.{LAST_EPOCH, MAX_FILE_BYTES}
+use Rattle.ov_base.specs.declared.limits.TheConstants.{MAX_SET_WORDS, MAX_USERS}
 use Rattle.ov_base.specs.declared.mode.Mode.{Mode}
 use Rattle.ov_base_layer.specs.BaseContents.{BaseContents}
 use Rattle.ov_graph.specs.Contents.{Contents}
@@ -36,11 +37,12 @@ abbrev pub nodes_of : Contents → Nodes
 nodes_of graph = record { sets = graph.sets; edges = graph.edges }
 
 -- the catalogue that these parts make
-abbrev pub catalogue_by : Mode → ℕ → List (List ℕ) → BaseContents → Contents
+abbrev pub catalogue_by : Mode → ℕ → Limits → List (List ℕ) → BaseContents → Contents
     → List (Option Filed) → Catalogue
-catalogue_by mode epoch users base surface files = record {
+catalogue_by mode epoch limits users base surface files = record {
   mode = mode;
   epoch = epoch;
+  limits = limits;
   users = users;
   base = nodes_of base.graph;
   surface = nodes_of surface;
@@ -62,8 +64,8 @@ pub record IsWell (limit : ℕ) (c : Catalogue) : Type 0 where
       → HasItsSurface (outline c) (place_of_file f)
   pub users : length c.users ≤ MAX_USERS
   pub width : (MAX_USERS ≤ limit) × (limit ≤ 64 * MAX_SET_WORDS)
-  pub files : length c.files ≤ MAX_FILES
-  pub bytes : byte_sum (matrix_shown c).files ≤ MAX_STORE_BYTES
+  pub files : length c.files ≤ most_files c.limits
+  pub bytes : byte_sum (matrix_shown c).files ≤ most_bytes c.limits
   pub each : (file : ℕ) (f : Filed) → living_at c.files file ≡ Some f → f.length ≤ MAX_FILE_BYTES
   pub epoch : c.epoch ≤ LAST_EPOCH
 

@@ -1,5 +1,6 @@
 pub mod Entries
 pub mod Contents
+pub mod Bounds
 pub mod Changes
 pub mod Plans
 pub mod Places

@@ -1,8 +1,8 @@
 -- Inner: no public contract needs this. Where a new file goes, and why there may be no room for it.
+use Rattle.ov_history.specs.Limits.{most_bytes, most_files, most_nodes}
 use Rattle.std.specs.Prelude.{◌≡◌, ℕ, ◌+◌, Bool, true, false, not, ◌||◌, nat_le, nat_lt, List, []}
 use Rattle.std.specs.Prelude.{◌∷◌, length, Option, Some, None}
 use Rattle.ov_base.specs.Sets.{within}
-use Rattle.ov_base.specs.declared.limits.TheConstants.{MAX_FILES, MAX_LAYER_NODES, MAX_STORE_BYTES}
 use Rattle.ov_base.specs.declared.refusal.Refusal.{Refusal}
 use Rattle.ov_base.specs.declared.refusal.Refusal.TheVariants.{Taken, NoUser, NoFile, FilesFull}
 use Rattle.ov_base.specs.declared.refusal.Refusal.TheVariants.{BytesFull, NodesFull, Spent}
@@ -26,18 +26,18 @@ abbrev pub tests_before : Catalogue → List ℕ → ℕ → ℕ → List Test
 tests_before c name list size =
     (Taken, is_file (matrix_shown c) (file_number (matrix_shown c) name))
     ∷ (NoUser, not (within list (everyone (length c.users))))
-    ∷ (FilesFull, nat_le MAX_FILES (length (matrix_shown c).files))
-    ∷ (BytesFull, nat_lt MAX_STORE_BYTES (byte_sum (matrix_shown c).files + size))
+    ∷ (FilesFull, nat_le (most_files c.limits) (length (matrix_shown c).files))
+    ∷ (BytesFull, nat_lt (most_bytes c.limits) (byte_sum (matrix_shown c).files + size))
     ∷ []
 
 -- the tests of a replacement that come before those of nodes and of epochs
 abbrev pub tests_replacing : Catalogue → ℕ → ℕ → List Test
 tests_replacing c file size =
     (NoFile, not (is_file (matrix_shown c) file))
-    ∷ (FilesFull, nat_le MAX_FILES (length (matrix_shown c).files))
+    ∷ (FilesFull, nat_le (most_files c.limits) (length (matrix_shown c).files))
     ∷ (
       BytesFull,
-      nat_lt MAX_STORE_BYTES
+      nat_lt (most_bytes c.limits)
           (byte_sum (change_at gone file (matrix_shown c).files) + size),
     )
     ∷ []
@@ -58,8 +58,8 @@ surface_then master c list = with_want master c.surface (want_then c list)
 -- a layer would have more nodes than it may have
 abbrev pub is_past_then : Catalogue → ℕ → Bool
 is_past_then c list =
-    nat_lt MAX_LAYER_NODES (length (with_set c.base.sets list))
-    || nat_lt MAX_LAYER_NODES (length (with_wants c.surface.sets (want_then c list ∷ [])))
+    nat_lt (most_nodes c.limits) (length (with_set c.base.sets list))
+    || nat_lt (most_nodes c.limits) (length (with_wants c.surface.sets (want_then c list ∷ [])))
 
 -- why a new file for these users finds no room: a layer would have too many nodes, or no epoch
 -- comes after this one

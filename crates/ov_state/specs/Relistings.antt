@@ -1,5 +1,6 @@
 -- Inner: no public contract needs this. How surface nodes and rewrites are planned after the list
 -- of a file changed.
+use Rattle.ov_history.specs.Limits.{most_nodes}
 use Rattle.std.specs.Prelude.{◌≡◌, ℕ, ◌+◌, ◌<◌, ◌≤◌, ◌==◌, Bool, true, false, not, nat_lt, List, []}
 use Rattle.std.specs.Prelude.{◌∷◌, ◌++◌, length, slice_index, Contains, Option, Some, None, is_some}
 use Rattle.ov_history.specs.Places.{living_at}
@@ -196,10 +197,10 @@ IsMissing c user file why =
 
 -- why an update finds no room: a layer of these sets has too many nodes, or no epoch comes after
 -- this one
-abbrev pub room_refusal : List ℕ → ℕ → Option Refusal
-room_refusal sets epoch =
+abbrev pub room_refusal : ℕ → List ℕ → ℕ → Option Refusal
+room_refusal most sets epoch =
     first_of_tests
-    ((NodesFull, nat_lt MAX_LAYER_NODES (length sets)) ∷ (Spent, is_last epoch) ∷ [])
+    ((NodesFull, nat_lt most (length sets)) ∷ (Spent, is_last epoch) ∷ [])
 
 -- the update that does this with a user and the list of a file
 abbrev pub update_by : Verb → ℕ → ℕ → Update
@@ -216,7 +217,7 @@ pub record IsDecided {W : ℕ} (c : Catalogue) (u : Update) (user file : ℕ)
   pub node : r.node ≡ (filed_at c file).node
   pub wants : wants_after (outline c) r 0 (outline c).files
       ≡ wants_of (grown (outline c) u) (lists_after (lists_of (outline c)) u)
-  pub rest : refusal_at c u ≡ room_refusal
+  pub rest : refusal_at c u ≡ room_refusal (most_nodes c.limits)
       (with_wants c.surface.sets (wants_after (outline c) r 0 (outline c).files)) c.epoch
 
 -- what grows by a grant: an access token, where there is one

@@ -1,6 +1,7 @@
 //! One pass over the files that may move after a relisting: that of the relisting and, where the
 //! holders of its base node grow in Delta, those beside it. The question for it and its plan
 //! collect the same wanted sets, each in its own way.
+ghost use Rattle.ov_history.specs.Limits.{most_nodes};
 ghost use Rattle.std.specs.Prelude.{◌≡◌, ◌<◌, ◌≤◌, ◌+◌, ◌*◌, ◌++◌, ◌∷◌, [], ℕ, List, Option, Some};
 ghost use Rattle.std.specs.Prelude.{None, IfErr, IfSome, OnOk, length, take, true};
 ghost use Rattle.ov_base.specs.declared.limits.TheConstants.{MAX_LAYER_NODES};
@@ -55,6 +56,12 @@ pub trait Collector<S: Graph<Surface, W>, const W: usize> {
             → has start c wants self.old
             → IsNext c wants (nodes_of (S.contents graph.now)) file entry.now
             → IfErr result (IsFull (with_wants c.surface.sets (wants ++ want.now ∷ []))) };
+
+    /// How many nodes the layer of the graph has with the sets that are collected.
+    fn many(&self, graph: &S) -> usize
+        ensures { (start : Self) (c : Catalogue) (wants : List (Option ℕ))
+            → has start c wants self.now → nodes_of (S.contents graph.now) ≡ c.surface
+            → result ≡ length (with_wants c.surface.sets wants) };
 
     /// Does nothing. Its contract is what holds of every collector: its layer has room for the sets
     /// that are collected, and a file that has its wanted surface already adds nothing. Neither
@@ -185,7 +192,7 @@ impl<B: Graph<Base, W>, S: Graph<Surface, W>, const W: usize> State<B, S, W> {
             collector.new) }
         ensures room { let y = outline self.now.catalogue in
             let sets = with_wants y.surface (wants_after y relisting.now 0 y.files) in
-            Passes (room_refusal sets y.epoch) result }
+            Passes (room_refusal (most_nodes y.limits) sets y.epoch) result }
     {
         self.known();
         let numbers = self.moving(relisting);
@@ -194,6 +201,10 @@ impl<B: Graph<Base, W>, S: Graph<Surface, W>, const W: usize> State<B, S, W> {
             self.collect_file(relisting, *file, collector)?;
         }
         collector.known();
+        let many = collector.many(&self.surface);
+        if self.is_past(many) {
+            return Err(ChainFault::Refused(Refusal::NodesFull));
+        }
         if self.is_spent() {
             return Err(ChainFault::Refused(Refusal::Spent));
         }

@@ -51,10 +51,13 @@ impl<B: Graph<Base, W>, S: Graph<Surface, W>, const W: usize> State<B, S, W> {
         ensures err { IfErr result (λ why. HasNoSite self.now.catalogue list.now (fault_of why)) }
     {
         self.known();
-        let cover = self.base.plan_create(alloc, list)?;
+        let cover = self.base_cover(alloc, list)?;
         let holders = self.holders_then(&cover, list);
         let mut new = NewSets::new(alloc);
         new.add(&self.surface, &wanted(self.mode, list, &holders))?;
+        if self.is_past_with(new.sets.as_slice().len()) {
+            return Err(GraphRefusal::NodesFull);
+        }
         Ok(cover)
     }
 

@@ -114,6 +114,7 @@ mod commit;
 mod covering;
 mod fault;
 mod files;
+mod limits;
 mod lookup;
 mod new_nodes;
 mod new_sets;
@@ -131,6 +132,7 @@ mod room;
 mod site;
 mod state;
 
+pub use limits::StoreLimits;
 pub use asking::Asked;
 pub use brief::Brief;
 pub use chained::Chained;

@@ -1,12 +1,12 @@
 //! What plans look up in a state.
-ghost use Rattle.std.specs.Prelude.{◌≡◌, ◌<◌, ◌≤◌, ◌+◌, ◌||◌, Some, length, nat_le, nat_lt};
+ghost use Rattle.ov_history.specs.Limits.{Limits, most_bytes, most_files, most_nodes};
+ghost use Rattle.std.specs.Prelude.{◌^◌, ◌≡◌, ◌<◌, ◌≤◌, ◌+◌, ◌||◌, Some, length, nat_le, nat_lt};
 ghost use Rattle.std.specs.Prelude.{is_some, true, IfSome};
 ghost use Rattle.ov_history.specs.Places.{living_at};
 ghost use Rattle.ov_base.specs.NameLists.{is_among};
 ghost use Rattle.ov_base.specs.Sets.{within};
-ghost use Rattle.ov_base.specs.declared.limits.TheConstants.{MAX_FILES, MAX_FILE_BYTES};
-ghost use Rattle.ov_base.specs.declared.limits.TheConstants.{MAX_LAYER_NODES};
-ghost use Rattle.ov_base.specs.declared.limits.TheConstants.{MAX_STORE_BYTES, MAX_USERS};
+ghost use Rattle.ov_base.specs.declared.limits.TheConstants.{MAX_FILE_BYTES};
+ghost use Rattle.ov_base.specs.declared.limits.TheConstants.{MAX_USERS};
 ghost use Rattle.ov_history.specs.Layers.{holders, list_at, set_or};
 ghost use Rattle.ov_history.specs.Lists.{byte_sum, everyone, file_number, is_file};
 ghost use Rattle.ov_history.specs.Refusals.{is_last};
@@ -16,7 +16,7 @@ ghost use Rattle.ov_state.specs.Entries.{filed_names, plain_file, AreOfNode};
 
 use crate::files::FileEntry;
 use crate::state::State;
-use ov_base::limits::{LAST_EPOCH, MAX_FILES, MAX_LAYER_NODES, MAX_STORE_BYTES, MAX_USERS};
+use ov_base::limits::{LAST_EPOCH, MAX_USERS};
 use ov_base::{Name, UserSet};
 use ov_graph::Graph;
 use ov_tokens::{Base, Surface};
@@ -123,27 +123,52 @@ impl<B: Graph<Base, W>, S: Graph<Surface, W>, const W: usize> State<B, S, W> {
 
     /// Whether as many numbers of files were given out as a store has.
     pub(crate) fn is_full_of_files(&self) -> bool
-        ensures { result ≡ nat_le MAX_FILES (length self.now.catalogue.files) }
+        ensures { result ≡ nat_le (most_files self.now.catalogue.limits) (length self.now.catalogue.files) }
     {
-        self.files.count() >= MAX_FILES
+        self.files.count() >= self.limits.most_files()
     }
 
     /// Whether the files would have more bytes than a store holds, with this many more.
     pub(crate) fn is_full_of_bytes(&self, more: u32) -> bool
         requires { more ≤ MAX_FILE_BYTES }
-        ensures { result ≡ nat_lt MAX_STORE_BYTES
+        ensures { result ≡ nat_lt (most_bytes self.now.catalogue.limits)
             (byte_sum (matrix_shown self.now.catalogue).files + more) }
     {
         self.known();
-        self.size + u64::from(more) > MAX_STORE_BYTES
+        self.size + u64::from(more) > self.limits.most_bytes()
     }
 
     /// Whether a layer has as many nodes as a store holds.
     pub(crate) fn is_full_of_nodes(&self) -> bool
-        ensures { result ≡ (nat_le MAX_LAYER_NODES (length self.now.catalogue.base.sets)
-            || nat_le MAX_LAYER_NODES (length self.now.catalogue.surface.sets)) }
+        ensures { result ≡ (nat_le (most_nodes self.now.catalogue.limits) (length self.now.catalogue.base.sets)
+            || nat_le (most_nodes self.now.catalogue.limits) (length self.now.catalogue.surface.sets)) }
     {
-        self.base.graph().count() >= MAX_LAYER_NODES || self.surface.count() >= MAX_LAYER_NODES
+        let most = self.limits.most_nodes();
+        self.base.graph().count() >= most || self.surface.count() >= most
+    }
+
+    /// Whether the base layer has as many nodes as it may have.
+    pub(crate) fn is_full_of_base(&self) -> bool
+        ensures { result ≡ nat_le (most_nodes self.now.catalogue.limits)
+            (length self.now.catalogue.base.sets) }
+    {
+        self.base.graph().count() >= self.limits.most_nodes()
+    }
+
+    /// Whether the surface layer has more nodes than it may have with so many more.
+    pub(crate) fn is_past_with(&self, more: usize) -> bool
+        requires { length self.now.catalogue.surface.sets + more < 2 ^ 40 }
+        ensures { result ≡ nat_lt (most_nodes self.now.catalogue.limits)
+            (length self.now.catalogue.surface.sets + more) }
+    {
+        self.surface.count() as usize + more > self.limits.most_nodes() as usize
+    }
+
+    /// Whether a layer of so many nodes has more than it may have.
+    pub(crate) fn is_past(&self, many: usize) -> bool
+        ensures { result ≡ nat_lt (most_nodes self.now.catalogue.limits) many }
+    {
+        many > self.limits.most_nodes() as usize
     }
 
     /// Whether no epoch is left.

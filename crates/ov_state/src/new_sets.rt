@@ -112,5 +112,9 @@ impl<S: Graph<Surface, W>, const W: usize> Collector<S, W> for NewSets<W> {
         self.add(graph, want)
     }
 
+    fn many(&self, graph: &S) -> usize {
+        graph.count() as usize + self.sets.len()
+    }
+
     fn known(&self) {}
 }

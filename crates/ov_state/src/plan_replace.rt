@@ -1,6 +1,7 @@
 //! Replacements as changes.
+ghost use Rattle.ov_history.specs.Limits.{Limits, most_bytes, most_files, most_nodes};
 ghost use Rattle.std.specs.Prelude.{◌≡◌, ◌≤◌, ◌+◌, ◌*◌, is_some, nat_lt, true, IfOk};
-ghost use Rattle.ov_base.specs.declared.limits.TheConstants.{MAX_FILE_BYTES, MAX_STORE_BYTES};
+ghost use Rattle.ov_base.specs.declared.limits.TheConstants.{MAX_FILE_BYTES};
 ghost use Rattle.ov_history.specs.Catalogue.{matrix_shown};
 ghost use Rattle.ov_history.specs.Lists.{byte_sum};
 ghost use Rattle.ov_history.specs.Places.{change_at, gone, living_at};
@@ -16,7 +17,6 @@ use crate::files::FileEntry;
 use crate::plan_new::{only, tokens_place};
 use crate::site::{Site, new_node};
 use crate::state::State;
-use ov_base::limits::MAX_STORE_BYTES;
 use ov_base::{Memory, Name, Refusal, UserSet};
 use ov_graph::Graph;
 use ov_tokens::{Base, Master, Surface, Tokens};
@@ -29,9 +29,9 @@ impl<B: Graph<Base, W>, S: Graph<Surface, W>, const W: usize> State<B, S, W> {
         requires there { is_some (living_at self.now.catalogue.files file) ≡ true }
         requires more { more ≤ MAX_FILE_BYTES }
         ensures { let left = change_at gone file (matrix_shown self.now.catalogue).files in
-            result ≡ nat_lt MAX_STORE_BYTES (byte_sum left + more) }
+            result ≡ nat_lt (most_bytes self.now.catalogue.limits) (byte_sum left + more) }
     {
-        self.size_without(file) + u64::from(more) > MAX_STORE_BYTES
+        self.size_without(file) + u64::from(more) > self.limits.most_bytes()
     }
 
     /// Why a replacement of a file by one of this many bytes is refused, if it is before its nodes

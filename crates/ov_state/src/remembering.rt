@@ -1,13 +1,12 @@
 //! The cover that an owner asked for before a creation or a replacement, which then isn't planned
 //! again.
-ghost use Rattle.std.specs.Prelude.{◌≡◌, ◌↔◌, ◌*◌, length, Err, IfOk, IfSome, IsTrue};
-ghost use Rattle.ov_base.specs.declared.limits.TheConstants.{MAX_LAYER_NODES};
+ghost use Rattle.std.specs.Prelude.{◌≤◌, ◌≡◌, length, Err, IfOk, IfSome, IsTrue};
+ghost use Rattle.ov_history.specs.Limits.{most_nodes};
 ghost use Rattle.ov_graph.specs.Contents.{plan_of};
 ghost use Rattle.ov_state.specs.Remembering.{IsPlannedIn};
 
 use crate::covering::Planned;
 use crate::state::State;
-use ov_base::limits::MAX_LAYER_NODES;
 use ov_base::{Memory, UserSet};
 use ov_graph::{Cover, Graph, GraphRefusal};
 use ov_tokens::{Base, Numbers, Surface};
@@ -52,15 +51,24 @@ impl<B: Graph<Base, W>, S: Graph<Surface, W>, const W: usize> State<B, S, W> {
         ensures cover { let sets = self.now.catalogue.base.sets in
             IfOk result (λ cover. cover ≡ plan_of sets list.now) }
         ensures full { let sets = self.now.catalogue.base.sets in
-            (result ≡ Err GraphRefusal.NodesFull)
-            ↔ ((length sets ≡ MAX_LAYER_NODES) × IsTrue (plan_of sets list.now).fresh) }
+            result ≡ Err GraphRefusal.NodesFull
+            → most_nodes self.now.catalogue.limits ≤ length sets }
+        ensures fresh { let sets = self.now.catalogue.base.sets in
+            result ≡ Err GraphRefusal.NodesFull → IsTrue (plan_of sets list.now).fresh }
+        ensures room { let sets = self.now.catalogue.base.sets in
+            IfOk result (λ _. most_nodes self.now.catalogue.limits ≤ length sets
+            → IsTrue (plan_of sets list.now).fresh → ⊥) }
     {
-        let Some(cover) = self.remembered_for(list) else {
-            return self.base.plan_create(alloc, list);
-        };
-        if cover.fresh && self.base.graph().count() == MAX_LAYER_NODES {
+        if let Some(cover) = self.remembered_for(list) {
+            if cover.fresh && self.is_full_of_base() {
+                return Err(GraphRefusal::NodesFull);
+            }
+            return Ok(copy_of(alloc, cover)?);
+        }
+        let cover = self.base.plan_create(alloc, list)?;
+        if cover.fresh && self.is_full_of_base() {
             return Err(GraphRefusal::NodesFull);
         }
-        Ok(copy_of(alloc, cover)?)
+        Ok(cover)
     }
 }

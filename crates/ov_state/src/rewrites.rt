@@ -98,5 +98,9 @@ impl<S: Graph<Surface, W>, const W: usize> Collector<S, W> for Rewrites<'_, W> {
         Ok(())
     }
 
+    fn many(&self, graph: &S) -> usize {
+        graph.count() as usize + self.nodes.sets.as_slice().len()
+    }
+
     fn known(&self) {}
 }

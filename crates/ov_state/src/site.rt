@@ -8,7 +8,7 @@ use crate::change::NewNode;
 use crate::fault::PrepareFault;
 use crate::new_nodes::NewNodes;
 use crate::state::State;
-use ov_base::UserSet;
+use ov_base::{Refusal, UserSet};
 use ov_graph::{Cover, Graph};
 use ov_surface::wanted;
 use ov_tokens::{Base, Master, Surface, Tokens};
@@ -67,6 +67,9 @@ impl<B: Graph<Base, W>, S: Graph<Surface, W>, const W: usize> State<B, S, W> {
         let mut new = NewNodes::new(alloc);
         let to = new.surface_for(alloc, &self.surface, master, &want)?;
         let NewNodes { nodes, sets: _ } = new;
+        if self.is_past_with(nodes.as_slice().len()) {
+            return Err(PrepareFault::Refused(Refusal::NodesFull));
+        }
         Ok(Site {
             cover,
             surface: nodes,

@@ -2,10 +2,12 @@
 ghost use Rattle.std.specs.Prelude.{◌≡◌, ◌≤◌, ◌*◌, IfOk};
 ghost use Rattle.ov_base.specs.declared.limits.TheConstants.{MAX_SET_WORDS, MAX_USERS};
 ghost use Rattle.ov_history.specs.Catalogue.{empty_catalogue};
+ghost use Rattle.ov_state.specs.Bounds.{plain_limits};
 ghost use Rattle.ov_state.specs.Contents.{IsWell};
 
 use crate::covering::Planned;
 use crate::files::Files;
+use crate::limits::StoreLimits;
 use indexmap::IndexSet;
 use ov_base::{Memory, Mode, Name};
 use ov_base_layer::BaseLayer;
@@ -29,6 +31,7 @@ pub type Catalogue = State<LayerGraph<Base>, LayerGraph<Surface>, WIDTH>;
 pub struct State<B: Graph<Base, W>, S: Graph<Surface, W>, const W: usize> {
     pub(crate) mode: Mode,
     pub(crate) epoch: u32,
+    pub(crate) limits: StoreLimits,
     pub(crate) users: IndexSet<Name>,
     pub(crate) base: BaseLayer<B, W>,
     pub(crate) surface: S,
@@ -42,12 +45,13 @@ impl<B: Graph<Base, W>, S: Graph<Surface, W>, const W: usize> Model for State<B,
     ghost use Rattle.std.specs.Prelude.{◌*◌};
     ghost use Rattle.indexmap.specs.IndexSet.{spare as spare_values};
     ghost use Rattle.ov_state.specs.Contents.{catalogue_by, Held, IsWhole};
+    ghost use Rattle.ov_state.specs.Bounds.{plain_limits};
 
     ghost Value = { Held };
 
     ghost view = { λ s. record {
       catalogue = catalogue_by
-          s.mode s.epoch s.users.keys s.base (S.contents s.surface) s.files.files;
+          s.mode s.epoch (plain_limits s.limits) s.users.keys s.base (S.contents s.surface) s.files.files;
       room = record {
         users = spare_values s.users;
         files = s.files.spare;
@@ -60,20 +64,26 @@ impl<B: Graph<Base, W>, S: Graph<Surface, W>, const W: usize> Model for State<B,
     } };
 
     ghost invariant = { λ s. IsWhole (64 * W)
-        (catalogue_by s.mode s.epoch s.users.keys s.base (S.contents s.surface) s.files.files)
+        (catalogue_by s.mode s.epoch (plain_limits s.limits) s.users.keys s.base (S.contents s.surface) s.files.files)
         s.size s.remembered };
 }
 
 impl<B: Graph<Base, W>, S: Graph<Surface, W>, const W: usize> State<B, S, W> {
     /// No users and no files, at this epoch. A set is wide enough for all users that a store may
     /// have.
-    pub fn new(alloc: Global, mode: Mode, first: u32) -> Result<Self, Memory>
+    pub fn new(
+        alloc: Global,
+        mode: Mode,
+        first: u32,
+        limits: StoreLimits,
+    ) -> Result<Self, Memory>
         requires { (MAX_USERS ≤ 64 * W) × (W ≤ MAX_SET_WORDS) }
-        ensures { IfOk result (λ state. state.catalogue ≡ empty_catalogue mode first) }
+        ensures { IfOk result (λ state. state.catalogue ≡ empty_catalogue mode first (plain_limits limits)) }
     {
         Ok(State {
             mode,
             epoch: first,
+            limits,
             users: IndexSet::new(alloc),
             base: BaseLayer::new(alloc)?,
             surface: S::new(alloc)?,

@@ -1,4 +1,4 @@
-use Rattle.std.proofs.Common.{◌∙◌, ℕ, ◌+◌, List, rules, take, sym, subst, arith}
+use Rattle.std.proofs.Common.{◌∙◌, ℕ, ◌+◌, List, rules, take, sym, subst, arith, ap, ◌≤◌}
 use Rattle.std.specs.Prelude.{slice_index, Option}
 use Rattle.std.proofs.lemmas.Result.{err_from_is_err_and}
 use Rattle.ov_history.specs.Layers.{with_wants}
@@ -7,7 +7,12 @@ use Rattle.ov_state.specs.Asking.{IsRefusedFor}
 use Rattle.ov_state.specs.Relistings.{room_refusal, wants_after}
 use Rattle.ov_state.specs.declared.fault.ChainFault.{ChainFault}
 use Rattle.ov_state.proofs.ChangedWants.{full-all}
-use Rattle.ov_state.proofs.RoomTests.{full-room, some-room, spent-room}
+use Rattle.ov_state.proofs.RoomTests.{full-room, past-room, some-room, spent-room}
+use Rattle.ov_history.specs.Limits.{most_nodes}
+use Rattle.std.proofs.Math.Nat.{min-le_right}
+use Rattle.ov_base.specs.declared.limits.TheConstants.{MAX_LAYER_NODES}
+use Rattle.ov_base.proofs.Tests.{ge_of_false}
+use Rattle.ov_state.specs.Contents.{Held}
 use Rattle.ov_state.proofs.SkippedFiles.{behind-more, last-moving, next-moving}
 use Rattle.ov_state.proofs.state.State.over_wants.Goals as goal
 
@@ -39,9 +44,23 @@ returns-in_err-collect_file-clause-room g c =
     let wants : List (Option ℕ) = wants_after y c.args.relisting.now 0 y.files in
     let file = slice_index c.moving-numbers.result.now c.loop-file.file-index in
     let p = err_from_is_err_and c.from_residual.result c.from_residual.ensures.1 in
-    rw p.1 (subst (λ (fault : ChainFault). IsRefusedFor (room_refusal (with_wants s.surface.sets wants) s.epoch) fault) (sym p.2)
-    (full-room (with_wants s.surface.sets wants) s.epoch c.in_err-collect_file.field-0.0
+    rw p.1 (subst (λ (fault : ChainFault). IsRefusedFor (room_refusal (most_nodes s.limits) (with_wants s.surface.sets wants) s.epoch) fault) (sym p.2)
+    (full-room (most_nodes s.limits) (with_wants s.surface.sets wants) s.epoch c.in_err-collect_file.field-0.0
+    (min-le_right s.limits.nodes MAX_LAYER_NODES)
     (full-all s.surface.sets wants (file + 1) c.in_err-collect_file.field-0.0 c.in_err-collect_file.ensures.err)))
+
+pub returns-then-is_past-clause-room : goal.returns-then-is_past-clause-room
+returns-then-is_past-clause-room g c =
+    let s = c.args.self.now.catalogue in
+    let y = outline s in
+    let wants : List (Option ℕ) = wants_after y c.args.relisting.now 0 y.files in
+    let all = last-moving s c.args.relisting.now _ c.known.ensures
+    (λ (ws : List (Option ℕ)). g.C.Collector.has c.args.collector.now s ws c.loop-file.collector) (c.known-2.ensures.stays c.args.collector.now s)
+    (c.known-2.ensures.gone c.args.collector.now s)
+    c.moving-numbers.result.now c.moving-numbers.ensures c.loop-file.file-index (omega arith) c.loop-file.invariant in
+    past-room (most_nodes s.limits) (with_wants s.surface.sets wants) s.epoch c.many-many.result
+    (c.many-many.ensures c.args.collector.now s wants all (ap (λ (h : Held). h.catalogue.surface) c.self.view_is))
+    (sym c.is_past.ensures ∙ c.if-is_past.true)
 
 pub returns-then-is_spent-clause-room : goal.returns-then-is_spent-clause-room
 returns-then-is_spent-clause-room g c =
@@ -52,7 +71,9 @@ returns-then-is_spent-clause-room g c =
     (λ (ws : List (Option ℕ)). g.C.Collector.has c.args.collector.now s ws c.loop-file.collector) (c.known-2.ensures.stays c.args.collector.now s)
     (c.known-2.ensures.gone c.args.collector.now s)
     c.moving-numbers.result.now c.moving-numbers.ensures c.loop-file.file-index (omega arith) c.loop-file.invariant in
-    spent-room (with_wants s.surface.sets wants) s.epoch (c.known-2.ensures.few c.args.collector.now s wants all) (sym c.is_spent.ensures ∙ c.if-is_spent.true)
+    spent-room (most_nodes s.limits) (with_wants s.surface.sets wants) s.epoch
+    (subst (λ n. n ≤ most_nodes s.limits) (c.many-many.ensures c.args.collector.now s wants all (ap (λ (h : Held). h.catalogue.surface) c.self.view_is))
+    (ge_of_false (most_nodes s.limits) c.many-many.result (sym c.is_past.ensures ∙ c.if-is_past.false))) (sym c.is_spent.ensures ∙ c.if-is_spent.true)
 
 pub returns-clause-ok : goal.returns-clause-ok
 returns-clause-ok g c =
@@ -71,4 +92,6 @@ returns-clause-room g c =
     (λ (ws : List (Option ℕ)). g.C.Collector.has c.args.collector.now s ws c.loop-file.collector) (c.known-2.ensures.stays c.args.collector.now s)
     (c.known-2.ensures.gone c.args.collector.now s)
     c.moving-numbers.result.now c.moving-numbers.ensures c.loop-file.file-index (omega arith) c.loop-file.invariant in
-    some-room (with_wants s.surface.sets wants) s.epoch (c.known-2.ensures.few c.args.collector.now s wants all) (sym c.is_spent.ensures ∙ c.if-is_spent.false)
+    some-room (most_nodes s.limits) (with_wants s.surface.sets wants) s.epoch
+    (subst (λ n. n ≤ most_nodes s.limits) (c.many-many.ensures c.args.collector.now s wants all (ap (λ (h : Held). h.catalogue.surface) c.self.view_is))
+    (ge_of_false (most_nodes s.limits) c.many-many.result (sym c.is_past.ensures ∙ c.if-is_past.false))) (sym c.is_spent.ensures ∙ c.if-is_spent.false)
