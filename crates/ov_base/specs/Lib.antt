@@ -4,4 +4,5 @@ pub mod NameLists
 pub mod Names
 pub mod Refusals
 pub mod Sets
+pub mod StoreLimits
 pub mod Words

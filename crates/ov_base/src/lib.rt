@@ -5,8 +5,8 @@
 //! a list of distinct names; [`Octets`] is a list of bytes on the heap; a [`UserSet`] is a set of
 //! users, of any width; a [`Mode`] says when a file has a surface layer; a [`Refusal`] says by
 //! number and word why the access-matrix machine refuses a command; a [`Key`] is 32 bytes that no
-//! text shows; [`Memory`] is what any call may answer that takes room on the heap. The limits of a
-//! store are the constants of [`limits`].
+//! text shows; [`Memory`] is what any call may answer that takes room on the heap. A store's own
+//! limits are [`StoreLimits`]; the greatest that they may be are constants of [`limits`].
 //!
 //! Contracts see a name and octets as the list of their bytes, so a clause compares them with `≡`
 //! and knows nothing of how they are kept. They see a set of users as the number whose bits are its
@@ -26,6 +26,7 @@ mod name;
 mod names;
 mod octets;
 mod refusal;
+mod store_limits;
 mod user_set;
 
 pub use key::Key;
@@ -35,4 +36,5 @@ pub use name::{Name, is_letter_or_digit, is_name_byte};
 pub use names::Names;
 pub use octets::Octets;
 pub use refusal::Refusal;
+pub use store_limits::StoreLimits;
 pub use user_set::{UserSet, Users};

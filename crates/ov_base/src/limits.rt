@@ -13,18 +13,28 @@
 /// Of the formats of frames and of records, whose sets have a bit for each.
 pub const MAX_USERS: u32 = 1_024;
 
-/// Files of a store. Of the formats of frames, which have no number of a file past it, and of
-/// records: that of a grant may have so many first blocks.
-pub const MAX_FILES: u32 = 16_384;
+/// Files of any store: the most numbers of files that may be given out. Of the formats of frames,
+/// which have no number of a file past it, and of records: that of a grant may have so many first
+/// blocks.
+pub const MAX_FILES: u32 = 131_072;
+
+/// Numbers of files that may be given out where a store was made without a word about them.
+pub const USUAL_FILES: u32 = 16_384;
 
 /// Bytes of one file. Of the formats of frames and of records, and of that of scripts.
 pub const MAX_FILE_BYTES: u32 = 16_777_216;
 
-/// Bytes of all files of a store together.
-pub const MAX_STORE_BYTES: u64 = 67_108_864;
+/// Bytes of all files of any store together.
+pub const MAX_STORE_BYTES: u64 = 2_199_023_255_552;
 
-/// Nodes of one layer. Of the format of frames, which have no number of a node past it.
-pub const MAX_LAYER_NODES: u32 = 4_096;
+/// Bytes of all files together where a store was made without a word about them.
+pub const USUAL_STORE_BYTES: u64 = 67_108_864;
+
+/// Nodes of one layer of any store. Of the format of frames, which have no number of a node past it.
+pub const MAX_LAYER_NODES: u32 = 65_536;
+
+/// Nodes of one layer where a store was made without a word about them.
+pub const USUAL_LAYER_NODES: u32 = 4_096;
 
 /// Access tokens of a store: one from each user to each base node.
 pub const MAX_ACCESS_TOKENS: u32 = MAX_USERS * MAX_LAYER_NODES;

@@ -11,7 +11,8 @@ use Rattle.ov_history.specs.History.{Update, changed, delisted, epoch_of, listed
 use Rattle.ov_history.specs.History.{start_of, with_update}
 use Rattle.ov_history.specs.Plain.{history_of, measured_all}
 use Rattle.ov_history.specs.Layers.{layers_of}
-use Rattle.ov_history.specs.Limits.{Limits, most_files}
+use Rattle.ov_base.specs.declared.store_limits.StoreLimits.{StoreLimits}
+use Rattle.ov_base.specs.StoreLimits.{most_files}
 use Rattle.ov_history.proofs.MatrixLaws.{limits_of-layers_of}
 use Rattle.std.proofs.Math.Nat.{min-le_right}
 use Rattle.ov_history.specs.Refusals.{AllAccepted, IsLegal, refusal_of, tests_of}
@@ -42,7 +43,7 @@ few_after h (Created name list size) none few =
     let m : Matrix = matrix_of h in
     let new : File = record { name = name; length = size; list = list } in
     let full : nat_le (most_files h.limits) (length m.files) ≡ false =
-    subst (λ (l : Limits). nat_le (most_files l) (length m.files) ≡ false) (limits_of-layers_of h)
+    subst (λ (l : StoreLimits). nat_le (most_files l) (length m.files) ≡ false) (limits_of-layers_of h)
     (none_applies (tests_of m (layers_of h) (epoch_of h) (Created name list size)) none).1.1.0 in
     omega (arith, gt_of_false (most_files h.limits) (length m.files) full, length-append m.files (Some new ∷ []))
 few_after h (Granted user file) none few =
@@ -54,7 +55,7 @@ few_after h (Removed file) none few =
 few_after h (Replaced file size) none few =
     let m : Matrix = matrix_of h in
     let full : nat_le (most_files h.limits) (length m.files) ≡ false =
-    subst (λ (l : Limits). nat_le (most_files l) (length m.files) ≡ false) (limits_of-layers_of h)
+    subst (λ (l : StoreLimits). nat_le (most_files l) (length m.files) ≡ false) (limits_of-layers_of h)
     (none_applies (tests_of m (layers_of h) (epoch_of h) (Replaced file size)) none).1.0 in
     omega (arith, gt_of_false (most_files h.limits) (length m.files) full, length-anew m file size)
 

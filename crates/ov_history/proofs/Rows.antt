@@ -3,7 +3,7 @@ use Rattle.std.specs.Prelude.{ℕ, ◌≡◌, List, [], ◌∷◌, ◌++◌, Som
 use Rattle.std.proofs.Common.{refl}
 use Rattle.ov_base.specs.declared.mode.Mode.TheVariants.{Full, Delta}
 use Rattle.ov_history.specs.History.{History, Update, Enrolled, Created, Granted, Revoked}
-use Rattle.ov_history.specs.Limits.{usual}
+use Rattle.ov_base.specs.StoreLimits.{usual}
 use Rattle.ov_history.specs.Layers.{Layers, Place, layers_of}
 use Rattle.std.specs.Prelude.{Option}
 use Rattle.ov_history.specs.History.{Removed, Replaced}

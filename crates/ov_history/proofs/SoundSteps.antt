@@ -5,7 +5,7 @@ use Rattle.std.specs.Prelude.{Contains, Option, Some, None, is_some, option_map,
 use Rattle.ov_base.specs.Sets.{empty as nobody, IsBelow}
 use Rattle.ov_base.proofs.SetLaws.{IsBelow-Within}
 use Rattle.ov_base.specs.declared.limits.TheConstants.{MAX_LAYER_NODES}
-use Rattle.ov_history.specs.Limits.{most_nodes}
+use Rattle.ov_base.specs.StoreLimits.{most_nodes}
 use Rattle.std.proofs.Math.Nat.{min-le_right}
 use Rattle.ov_graph.proofs.ListLaws.{Contains-none}
 use Rattle.ov_base_layer.specs.Holders.{accesses_of, AreFirst}

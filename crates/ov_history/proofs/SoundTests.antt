@@ -5,7 +5,7 @@ use Rattle.std.specs.Prelude.{not, nat_lt, None}
 use Rattle.std.proofs.lemmas.Bool.{cases_lt, or_parts}
 use Rattle.std.proofs.lemmas.Nat.Bits.{bit_at_ones_above}
 use Rattle.ov_base.specs.Sets.{IsBelow}
-use Rattle.ov_history.specs.Limits.{most_nodes}
+use Rattle.ov_base.specs.StoreLimits.{most_nodes}
 use Rattle.ov_base.proofs.SetLaws.{Has-bit, within-Within}
 use Rattle.ov_base.proofs.Tests.{ge_of_false, lt_of_true, true_of_not}
 use Rattle.ov_history.specs.Lists.{everyone}

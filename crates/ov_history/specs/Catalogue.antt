@@ -1,5 +1,5 @@
 -- The catalogue: all that a store publishes.
-use Rattle.ov_history.specs.Limits.{Limits}
+use Rattle.ov_base.specs.declared.store_limits.StoreLimits.{StoreLimits}
 use Rattle.std.specs.Prelude.{ℕ, ◌+◌, Bool, true, false, List, [], ◌∷◌, ◌++◌, length}
 use Rattle.std.specs.Prelude.{Option, Some, None, option_map, unwrap_or}
 use Rattle.ov_base.specs.Sets.{single}
@@ -41,7 +41,7 @@ pub record Filed : Type 0 where
 pub record Catalogue : Type 0 where
   pub mode : Mode
   pub epoch : ℕ
-  pub limits : Limits
+  pub limits : StoreLimits
   pub users : List (List ℕ)
   pub base : Nodes
   pub surface : Nodes
@@ -53,7 +53,7 @@ abbrev pub no_nodes : Nodes
 no_nodes = record { sets = []; edges = [] }
 
 -- the catalogue of a store of this mode that begins empty, at this epoch
-abbrev pub empty_catalogue : Mode → ℕ → Limits → Catalogue
+abbrev pub empty_catalogue : Mode → ℕ → StoreLimits → Catalogue
 empty_catalogue mode first limits = record {
   mode = mode;
   epoch = first;

@@ -1,5 +1,5 @@
 -- Histories of updates, and the access matrix that they make.
-use Rattle.ov_history.specs.Limits.{Limits}
+use Rattle.ov_base.specs.declared.store_limits.StoreLimits.{StoreLimits}
 use Rattle.std.specs.Prelude.{ℕ, ◌+◌, List, [], ◌∷◌, ◌++◌, length, Option, Some, option_map}
 use Rattle.std.specs.Prelude.{unwrap_or}
 use Rattle.ov_base.specs.Sets.{empty as nobody, with, without}
@@ -20,7 +20,7 @@ pub data Update : Type 0 where
 pub record History : Type 0 where
   pub mode : Mode
   pub first : ℕ
-  pub limits : Limits
+  pub limits : StoreLimits
   pub updates : List Update
 
 -- a file of the matrix: its name, how many bytes it has, and the set of the users who may read it
@@ -91,7 +91,7 @@ abbrev pub with_update : History → Update → History
 with_update h u = record h { updates = h.updates ++ u ∷ [] }
 
 -- a store of this mode that begins empty, at this epoch
-abbrev pub empty : Mode → ℕ → Limits → History
+abbrev pub empty : Mode → ℕ → StoreLimits → History
 empty mode first limits = record { mode = mode; first = first; limits = limits; updates = [] }
 
 -- the history before its first update

@@ -1,5 +1,5 @@
 -- The laws of sealing, and of stores that keep a legal history that is sealed under two masters.
-use Rattle.ov_history.specs.Limits.{Limits}
+use Rattle.ov_base.specs.declared.store_limits.StoreLimits.{StoreLimits}
 use Rattle.std.specs.Prelude.{◌≡◌, ◌↔◌, ℕ, ◌<◌, List, [], ◌∷◌, length, slice_index_or}
 use Rattle.std.specs.Prelude.{Some, None, true}
 use Rattle.ov_base.specs.declared.mode.Mode.{Mode}
@@ -66,7 +66,7 @@ OwnersHistories =
 -- a store that begins empty keeps the history without updates
 abbrev pub NothingIsKept : Type 0
 NothingIsKept =
-    (k : Masters) (mode : Mode) (first : ℕ) (limits : Limits)
+    (k : Masters) (mode : Mode) (first : ℕ) (limits : StoreLimits)
     → IsKept k (empty_plain mode first limits) (empty_catalogue mode first limits)
     × AreKept k (empty_plain mode first limits) []
 

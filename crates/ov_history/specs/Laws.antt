@@ -1,6 +1,6 @@
 -- The laws of sealed histories and of the catalogues that stand for them. None of them needs to
 -- know which cipher lies over the bytes.
-use Rattle.ov_history.specs.Limits.{Limits}
+use Rattle.ov_base.specs.declared.store_limits.StoreLimits.{StoreLimits}
 use Rattle.std.specs.Prelude.{◌≡◌, ◌≢◌, ◌⊎◌, ◌↔◌, ℕ, ◌<◌, ◌≤◌, List, [], ◌∷◌, length, slice_get}
 use Rattle.std.specs.Prelude.{Contains, Some, None, Bool, true, IsTrue}
 use Rattle.ov_base.specs.declared.mode.Mode.{Mode}
@@ -114,7 +114,7 @@ NumberedOnce =
 -- a catalogue that begins empty stands for the history without updates
 abbrev pub HistoriesBegin : Type 0
 HistoriesBegin =
-    (master : List ℕ) (mode : Mode) (first : ℕ) (limits : Limits)
+    (master : List ℕ) (mode : Mode) (first : ℕ) (limits : StoreLimits)
     → StandsFor master (empty_catalogue mode first limits) (blank mode first limits)
 
 -- a sealed history goes on with each update that isn't refused and has its parts, and a catalogue
@@ -170,7 +170,7 @@ SoundGoesOn =
 
 -- a catalogue that begins empty is sound
 abbrev pub NothingIsSound : Type 0
-NothingIsSound = (mode : Mode) (first : ℕ) (limits : Limits) → IsSound (empty_catalogue mode first limits)
+NothingIsSound = (mode : Mode) (first : ℕ) (limits : StoreLimits) → IsSound (empty_catalogue mode first limits)
 
 -- a catalogue that stands for a sealed history is sound
 abbrev pub HistoriesAreSound : Type 0

@@ -1,5 +1,5 @@
 -- The two layers of sets that a history makes, and where each file is in them.
-use Rattle.ov_history.specs.Limits.{Limits}
+use Rattle.ov_base.specs.declared.store_limits.StoreLimits.{StoreLimits}
 use Rattle.std.specs.Prelude.{ℕ, ◌+◌, ◌==◌, Bool, true, false, List, [], ◌∷◌, ◌++◌, slice_index}
 use Rattle.std.specs.Prelude.{Option, Some, None, option_map, unwrap_or}
 use Rattle.ov_base.specs.Sets.{empty as nobody, single, has, with, without}
@@ -44,7 +44,7 @@ pub record Place : Type 0 where
 pub record Layers : Type 0 where
   pub mode : Mode
   pub epoch : ℕ
-  pub limits : Limits
+  pub limits : StoreLimits
   pub users : ℕ
   pub base : List ℕ
   pub surface : List ℕ
@@ -52,7 +52,7 @@ pub record Layers : Type 0 where
   pub files : List (Option Place)
 
 -- the layers of a store that begins empty
-abbrev pub no_layers : Mode → ℕ → Limits → Layers
+abbrev pub no_layers : Mode → ℕ → StoreLimits → Layers
 no_layers mode first limits = record {
   mode = mode;
   epoch = first;

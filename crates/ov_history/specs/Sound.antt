@@ -2,7 +2,7 @@
 use Rattle.std.specs.Prelude.{◌≡◌, ℕ, ◌<◌, ◌≤◌, length, Contains, Some, IfSome}
 use Rattle.ov_base.specs.Sets.{single, IsBelow, Within}
 use Rattle.ov_base.specs.declared.limits.TheConstants.{MAX_LAYER_NODES}
-use Rattle.ov_history.specs.Limits.{most_nodes}
+use Rattle.ov_base.specs.StoreLimits.{most_nodes}
 use Rattle.ov_base_layer.specs.Holders.{accesses_of, AreFirst}
 use Rattle.ov_graph.specs.Contents.{IsGraph}
 use Rattle.ov_history.specs.Places.{living_at}

@@ -1,5 +1,5 @@
 -- A state that begins.
-use Rattle.ov_history.specs.Limits.{Limits}
+use Rattle.ov_base.specs.declared.store_limits.StoreLimits.{StoreLimits}
 use Rattle.std.specs.Prelude.{Option}
 use Rattle.std.proofs.Common.{◌≡◌, ℕ, ◌≤◌, ◌*◌, List, [], refl, sym, subst}
 use Rattle.std.specs.Prelude.{None}
@@ -11,7 +11,7 @@ use Rattle.ov_state.specs.Contents.{IsWhole, catalogue_by}
 use Rattle.ov_base.specs.declared.limits.TheConstants.{LAST_EPOCH, MAX_SET_WORDS, MAX_USERS}
 use Rattle.ov_state.proofs.WellAfter.{well_nothing}
 
-pub begun : (mode : Mode) (first : ℕ) (limits : Limits) (users : List (List ℕ)) (base : BaseContents) (surface : Contents) (files : List (Option Filed))
+pub begun : (mode : Mode) (first : ℕ) (limits : StoreLimits) (users : List (List ℕ)) (base : BaseContents) (surface : Contents) (files : List (Option Filed))
     → users ≡ [] → base.graph.sets ≡ [] → base.graph.edges ≡ [] → base.grants ≡ [] → surface.sets ≡ [] → surface.edges ≡ [] → files ≡ []
     → catalogue_by mode first limits users base surface files ≡ empty_catalogue mode first limits
 begun mode first limits users base surface files u s e g t f none = λ i. record {
@@ -25,7 +25,7 @@ begun mode first limits users base surface files u s e g t f none = λ i. record
   files = none i;
 }
 
-pub begun_is_whole : (W limit : ℕ) (mode : Mode) (first : ℕ) (limits : Limits) (users : List (List ℕ)) (base : BaseContents) (surface : Contents) (files : List (Option Filed))
+pub begun_is_whole : (W limit : ℕ) (mode : Mode) (first : ℕ) (limits : StoreLimits) (users : List (List ℕ)) (base : BaseContents) (surface : Contents) (files : List (Option Filed))
     → users ≡ [] → base.graph.sets ≡ [] → base.graph.edges ≡ [] → base.grants ≡ [] → surface.sets ≡ [] → surface.edges ≡ [] → files ≡ []
     → MAX_USERS ≤ limit → limit ≤ 64 * MAX_SET_WORDS → first ≤ LAST_EPOCH → IsWhole {W = W} limit (catalogue_by mode first limits users base surface files) 0 None
 begun_is_whole W limit mode first limits users base surface files u s e g t f none low high small =

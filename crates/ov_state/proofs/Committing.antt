@@ -1,5 +1,5 @@
 -- A change as it is made, part by part.
-use Rattle.ov_history.specs.Limits.{Limits}
+use Rattle.ov_base.specs.declared.store_limits.StoreLimits.{StoreLimits}
 use Rattle.std.proofs.Math.Nat.{min-le_right}
 use Rattle.std.specs.Prelude.{Option, option_map}
 use Rattle.std.proofs.Common.{◌≡◌, ℕ, ◌+◌, ◌≤◌, List, [], ◌∷◌, length, refl, sym, ◌∙◌, ap, subst, arith}
@@ -17,7 +17,7 @@ use Rattle.ov_state.specs.Changes.{applied, users_grown, files_grown, grants_gro
 use Rattle.ov_state.specs.declared.change.Change.{Change}
 
 -- the catalogue of the parts after a change, where each part was changed as it says
-pub made_is_applied : {W : ℕ} (old : Catalogue) (c : Change W) (mode : Mode) (epoch : ℕ) (limits : Limits) (users new_users : List (List ℕ)) (base new_base : BaseContents)
+pub made_is_applied : {W : ℕ} (old : Catalogue) (c : Change W) (mode : Mode) (epoch : ℕ) (limits : StoreLimits) (users new_users : List (List ℕ)) (base new_base : BaseContents)
     (surface new_surface : Contents) (files grown new_files : List (Option Filed))
     → catalogue_by mode epoch limits users base surface files ≡ old
     → new_users ≡ users_grown users c.growth

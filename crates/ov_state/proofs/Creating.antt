@@ -1,5 +1,5 @@
 -- Creations: what they make, and why they are refused.
-use Rattle.ov_history.specs.Limits.{most_nodes}
+use Rattle.ov_base.specs.StoreLimits.{most_nodes}
 use Rattle.std.proofs.Common.{◌≡◌, ℕ, ◌+◌, ◌<◌, Bool, true, false, not, List, [], ◌∷◌, ◌++◌, length, refl, sym, ◌∙◌, ap, arith, true≢false}
 use Rattle.std.specs.Prelude.{◌||◌, nat_lt, Option, Some, None}
 use Rattle.std.proofs.lemmas.Bool.Decides.{nat_tests}

@@ -1,5 +1,5 @@
 -- The change of a creation makes the catalogue after it.
-use Rattle.ov_history.specs.Limits.{most_nodes}
+use Rattle.ov_base.specs.StoreLimits.{most_nodes}
 use Rattle.std.proofs.Math.Nat.{min-le_right}
 use Rattle.std.specs.Prelude.{option_map, Some}
 use Rattle.std.specs.Prelude.{Option}

@@ -1,5 +1,5 @@
 -- Why a grant or a revocation is refused, by what is looked at.
-use Rattle.ov_history.specs.Limits.{most_nodes}
+use Rattle.ov_base.specs.StoreLimits.{most_nodes}
 use Rattle.std.proofs.Common.{◌≡◌, ℕ, ◌<◌, ◌≤◌, Bool, true, false, List, [], ◌∷◌, length, ◌∙◌, ap}
 use Rattle.std.specs.Prelude.{not, is_some, nat_lt, unwrap_or, ◌||◌, Option, Some}
 use Rattle.ov_base.specs.Sets.{empty as nobody, has}

@@ -1,5 +1,5 @@
 -- The tests of an enrolment and of a creation, as a state makes them.
-use Rattle.ov_history.specs.Limits.{most_files}
+use Rattle.ov_base.specs.StoreLimits.{most_files}
 use Rattle.std.proofs.Common.{◌≡◌, ℕ, suc, Bool, true, false, List, [], ◌∷◌, ◌++◌, length, refl, sym, ◌∙◌, ap, subst, arith}
 use Rattle.std.specs.Prelude.{◌||◌, nat_le, nat_lt, is_some, IfSome, Option, Some, None}
 use Rattle.std.specs.Str.{bytes_eq}

@@ -1,5 +1,5 @@
 -- Removals: what they make, and why they are refused.
-use Rattle.ov_history.specs.Limits.{most_nodes}
+use Rattle.ov_base.specs.StoreLimits.{most_nodes}
 use Rattle.std.proofs.Common.{◌≡◌, ℕ, zero, suc, ◌+◌, Bool, true, false, not, List, [], ◌∷◌, length, refl, sym, ◌∙◌, ap, subst}
 use Rattle.std.specs.Prelude.{◌||◌, is_some, nat_lt, option_map, Option, None}
 use Rattle.ov_base.specs.declared.refusal.Refusal.TheVariants.{NoFile, NodesFull, Spent}

@@ -1,6 +1,6 @@
 -- Replacements: what they make, and why they are refused. A replacement makes what a creation makes
 -- of the catalogue in which the old file is gone.
-use Rattle.ov_history.specs.Limits.{most_files}
+use Rattle.ov_base.specs.StoreLimits.{most_files}
 use Rattle.std.proofs.Common.{◌≡◌, ℕ, zero, suc, ◌+◌, ◌≤◌, true, List, [], ◌∷◌, ◌++◌, length, refl, sym, ◌∙◌, ap, subst, arith}
 use Rattle.std.specs.Prelude.{is_some, Option, Some, None}
 use Rattle.ov_base.proofs.Tests.{true_of_not}

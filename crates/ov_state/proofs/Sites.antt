@@ -1,6 +1,6 @@
 -- A new file has its place where no layer is full.
 use Rattle.std.specs.Prelude.{nat_le}
-use Rattle.ov_history.specs.Limits.{most_nodes}
+use Rattle.ov_base.specs.StoreLimits.{most_nodes}
 use Rattle.std.proofs.Math.Nat.{min-le_right}
 use Rattle.std.proofs.Common.{◌≡◌, ℕ, ◌+◌, ◌≤◌, Bool, true, false, List, [], ◌∷◌, ◌++◌, length, refl, sym, ◌∙◌, ap, subst, arith, length-append}
 use Rattle.std.specs.Prelude.{◌||◌, nat_lt, Option, Some, None, IfSome, IsTrue}

@@ -1,5 +1,6 @@
 -- What holds of every state holds after each update that isn't refused and has its parts.
-use Rattle.ov_history.specs.Limits.{Limits, most_bytes, most_files}
+use Rattle.ov_base.specs.declared.store_limits.StoreLimits.{StoreLimits}
+use Rattle.ov_base.specs.StoreLimits.{most_bytes, most_files}
 use Rattle.std.specs.Prelude.{Some}
 use Rattle.std.proofs.Common.{◌≡◌, ℕ, ◌+◌, ◌≤◌, ◌*◌, List, [], ◌∷◌, length, sym, ◌∙◌, subst, arith, length-append, false}
 use Rattle.std.specs.Prelude.{Option, None, nat_le}
@@ -152,7 +153,7 @@ well_after limit master s u well refused parts fits = record {
 
 -- ---- the beginning
 
-pub well_nothing : (limit : ℕ) → MAX_USERS ≤ limit → limit ≤ 64 * MAX_SET_WORDS → (mode : Mode) (first : ℕ) (limits : Limits) → first ≤ LAST_EPOCH
+pub well_nothing : (limit : ℕ) → MAX_USERS ≤ limit → limit ≤ 64 * MAX_SET_WORDS → (mode : Mode) (first : ℕ) (limits : StoreLimits) → first ≤ LAST_EPOCH
     → IsWell limit (empty_catalogue mode first limits)
 well_nothing limit wide narrow mode first limits low = record {
   sound = nothing_is_sound mode first limits;

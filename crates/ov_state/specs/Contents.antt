@@ -1,5 +1,6 @@
 -- What a state contains: its catalogue, and the room that it has.
-use Rattle.ov_history.specs.Limits.{Limits, most_bytes, most_files}
+use Rattle.ov_base.specs.declared.store_limits.StoreLimits.{StoreLimits}
+use Rattle.ov_base.specs.StoreLimits.{most_bytes, most_files}
 use Rattle.std.specs.Prelude.{◌≡◌, ℕ, ◌*◌, ◌≤◌, List, length, Option, Some}
 use Rattle.std.specs.Prelude.{IfSome, IsTrue}
 use Rattle.ov_base.specs.declared.limits.TheConstants.{LAST_EPOCH, MAX_FILE_BYTES}
@@ -37,7 +38,7 @@ abbrev pub nodes_of : Contents → Nodes
 nodes_of graph = record { sets = graph.sets; edges = graph.edges }
 
 -- the catalogue that these parts make
-abbrev pub catalogue_by : Mode → ℕ → Limits → List (List ℕ) → BaseContents → Contents
+abbrev pub catalogue_by : Mode → ℕ → StoreLimits → List (List ℕ) → BaseContents → Contents
     → List (Option Filed) → Catalogue
 catalogue_by mode epoch limits users base surface files = record {
   mode = mode;

@@ -1,6 +1,5 @@
 pub mod Entries
 pub mod Contents
-pub mod Bounds
 pub mod Changes
 pub mod Plans
 pub mod Places

@@ -1,5 +1,5 @@
 -- Inner: no public contract needs this. Where a new file goes, and why there may be no room for it.
-use Rattle.ov_history.specs.Limits.{most_bytes, most_files, most_nodes}
+use Rattle.ov_base.specs.StoreLimits.{most_bytes, most_files, most_nodes}
 use Rattle.std.specs.Prelude.{◌≡◌, ℕ, ◌+◌, Bool, true, false, not, ◌||◌, nat_le, nat_lt, List, []}
 use Rattle.std.specs.Prelude.{◌∷◌, length, Option, Some, None}
 use Rattle.ov_base.specs.Sets.{within}

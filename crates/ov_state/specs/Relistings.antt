@@ -1,6 +1,6 @@
 -- Inner: no public contract needs this. How surface nodes and rewrites are planned after the list
 -- of a file changed.
-use Rattle.ov_history.specs.Limits.{most_nodes}
+use Rattle.ov_base.specs.StoreLimits.{most_nodes}
 use Rattle.std.specs.Prelude.{◌≡◌, ℕ, ◌+◌, ◌<◌, ◌≤◌, ◌==◌, Bool, true, false, not, nat_lt, List, []}
 use Rattle.std.specs.Prelude.{◌∷◌, ◌++◌, length, slice_index, Contains, Option, Some, None, is_some}
 use Rattle.ov_history.specs.Places.{living_at}

@@ -1,7 +1,7 @@
 //! One pass over the files that may move after a relisting: that of the relisting and, where the
 //! holders of its base node grow in Delta, those beside it. The question for it and its plan
 //! collect the same wanted sets, each in its own way.
-ghost use Rattle.ov_history.specs.Limits.{most_nodes};
+ghost use Rattle.ov_base.specs.StoreLimits.{most_nodes};
 ghost use Rattle.std.specs.Prelude.{◌≡◌, ◌<◌, ◌≤◌, ◌+◌, ◌*◌, ◌++◌, ◌∷◌, [], ℕ, List, Option, Some};
 ghost use Rattle.std.specs.Prelude.{None, IfErr, IfSome, OnOk, length, take, true};
 ghost use Rattle.ov_base.specs.declared.limits.TheConstants.{MAX_LAYER_NODES};

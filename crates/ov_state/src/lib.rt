@@ -114,7 +114,6 @@ mod commit;
 mod covering;
 mod fault;
 mod files;
-mod limits;
 mod lookup;
 mod new_nodes;
 mod new_sets;
@@ -132,7 +131,6 @@ mod room;
 mod site;
 mod state;
 
-pub use limits::StoreLimits;
 pub use asking::Asked;
 pub use brief::Brief;
 pub use chained::Chained;

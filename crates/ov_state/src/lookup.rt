@@ -1,5 +1,6 @@
 //! What plans look up in a state.
-ghost use Rattle.ov_history.specs.Limits.{Limits, most_bytes, most_files, most_nodes};
+ghost use Rattle.ov_base.specs.declared.store_limits.StoreLimits.{StoreLimits};
+ghost use Rattle.ov_base.specs.StoreLimits.{most_bytes, most_files, most_nodes};
 ghost use Rattle.std.specs.Prelude.{◌^◌, ◌≡◌, ◌<◌, ◌≤◌, ◌+◌, ◌||◌, Some, length, nat_le, nat_lt};
 ghost use Rattle.std.specs.Prelude.{is_some, true, IfSome};
 ghost use Rattle.ov_history.specs.Places.{living_at};

@@ -1,5 +1,6 @@
 //! Replacements as changes.
-ghost use Rattle.ov_history.specs.Limits.{Limits, most_bytes, most_files, most_nodes};
+ghost use Rattle.ov_base.specs.declared.store_limits.StoreLimits.{StoreLimits};
+ghost use Rattle.ov_base.specs.StoreLimits.{most_bytes, most_files, most_nodes};
 ghost use Rattle.std.specs.Prelude.{◌≡◌, ◌≤◌, ◌+◌, ◌*◌, is_some, nat_lt, true, IfOk};
 ghost use Rattle.ov_base.specs.declared.limits.TheConstants.{MAX_FILE_BYTES};
 ghost use Rattle.ov_history.specs.Catalogue.{matrix_shown};

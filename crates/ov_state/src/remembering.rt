@@ -1,7 +1,7 @@
 //! The cover that an owner asked for before a creation or a replacement, which then isn't planned
 //! again.
 ghost use Rattle.std.specs.Prelude.{◌≤◌, ◌≡◌, length, Err, IfOk, IfSome, IsTrue};
-ghost use Rattle.ov_history.specs.Limits.{most_nodes};
+ghost use Rattle.ov_base.specs.StoreLimits.{most_nodes};
 ghost use Rattle.ov_graph.specs.Contents.{plan_of};
 ghost use Rattle.ov_state.specs.Remembering.{IsPlannedIn};
 

@@ -2,14 +2,12 @@
 ghost use Rattle.std.specs.Prelude.{◌≡◌, ◌≤◌, ◌*◌, IfOk};
 ghost use Rattle.ov_base.specs.declared.limits.TheConstants.{MAX_SET_WORDS, MAX_USERS};
 ghost use Rattle.ov_history.specs.Catalogue.{empty_catalogue};
-ghost use Rattle.ov_state.specs.Bounds.{plain_limits};
 ghost use Rattle.ov_state.specs.Contents.{IsWell};
 
 use crate::covering::Planned;
 use crate::files::Files;
-use crate::limits::StoreLimits;
 use indexmap::IndexSet;
-use ov_base::{Memory, Mode, Name};
+use ov_base::{Memory, Mode, Name, StoreLimits};
 use ov_base_layer::BaseLayer;
 use ov_graph::Graph;
 use ov_index::IndexGraph;
@@ -45,13 +43,12 @@ impl<B: Graph<Base, W>, S: Graph<Surface, W>, const W: usize> Model for State<B,
     ghost use Rattle.std.specs.Prelude.{◌*◌};
     ghost use Rattle.indexmap.specs.IndexSet.{spare as spare_values};
     ghost use Rattle.ov_state.specs.Contents.{catalogue_by, Held, IsWhole};
-    ghost use Rattle.ov_state.specs.Bounds.{plain_limits};
 
     ghost Value = { Held };
 
     ghost view = { λ s. record {
       catalogue = catalogue_by
-          s.mode s.epoch (plain_limits s.limits) s.users.keys s.base (S.contents s.surface) s.files.files;
+          s.mode s.epoch s.limits s.users.keys s.base (S.contents s.surface) s.files.files;
       room = record {
         users = spare_values s.users;
         files = s.files.spare;
@@ -64,7 +61,7 @@ impl<B: Graph<Base, W>, S: Graph<Surface, W>, const W: usize> Model for State<B,
     } };
 
     ghost invariant = { λ s. IsWhole (64 * W)
-        (catalogue_by s.mode s.epoch (plain_limits s.limits) s.users.keys s.base (S.contents s.surface) s.files.files)
+        (catalogue_by s.mode s.epoch s.limits s.users.keys s.base (S.contents s.surface) s.files.files)
         s.size s.remembered };
 }
 
@@ -78,7 +75,7 @@ impl<B: Graph<Base, W>, S: Graph<Surface, W>, const W: usize> State<B, S, W> {
         limits: StoreLimits,
     ) -> Result<Self, Memory>
         requires { (MAX_USERS ≤ 64 * W) × (W ≤ MAX_SET_WORDS) }
-        ensures { IfOk result (λ state. state.catalogue ≡ empty_catalogue mode first (plain_limits limits)) }
+        ensures { IfOk result (λ state. state.catalogue ≡ empty_catalogue mode first limits) }
     {
         Ok(State {
             mode,
@@ -95,11 +92,16 @@ impl<B: Graph<Base, W>, S: Graph<Surface, W>, const W: usize> State<B, S, W> {
 
     /// The same in a box. A function that owns a catalogue lets go of each of its lists wherever it
     /// may end, and all of them are in its proof; of a box it lets go at once.
-    pub fn boxed(alloc: Global, mode: Mode, first: u32) -> Result<Box<Self>, Memory>
+    pub fn boxed(
+        alloc: Global,
+        mode: Mode,
+        first: u32,
+        limits: StoreLimits,
+    ) -> Result<Box<Self>, Memory>
         requires { (MAX_USERS ≤ 64 * W) × (W ≤ MAX_SET_WORDS) }
-        ensures { IfOk result (λ state. state.value.catalogue ≡ empty_catalogue mode first) }
+        ensures { IfOk result (λ state. state.value.catalogue ≡ empty_catalogue mode first limits) }
     {
-        let state = State::new(alloc, mode, first)?;
+        let state = State::new(alloc, mode, first, limits)?;
         Ok(Box::new(alloc, state)?)
     }
 }

@@ -2,7 +2,7 @@ use Rattle.std.proofs.Common.{◌∙◌, sym, ap, length, arith, true≢false}
 use Rattle.ov_base.proofs.Tests.{gt_of_false}
 use Rattle.ov_graph.specs.Contents.{plan_of}
 use Rattle.ov_graph.specs.declared.cover.Cover.{Cover}
-use Rattle.ov_history.specs.Limits.{most_nodes}
+use Rattle.ov_base.specs.StoreLimits.{most_nodes}
 use Rattle.ov_state.specs.Contents.{Held}
 use Rattle.ov_state.proofs.state.State.base_cover.Goals as goal
 use Rattle.ov_state.proofs.state.State.base_cover.Goals.{else-cover-2-via-then-cover-2+else-is_full_of_base-2, else-cover-2-via-else-cover-2}

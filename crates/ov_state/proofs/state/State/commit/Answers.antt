@@ -1,4 +1,3 @@
-use Rattle.ov_state.specs.Bounds.{plain_limits}
 use Rattle.std.specs.Prelude.{Option}
 use Rattle.std.proofs.Common.{rules, ◌≡◌, ◌*◌, ◌≤◌, ◌∙◌, ◌+◌, List, length, sym, ap, subst}
 use Rattle.ov_graph.specs.Contents.{Contents, HasRoom}
@@ -43,10 +42,10 @@ rewrite_all-requires g c =
     subst (λ (files : List (Option Filed)). AreOfFiles (length files) c.args.change.rewrites.items)
     (sym (c.grow.ensures.files ∙ ap (λ (h : Held). files_grown h.catalogue.files c.args.change.growth) c.self.view_is)) c.requires.suits.rewrites
 
-applied_is : (g : Over) (c : Joined-self g) → catalogue_by c.self.inside.mode (c.self.inside.epoch + 1) (plain_limits c.self.inside.limits) c.grow.new.users.keys c.add_base.new.layer
+applied_is : (g : Over) (c : Joined-self g) → catalogue_by c.self.inside.mode (c.self.inside.epoch + 1) c.self.inside.limits c.grow.new.users.keys c.add_base.new.layer
     (g.S.Graph.contents c.add_surfaces.new.graph) c.rewrite_all.new.files.files ≡ applied c.args.self.now.catalogue c.args.change
 applied_is g c =
-    made_is_applied c.args.self.now.catalogue c.args.change c.self.inside.mode c.self.inside.epoch (plain_limits c.self.inside.limits) c.self.inside.users.keys c.grow.new.users.keys
+    made_is_applied c.args.self.now.catalogue c.args.change c.self.inside.mode c.self.inside.epoch c.self.inside.limits c.self.inside.users.keys c.grow.new.users.keys
     c.self.inside.base c.add_base.new.layer (g.S.Graph.contents c.self.inside.surface) (g.S.Graph.contents c.add_surfaces.new.graph)
     c.self.inside.files.files c.grow.new.files.files c.rewrite_all.new.files.files
     (ap (λ (h : Held). h.catalogue) c.self.view_is) c.grow.ensures.names

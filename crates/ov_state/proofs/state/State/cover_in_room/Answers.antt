@@ -10,7 +10,7 @@ use Rattle.ov_state.specs.Relistings.{IsFull}
 use Rattle.ov_state.proofs.NewSets.{want-few, want-full, want-many}
 use Rattle.ov_state.proofs.Sites.{room_then, full_then, past_then}
 use Rattle.std.specs.Prelude.{nat_lt}
-use Rattle.ov_history.specs.Limits.{most_nodes}
+use Rattle.ov_base.specs.StoreLimits.{most_nodes}
 use Rattle.ov_base.proofs.Tests.{ge_of_false}
 use Rattle.ov_state.proofs.state.State.cover_in_room.Goals as goal
 

@@ -8,7 +8,7 @@ use Rattle.ov_state.specs.Relistings.{room_refusal, wants_after}
 use Rattle.ov_state.specs.declared.fault.ChainFault.{ChainFault}
 use Rattle.ov_state.proofs.ChangedWants.{full-all}
 use Rattle.ov_state.proofs.RoomTests.{full-room, past-room, some-room, spent-room}
-use Rattle.ov_history.specs.Limits.{most_nodes}
+use Rattle.ov_base.specs.StoreLimits.{most_nodes}
 use Rattle.std.proofs.Math.Nat.{min-le_right}
 use Rattle.ov_base.specs.declared.limits.TheConstants.{MAX_LAYER_NODES}
 use Rattle.ov_base.proofs.Tests.{ge_of_false}

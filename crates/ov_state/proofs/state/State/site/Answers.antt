@@ -11,7 +11,7 @@ use Rattle.ov_state.specs.Relistings.{nodes_planned, with_want, IsFull, IsSurfac
 use Rattle.ov_state.proofs.PlannedNodes.{none-planned}
 use Rattle.ov_state.proofs.Sites.{many_then, past_then, wanted_rooted, site_is, surface_full}
 use Rattle.std.specs.Prelude.{nat_lt}
-use Rattle.ov_history.specs.Limits.{most_nodes}
+use Rattle.ov_base.specs.StoreLimits.{most_nodes}
 use Rattle.ov_base.proofs.Tests.{ge_of_false}
 use Rattle.ov_state.proofs.state.State.site.Goals as goal
 use Rattle.ov_base.specs.declared.limits.TheConstants.{MAX_LAYER_NODES}

@@ -1,4 +1,3 @@
-use Rattle.ov_state.specs.Bounds.{plain_limits}
 use Rattle.std.proofs.Common.{◌≡◌, ◌∙◌, ◌≤◌, ℕ, ap, arith, length, refl}
 use Rattle.ov_history.specs.Lists.{byte_sum}
 use Rattle.ov_history.specs.Catalogue.{Catalogue, matrix_shown}
@@ -30,7 +29,7 @@ overflow_cast-result-2 g c =
 
 pub returns : goal.returns
 returns g c =
-    let own : Catalogue = catalogue_by c.self.inside.mode c.self.inside.epoch (plain_limits c.self.inside.limits) c.self.inside.users.keys c.self.inside.base
+    let own : Catalogue = catalogue_by c.self.inside.mode c.self.inside.epoch c.self.inside.limits c.self.inside.users.keys c.self.inside.base
     (g.S.Graph.contents c.self.inside.surface) c.self.inside.files.files in
     sizes_are own _ _ _ _ _ _ c.len.ensures.len c.count.ensures
     (c.count-2.ensures.nodes ∙ ap (λ graph. length graph.sets) c.graph.ensures) c.count-3.ensures.nodes
