@@ -54,7 +54,7 @@ opens_so k mode i g is image (p, right) =
 
 opens_unborn : (k : Masters) (mode : Mode) (i : Image) → IsUnborn i.book → Opens k mode i
 opens_unborn k mode i unborn =
-    let none = empty_plain mode 0 in
+    let none = empty_plain mode 0 usual in
     (none, sealed k none, (tt, refl), refl, inl (unborn, refl))
 
 no_updates : (front : List SealedUpdate) (next : SealedUpdate) (rest : List SealedUpdate)
@@ -64,7 +64,7 @@ no_updates (u ∷ front) next rest e = absurd (cc e)
 
 -- a history that stands for an image where no store was begun has no update that isn't so
 never_unborn : (k : Masters) (step : Option ℕ) (g : SealedHistory) (place : ℕ)
-    → g ≡ blank g.mode 0 → HasFalseUpdate k step g place → ⊥
+    → g ≡ blank g.mode 0 usual → HasFalseUpdate k step g place → ⊥
 never_unborn k step g place blank_is f =
     no_updates f.front f.next f.rest
     (sym (ap (λ (x : SealedHistory). x.updates) blank_is) ∙ f.split)

@@ -13,15 +13,15 @@ use Rattle.ov_store.proofs.Histories.{epoch_shown}
 use Rattle.ov_store.specs.Opened.{Opened, Serves}
 
 pub begins_any : (master : List ℕ) (mode : Mode) (first : ℕ) (c : Catalogue) (seen : Seen)
-    → c ≡ empty_catalogue mode first → seen.epoch ≡ first → seen.notes ≡ []
+    → c ≡ empty_catalogue mode first usual → seen.epoch ≡ first → seen.notes ≡ []
     → FollowsAny master c seen
 begins_any master mode first c seen is at_first none =
-    (blank mode first, followed_none master mode first c seen is at_first none)
+    (blank mode first usual, followed_none master mode first c seen is at_first none)
 
 -- the history without updates is the first part of each history for which the store stands
 pub begins_each : {D : Type 0} (tells : DiskTells D) (s : Opened D) (mode : Mode) (first : ℕ)
     (c : Catalogue) (seen : Seen)
-    → c ≡ empty_catalogue mode first → seen.epoch ≡ first → seen.notes ≡ []
+    → c ≡ empty_catalogue mode first usual → seen.epoch ≡ first → seen.notes ≡ []
     → mode ≡ s.catalogue.mode
     → ((g : SealedHistory) → Serves tells g s
     → Told (tells.reads s.disk) (λ _. first ≡ s.catalogue.epoch - length g.updates))
@@ -35,5 +35,5 @@ begins_each tells s mode first c seen is at_first none mode_is first_is g serves
       epoch_shown s.keys.surface s.catalogue g serves.catalogue,
     ) in
     subst (λ (h : SealedHistory). HasFollowed s.keys.surface h c seen)
-    (ap (λ (m : Mode). blank m first) (mode_is ∙ shown.mode) ∙ ap (λ n. blank g.mode n) same)
+    (ap (λ (m : Mode). blank m first usual) (mode_is ∙ shown.mode) ∙ ap (λ n. blank g.mode n g.limits) same)
     (followed_none s.keys.surface mode first c seen is at_first none)

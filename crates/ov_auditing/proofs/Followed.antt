@@ -28,14 +28,14 @@ use Rattle.ov_auditing.specs.Following.{HasFollowed}
 
 -- an audit that has seen nothing has followed the history without updates
 pub followed_none : (master : List ℕ) (mode : Mode) (first : ℕ) (c : Catalogue) (seen : Seen)
-    → c ≡ empty_catalogue mode first → seen.epoch ≡ first → seen.notes ≡ []
-    → HasFollowed master (blank mode first) c seen
+    → c ≡ empty_catalogue mode first usual → seen.epoch ≡ first → seen.notes ≡ []
+    → HasFollowed master (blank mode first usual) c seen
 followed_none master mode first c seen is at_first none = record {
   stands = (tt, is);
   epoch = at_first ∙ sym (ap (λ (d : Catalogue). d.epoch) is);
   seen_all = λ users are.
-      subst (λ (notes : List Note). HasSeen (blank mode first) users notes) (sym none)
-      (nothing_is_seen (blank mode first) users refl);
+      subst (λ (notes : List Note). HasSeen (blank mode first usual) users notes) (sym none)
+      (nothing_is_seen (blank mode first usual) users refl);
 }
 
 -- ---- one update more

@@ -61,7 +61,8 @@ pub fn findings_of<D: Disk>(
     store.known();
     let updates = store.updates();
     let first = store.state().epoch() - updates as u32;
-    let mut state: Box<Catalogue> = State::boxed(alloc, store.state().mode(), first)?;
+    let kept = store.state();
+    let mut state: Box<Catalogue> = State::boxed(alloc, kept.mode(), first, kept.limits())?;
     let mut audit = Audit::new(alloc, users, first, server);
     'updates: for i in 0..updates {
         look_at_next(alloc, store, surface, i, &mut state, &mut audit)?;

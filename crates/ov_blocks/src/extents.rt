@@ -22,7 +22,7 @@ pub const MAX_BLOCKS: u32 = 2_147_483_648;
 pub const MAX_EXTENT_BLOCKS: u32 = 4_096;
 
 /// Extents that are held while a place is found for another, at most.
-pub const MAX_HELD: u32 = 65_535;
+pub const MAX_HELD: u32 = 262_143;
 
 /// How many blocks take so many bytes.
 pub fn blocks_of(count: u32) -> u32

@@ -67,7 +67,7 @@
 //! | changes within one range, one after the other, are a change of that range | [`changes_go_on`] |
 //!
 //! **Limits** ([`BLOCK_BYTES`], [`MAX_BLOCKS`], [`MAX_EXTENT_BLOCKS`], [`MAX_HELD`]): Blobs has
-//! 2,147,483,648 blocks, and no extent ends behind the last. Both searches want at most 65,535
+//! 2,147,483,648 blocks, and no extent ends behind the last. Both searches want at most 262,143
 //! extents to be held, none of them with more than 4,096 blocks, nor the new one; then the run ends
 //! within Blobs. Whether an extent has bytes in a given Blobs is for the caller to know: `put`
 //! wants to begin at the end of Blobs or before it, and `read` to end there, where the disk tells

@@ -271,7 +271,7 @@ up_to_all master c (u ∷ updates) up =
 
 up_to_of : (master : List ℕ) (g : SealedHistory)
     → AreUpTo (catalogue_of master g).epoch (catalogue_of master g).files
-up_to_of master g = up_to_all master (empty_catalogue g.mode g.first) g.updates
+up_to_of master g = up_to_all master (empty_catalogue g.mode g.first g.limits) g.updates
     (λ n is. absurd (cc))
 
 catalogue_both : (master : List ℕ) (c : Catalogue) (updates more : List SealedUpdate)
@@ -354,7 +354,7 @@ module _ (master : List ℕ) (g : SealedHistory) (updates : List SealedUpdate) (
   stays_longer : Stays (catalogue_of master g) (catalogue_of master more) n
   stays_longer =
       subst (λ (d : Catalogue). Stays (catalogue_of master g) d n)
-      (sym (catalogue_both master (empty_catalogue g.mode g.first) g.updates updates))
+      (sym (catalogue_both master (empty_catalogue g.mode g.first g.limits) g.updates updates))
       (stays_all master (catalogue_of master g) updates n
       (in_below (catalogue_of master g).files n is_in))
 
@@ -362,7 +362,7 @@ module _ (master : List ℕ) (g : SealedHistory) (updates : List SealedUpdate) (
   same_text : slice_index_or (sent_of more) n [] ≡ slice_index_or (sent_of g) n []
   same_text =
       let many : length (sent_of g) ≡ length (catalogue_of master g).files =
-      many_all master (empty_catalogue g.mode g.first) [] g.updates refl in
+      many_all master (empty_catalogue g.mode g.first g.limits) [] g.updates refl in
       ap (λ (texts : List (List ℕ)). slice_index_or texts n []) (sent_both [] g.updates updates)
       ∙ sent_stays (sent_of g) updates n
       (omega (arith, many, in_below (catalogue_of master g).files n is_in))

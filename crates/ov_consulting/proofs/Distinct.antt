@@ -86,4 +86,4 @@ accepted h (u ∷ updates) all = (all.0, accepted (with_update h (outer u)) upda
 pub users_are_distinct : (h : BriefHistory) → IsSealedBriefly h
     → AreDistinct (matrix_of (outline_of h)).users
 users_are_distinct h sealed =
-    of_legal (outline_of h) (accepted (empty h.mode h.first) h.updates sealed)
+    of_legal (outline_of h) (accepted (empty h.mode h.first h.limits) h.updates sealed)

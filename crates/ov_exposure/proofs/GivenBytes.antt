@@ -64,7 +64,7 @@ derive_all k c held (label ∷ labels) true_tokens reached = (
 pub readers_were_given_bytes : ReadersWereGivenBytes
 readers_were_given_bytes server k p users file legal (before, f, moment, stood, held) =
     let c : Catalogue = catalogue_of k.surface (sealed k p) in
-    let found = front_sealed k (empty p.mode p.first) p.updates before moment.0 moment.1 in
+    let found = front_sealed k (empty p.mode p.first p.limits) p.updates before moment.0 moment.1 in
     let q : PlainHistory = record { mode = p.mode; first = p.first; updates = found.0 } in
     let lawful : IsLegal (history_of q) =
     accepted_front (start_of (history_of p)) (measured_all found.0) (measured_all found.1)

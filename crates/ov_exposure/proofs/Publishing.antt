@@ -138,7 +138,7 @@ longer_all master c (u ∷ before) after =
 
 pub published_stays : PublishedStays
 published_stays master g before (after, is) =
-    let start = empty_catalogue g.mode g.first in
+    let start = empty_catalogue g.mode g.first g.limits in
     let then_all : Catalogue = catalogue_all master start before in
     subst (λ (c : Catalogue). StaysPublished then_all c)
     (sym (longer_all master start before after)

@@ -29,7 +29,7 @@ notes_after users c notes (u ∷ updates) =
 -- the findings of a store of this mode, which began at this epoch, after these updates
 abbrev audited : Mode → ℕ → List ℕ → Bool → List SealedUpdate → List Finding
 audited mode first users server updates =
-    findings_from server 0 (notes_after users (empty_catalogue mode first) [] updates)
+    findings_from server 0 (notes_after users (empty_catalogue mode first usual) [] updates)
 
 abbrev token : Token
 token = record { bytes = [] }

@@ -37,14 +37,14 @@ BookHasUpdates =
 abbrev pub HeaderHasFirst : Type 0
 HeaderHasFirst =
     (base_check surface : List ℕ) (format : ℕ)
-    → (header_of (keys base_check surface) format (blank_placed Full 5)).first ≡ 5
+    → (header_of (keys base_check surface) format (blank_placed Full 5 usual)).first ≡ 5
 
 -- The header has a check value of each master, of which one is given, and the other is that of the
 -- surface master. With the given one twice the surface master would be left out.
 abbrev pub HeaderHasSurfaceCheck : Type 0
 HeaderHasSurfaceCheck =
     (base_check surface : List ℕ) (format : ℕ)
-    → (header_of (keys base_check surface) format (blank_placed Full 0)).surface_check
+    → (header_of (keys base_check surface) format (blank_placed Full 0 usual)).surface_check
     ≡ check_value_of surface
 
 -- The holder of both masters opens a store with the check value of the base master, and the surface

@@ -24,13 +24,13 @@ letter = 102 ∷ []
 
 -- the history that begins empty, after these commands
 abbrev pub history : List Command → PlainHistory
-history commands = after_all (empty_plain Full 0) commands
+history commands = after_all (empty_plain Full 0 usual) commands
 
 -- The first user is accepted, and then it is epoch 1. At the history after it the name would be
 -- taken, and the line a refusal.
 abbrev pub RepliesBefore : Type 0
 RepliesBefore =
-    lines (empty_plain Full 0) (Enrol alice ∷ AskEpoch ∷ [])
+    lines (empty_plain Full 0 usual) (Enrol alice ∷ AskEpoch ∷ [])
     ≡ reply_line (Accepted 1) ++ reply_line (EpochIs 1)
 
 -- a name that is taken isn't enrolled once more
@@ -54,7 +54,7 @@ AnswersNextEpoch = reply_to (history []) (Enrol alice) ≡ Accepted 1
 -- user would have the bytes.
 abbrev pub RemovesFiles : Type 0
 RemovesFiles =
-    lines (empty_plain Delta 0)
+    lines (empty_plain Delta 0 usual)
     (Enrol alice ∷ Enrol bob ∷ Create letter (alice ∷ []) (120 ∷ 49 ∷ []) ∷ Grant bob letter
     ∷ Read bob letter ∷ Remove letter ∷ Read alice letter ∷ Create letter (bob ∷ []) [] ∷ [])
     ≡ reply_line (Accepted 1) ++ reply_line (Accepted 2) ++ reply_line (Accepted 3)
@@ -66,7 +66,7 @@ RemovesFiles =
 -- creation, the second user would be refused.
 abbrev pub ReplacesFiles : Type 0
 ReplacesFiles =
-    lines (empty_plain Delta 0)
+    lines (empty_plain Delta 0 usual)
     (Enrol alice ∷ Enrol bob ∷ Create letter (alice ∷ []) (120 ∷ 49 ∷ []) ∷ Grant bob letter
     ∷ Replace letter (97 ∷ 98 ∷ 99 ∷ []) ∷ Read bob letter ∷ Remove letter ∷ Read alice letter
     ∷ Create letter (bob ∷ []) [] ∷ [])

@@ -151,7 +151,7 @@ pub laid_out_more : (master : List ℕ) (n m : ℕ) (p : PlacedHistory) → n �
     → IsLaidOut master n p → IsLaidOut master m p
 laid_out_more master n m p le laid = record {
   replayed = laid.replayed;
-  free = more_blocks master n m le (empty_catalogue p.mode p.first) [] p.updates laid.free;
+  free = more_blocks master n m le (empty_catalogue p.mode p.first p.limits) [] p.updates laid.free;
 }
 
 -- the history with these updates in place of its own
@@ -161,10 +161,10 @@ cut_to p updates = record { mode = p.mode; first = p.first; updates = updates }
 pub laid_out_front : (master : List ℕ) (n : ℕ) (p : PlacedHistory) (front more : List PlacedUpdate)
     → IsLaidOut master n (cut_to p (front ++ more)) → IsLaidOut master n (cut_to p front)
 laid_out_front master n p front more laid =
-    let start : Catalogue = empty_catalogue p.mode p.first in
+    let start : Catalogue = empty_catalogue p.mode p.first p.limits in
     record {
       replayed = record {
-        stands = (fit-front (empty p.mode p.first) front more laid.replayed.stands.0, refl);
+        stands = (fit-front (empty p.mode p.first p.limits) front more laid.replayed.stands.0, refl);
         firsts = firsts-front master start front more laid.replayed.firsts;
         places = refl;
       };
@@ -175,7 +175,7 @@ pub last_takes_free : (master : List ℕ) (n : ℕ) (p : PlacedHistory) (u : Pla
     → IsLaidOut master n (with_placed p u)
     → UpdateTakesFree n (catalogue_at master p) (placed_of master p) u
 last_takes_free master n p u laid =
-    free-last master n (empty_catalogue p.mode p.first) [] p.updates u laid.free
+    free-last master n (empty_catalogue p.mode p.first p.limits) [] p.updates u laid.free
 
 pub laid_out_push : (master : List ℕ) (n : ℕ) (p : PlacedHistory) (u : PlacedUpdate)
     → IsReplayedTo master (with_placed p u) (catalogue_at master (with_placed p u))
@@ -184,7 +184,7 @@ pub laid_out_push : (master : List ℕ) (n : ℕ) (p : PlacedHistory) (u : Place
     → IsLaidOut master n (with_placed p u)
 laid_out_push master n p u longer laid free = record {
   replayed = longer;
-  free = free-push master n (empty_catalogue p.mode p.first) [] p.updates u laid.free free;
+  free = free-push master n (empty_catalogue p.mode p.first p.limits) [] p.updates u laid.free free;
 }
 
 -- ---- ends

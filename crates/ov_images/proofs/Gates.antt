@@ -103,7 +103,7 @@ pub gates_need_no_blocks : GatesNeedNoBlocks
 gates_need_no_blocks master step p q fp fq same =
     let mode : q.mode ≡ p.mode = ap (λ (h : BriefHistory). h.mode) (sym same) in
     let first : q.first ≡ p.first = ap (λ (h : BriefHistory). h.first) (sym same) in
-    let firsts = subst (λ m. AllHaveFirsts master (empty_catalogue m p.first) q.updates) mode
-    (subst (λ (n : ℕ). AllHaveFirsts master (empty_catalogue q.mode n) q.updates) first fq) in
-    same_gates master step (empty_catalogue p.mode p.first) p.updates q.updates fp firsts
+    let firsts = subst (λ m. AllHaveFirsts master (empty_catalogue m p.first usual) q.updates) mode
+    (subst (λ (n : ℕ). AllHaveFirsts master (empty_catalogue q.mode n q.limits) q.updates) first fq) in
+    same_gates master step (empty_catalogue p.mode p.first p.limits) p.updates q.updates fp firsts
     (ap (λ (h : BriefHistory). h.updates) same)

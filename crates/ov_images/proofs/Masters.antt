@@ -48,7 +48,7 @@ module _ (master other : List ℕ) where
       (same_after master other c d u same)
 
   same_at : (p : PlacedHistory) → bare (catalogue_at master p) ≡ bare (catalogue_at other p)
-  same_at p = same_from (empty_catalogue p.mode p.first) (empty_catalogue p.mode p.first)
+  same_at p = same_from (empty_catalogue p.mode p.first p.limits) (empty_catalogue p.mode p.first p.limits)
       (unplaced_all p.updates) refl
 
   free-other : (n : ℕ) (c d : Catalogue) (placed : List (Option ℕ)) (updates : List PlacedUpdate)
@@ -66,7 +66,7 @@ module _ (master other : List ℕ) where
 
   laid_out-other : (n : ℕ) (p : PlacedHistory) → IsLaidOut master n p → IsLaidOut other n p
   laid_out-other n p laid =
-      let start : Catalogue = empty_catalogue p.mode p.first in
+      let start : Catalogue = empty_catalogue p.mode p.first p.limits in
       record {
         replayed =
             as_said other p (catalogue_at other p) (placed_of master p)

@@ -85,7 +85,7 @@ catalogue_at master p = catalogue_by master (unplaced p)
 -- its place, each has its parts and its first blocks, and takes only free blocks.
 pub record IsLaidOut (master : List ℕ) (blocks : ℕ) (p : PlacedHistory) : Type 0 where
   pub replayed : IsReplayedTo master p (catalogue_at master p) (placed_of master p)
-  pub free : UpdatesTakeFree master blocks (empty_catalogue p.mode p.first) [] p.updates
+  pub free : UpdatesTakeFree master blocks (empty_catalogue p.mode p.first p.limits) [] p.updates
 
 -- the bytes in the latest extent of each file after this history, by file number
 abbrev pub stored_in : List ℕ → PlacedHistory → List ℕ → List (List ℕ)

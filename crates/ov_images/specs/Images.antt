@@ -72,7 +72,7 @@ Keeps k g i = (p : PlacedHistory) × KeepsAt k p g i
 -- An image stands for the history that it keeps; where no store was begun, for the one without
 -- updates, from epoch 0 on, of whatever mode and under whatever keys.
 abbrev pub IsImageOf : Keys → SealedHistory → Image → Type 0
-IsImageOf k g i = (IsUnborn i.book × (g ≡ blank g.mode 0)) ⊎ Keeps k g i
+IsImageOf k g i = (IsUnborn i.book × (g ≡ blank g.mode 0 usual)) ⊎ Keeps k g i
 
 -- the image stands for some history of this mode
 abbrev pub StandsIn : Keys → Mode → Image → Type 0

@@ -168,7 +168,7 @@ DamageNeedsNoMaster =
 abbrev pub GatesNeedNoBlocks : Type 0
 GatesNeedNoBlocks =
     (master : List ℕ) (step : Option ℕ) (p q : PlacedHistory)
-    → AllHaveFirsts master (empty_catalogue p.mode p.first) p.updates
-    → AllHaveFirsts master (empty_catalogue q.mode q.first) q.updates
+    → AllHaveFirsts master (empty_catalogue p.mode p.first p.limits) p.updates
+    → AllHaveFirsts master (empty_catalogue q.mode q.first q.limits) q.updates
     → unplaced p ≡ unplaced q
     → gate_behind step (bodies_of step p.updates) ≡ gate_behind step (bodies_of step q.updates)

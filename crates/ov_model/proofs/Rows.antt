@@ -20,11 +20,11 @@ alice = codes "alice"
 abbrev users : List Command
 users = Enrol alice ∷ Enrol alice ∷ Enrol (codes "bob") ∷ []
 
-users_lines : lines (empty_plain Full 0) users ≡ line (codes "ok 1") ++ line (codes "refused 1 Taken") ++ line (codes "ok 2")
+users_lines : lines (empty_plain Full 0 usual) users ≡ line (codes "ok 1") ++ line (codes "refused 1 Taken") ++ line (codes "ok 2")
 unfolding digits
 users_lines = refl
 
-users_epoch : epoch_of (history_of (after_all (empty_plain Full 0) users)) ≡ 2
+users_epoch : epoch_of (history_of (after_all (empty_plain Full 0 usual) users)) ≡ 2
 users_epoch = refl
 
 -- a file, which its reader reads and nobody else
@@ -32,7 +32,7 @@ abbrev shared : List Command
 shared =
     Enrol alice ∷ Enrol (codes "bob") ∷ Create (codes "f1") (alice ∷ []) (codes "hello") ∷ Read alice (codes "f1") ∷ Read (codes "bob") (codes "f1") ∷ []
 
-shared_lines : lines (empty_plain Full 0) shared
+shared_lines : lines (empty_plain Full 0 usual) shared
     ≡ line (codes "ok 1") ++ line (codes "ok 2") ++ line (codes "ok 3") ++ line (codes "data alice f1 5") ++ line (codes "hello") ++ line (codes "refused 4 NoPath")
 unfolding digits
 shared_lines = refl
@@ -41,7 +41,7 @@ shared_lines = refl
 abbrev lowest : List Command
 lowest = Enrol alice ∷ Create (codes "f") (alice ∷ []) [] ∷ Create (codes "f") (codes "bob" ∷ []) [] ∷ Read (codes "bob") (codes "g") ∷ Read alice (codes "g") ∷ []
 
-lowest_lines : lines (empty_plain Full 0) lowest
+lowest_lines : lines (empty_plain Full 0 usual) lowest
     ≡ line (codes "ok 1") ++ line (codes "ok 2") ++ line (codes "refused 1 Taken") ++ line (codes "refused 2 NoUser") ++ line (codes "refused 3 NoFile")
 unfolding digits
 lowest_lines = refl
@@ -50,7 +50,7 @@ lowest_lines = refl
 abbrev nobody : List Command
 nobody = Enrol alice ∷ Create (codes "f0") [] [] ∷ Read alice (codes "f0") ∷ ListNames (codes "f0") ∷ AskEpoch ∷ []
 
-nobody_lines : lines (empty_plain Full 0) nobody
+nobody_lines : lines (empty_plain Full 0 usual) nobody
     ≡ line (codes "ok 1") ++ line (codes "ok 2") ++ line (codes "refused 4 NoPath") ++ line (codes "list f0 -") ++ line (codes "epoch 2")
 unfolding digits
 nobody_lines = refl
@@ -66,11 +66,11 @@ refusal_lines =
     line (codes "ok 1") ++ line (codes "ok 2") ++ line (codes "refused 1 Taken") ++ line (codes "ok 3") ++ line (codes "ok 4")
     ++ line (codes "refused 5 Listed") ++ line (codes "refused 6 NotListed") ++ line (codes "refused 2 NoUser") ++ line (codes "refused 3 NoFile")
 
-refused_in_full : lines (empty_plain Full 0) refusals ≡ refusal_lines
+refused_in_full : lines (empty_plain Full 0 usual) refusals ≡ refusal_lines
 unfolding digits
 refused_in_full = refl
 
-refused_in_delta : lines (empty_plain Delta 0) refusals ≡ refusal_lines
+refused_in_delta : lines (empty_plain Delta 0 usual) refusals ≡ refusal_lines
 unfolding digits
 refused_in_delta = refl
 
@@ -89,11 +89,11 @@ removal_lines =
     ++ line (codes "refused 3 NoFile") ++ line (codes "refused 3 NoFile") ++ line (codes "ok 6")
     ++ line (codes "epoch 6")
 
-removed_in_full : lines (empty_plain Full 0) removal ≡ removal_lines
+removed_in_full : lines (empty_plain Full 0 usual) removal ≡ removal_lines
 unfolding digits
 removed_in_full = refl
 
-removed_in_delta : lines (empty_plain Delta 0) removal ≡ removal_lines
+removed_in_delta : lines (empty_plain Delta 0 usual) removal ≡ removal_lines
 unfolding digits
 removed_in_delta = refl
 
@@ -112,10 +112,10 @@ replacement_lines =
     ++ line (codes "abc") ++ line (codes "ok 6") ++ line (codes "refused 3 NoFile")
     ++ line (codes "ok 7") ++ line (codes "epoch 7")
 
-replaced_in_full : lines (empty_plain Full 0) replacement ≡ replacement_lines
+replaced_in_full : lines (empty_plain Full 0 usual) replacement ≡ replacement_lines
 unfolding digits
 replaced_in_full = refl
 
-replaced_in_delta : lines (empty_plain Delta 0) replacement ≡ replacement_lines
+replaced_in_delta : lines (empty_plain Delta 0 usual) replacement ≡ replacement_lines
 unfolding digits
 replaced_in_delta = refl

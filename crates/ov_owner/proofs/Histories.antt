@@ -14,7 +14,7 @@ no_updates (u ∷ us) none = absurd (omega arith)
 
 epoch_is : (master : List ℕ) (g : SealedHistory)
     → (catalogue_of master g).epoch ≡ g.first + length g.updates
-epoch_is master g = epochs_all master (empty_catalogue g.mode g.first) g.updates
+epoch_is master g = epochs_all master (empty_catalogue g.mode g.first g.limits) g.updates
 
 -- what goes on from a history and has its epoch is that history
 pub same_epoch : (master : List ℕ) (g : SealedHistory) (between others : List SealedUpdate)

@@ -33,7 +33,7 @@ pub sealed_front : (h : BriefHistory) (us : List SpelledBrief) → IsSealedBrief
     → IsSealedBriefly h
 sealed_front h [] fits = fits
 sealed_front h (u ∷ us) fits =
-    fit_front (empty h.mode h.first) h.updates (numbered_brief (names_of h) u)
+    fit_front (empty h.mode h.first h.limits) h.updates (numbered_brief (names_of h) u)
     (sealed_front (with_next h u) us fits)
 
 each-append : (h : BriefHistory) (us vs : List SpelledBrief)
@@ -48,7 +48,7 @@ pub sealed_next : (mode : Mode) (us : List SpelledBrief) (u : SpelledBrief)
 sealed_next mode us u more fits =
     sealed_front (with_next (history_by mode us) u) more
     (subst (λ (h : BriefHistory). IsSealedBriefly h)
-    (each-append (blank_brief mode 0) us (u ∷ more)) fits)
+    (each-append (blank_brief mode 0 usual) us (u ∷ more)) fits)
 
 -- ---- bodies
 

@@ -139,7 +139,7 @@ pub record IsByOneBook {P D : Type 0} (peer : PeerTells P) (disk : DiskTells D) 
 abbrev pub NewBooksAreServed : Type 0
 NewBooksAreServed =
     (k : Masters) (mode : Mode)
-    → ServesBook k (blank_book mode) (service_under k (blank mode 0))
+    → ServesBook k (blank_book mode) (service_under k (blank mode 0 usual))
     × ((i : Image) → IsUnborn i.book → IsImageOf k (blank_book mode) i)
 
 -- A later call may go on from what a call left: each disk that tells an image which a crash may have left

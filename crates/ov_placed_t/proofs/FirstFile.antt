@@ -17,7 +17,7 @@ use Rattle.ov_updating.specs.Updating.{IsAsked, IsAskedFor, asked}
 
 -- the store
 abbrev one_user : Catalogue
-one_user = catalogue_after [] (empty_catalogue Full 0) (BriefEnrol (97 ∷ []))
+one_user = catalogue_after [] (empty_catalogue Full 0 usual) (BriefEnrol (97 ∷ []))
 
 abbrev text : List ℕ
 text = 1 ∷ 2 ∷ 3 ∷ []

@@ -156,7 +156,7 @@ pub epoch_later : (v : Service) (updates : List SpelledUpdate)
     → (served (later v updates)).catalogue.epoch ≡ (served v).catalogue.epoch + length updates
 epoch_later v updates =
     let g : SealedHistory = v.history in
-    let empty : Catalogue = empty_catalogue g.mode g.first in
+    let empty : Catalogue = empty_catalogue g.mode g.first g.limits in
     let more : List SealedUpdate = numbered_all g updates in
     let before : (served v).catalogue.epoch ≡ g.first + length g.updates =
     epochs_all v.surface empty g.updates in

@@ -21,7 +21,7 @@ begun_new : (peer : PeerTells (Opened Tape)) (base surface check : List ℕ) (mo
     → IsStoreAt peer (masters base surface) (no_updates mode) s
 begun_new peer base surface check mode s are_served same begun =
     let i : Image = image [] [] in
-    let g : SealedHistory = blank mode 0 in
+    let g : SealedHistory = blank mode 0 usual in
     let own : s.keys ≡ keys_of (masters base surface) =
     begun.new.0 ∙ ap (λ (c : List ℕ). keys c surface) same in
     let unborn : IsImageOf (keys check surface) g i = inl (inl (omega arith), refl) in

@@ -13,7 +13,7 @@ ghost use Rattle.ov_state.specs.Queries.{sizes_of, AnswersList};
 
 use crate::files::FileEntry;
 use crate::state::State;
-use ov_base::{Mode, Name, Refusal, UserSet};
+use ov_base::{Mode, Name, Refusal, StoreLimits, UserSet};
 use ov_base_layer::BaseLayer;
 use ov_graph::Graph;
 use ov_tokens::{Base, Surface};
@@ -50,6 +50,13 @@ impl<B: Graph<Base, W>, S: Graph<Surface, W>, const W: usize> State<B, S, W> {
         ensures { result ≡ self.now.catalogue.mode }
     {
         self.mode
+    }
+
+    /// The limits of the store.
+    pub fn limits(&self) -> StoreLimits
+        ensures { result ≡ self.now.catalogue.limits }
+    {
+        self.limits
     }
 
     /// How many users, nodes and access tokens there are, how many numbers were given to files, and

@@ -128,9 +128,9 @@ module _ (m : Masters) (p : PlainHistory) (legal : IsLegal (history_of p)) (firs
   s_get : (k : ℕ) (u : PlainUpdate) → slice_get p.updates k ≡ Some u
       → slice_get (sealed m p).updates k ≡ Some (sealed_update m (layers_of (as_before (history_of p) k)) u)
   s_get k u is =
-      sealed_get m (empty p.mode p.first) p.updates k u is
+      sealed_get m (empty p.mode p.first p.limits) p.updates k u is
       ∙ ap (λ (h : History). Some (sealed_update m (layers_of h) u))
-      (with_updates-is (empty p.mode p.first) (measured_all (take k p.updates))
+      (with_updates-is (empty p.mode p.first p.limits) (measured_all (take k p.updates))
       ∙ ap (λ (us : List Update). cut_to (history_of p) us) (measured_take p.updates k))
 
   next_seal : (k : ℕ) → k < length p.updates → (o : Option PlainUpdate) → slice_get p.updates k ≡ o
@@ -188,7 +188,7 @@ thinned_is_sealed_so m p kept legal thin =
     let below : AreBelow (length p.updates) kept =
     subst (λ n. AreBelow n kept) (measured_length p.updates) sorted.below in
     let s_many : length (sealed m p).updates ≡ length p.updates =
-    sealed_length m (empty p.mode p.first) p.updates in
+    sealed_length m (empty p.mode p.first p.limits) p.updates in
     let below_too : AreBelow (length (sealed m p).updates) kept = subst (λ n. AreBelow n kept) (sym s_many) below in
     ap (λ (us : List PlainUpdate). sealed m (record { mode = p.mode; first = first; updates = us }))
     (sym (items_all p.updates kept sorted.ascend below))

@@ -50,7 +50,7 @@ fit_accepted h [] fit = tt
 fit_accepted h (u ∷ us) fit = (fit.0, fit_accepted (with_update h (outer u)) us fit.2)
 
 brief_legal : (b : BriefHistory) → IsSealedBriefly b → IsLegal (outer_brief b)
-brief_legal b fit = fit_accepted (empty b.mode b.first) b.updates fit
+brief_legal b fit = fit_accepted (empty b.mode b.first b.limits) b.updates fit
 
 outline_from : (master : List ℕ) (c : Catalogue) (h : History) (us : List Brief) → outline c ≡ layers_of h
     → AllFitBriefly h us
@@ -64,8 +64,8 @@ outline_is : (master : List ℕ) (c : Catalogue) (b : BriefHistory) → StandsBr
     → outline c ≡ layers_of (outer_brief b)
 outline_is master c b (fit, is) =
     ap (λ (d : Catalogue). outline d) is
-    ∙ outline_from master (empty_catalogue b.mode b.first) (empty b.mode b.first) b.updates refl fit
-    ∙ ap (λ (h : History). layers_of h) (with_updates-is (empty b.mode b.first) (outer_briefs b.updates))
+    ∙ outline_from master (empty_catalogue b.mode b.first b.limits) (empty b.mode b.first b.limits) b.updates refl fit
+    ∙ ap (λ (h : History). layers_of h) (with_updates-is (empty b.mode b.first b.limits) (outer_briefs b.updates))
 
 -- the file that an update names is there
 named_there : (g : History) (v : Update) (file : ℕ) → refusal_of g v ≡ None → file_named v ≡ Some file → HasFile g file

@@ -86,9 +86,9 @@ pub record Thinning : Type 0 where
   pub notes : List (Option Last)
 
 -- before the first update
-abbrev pub no_thinning : Mode → ℕ → Thinning
-no_thinning mode first =
-    record { catalogue = empty_catalogue mode first; taken = 0; kept = []; notes = [] }
+abbrev pub no_thinning : Mode → ℕ → StoreLimits → Thinning
+no_thinning mode first limits =
+    record { catalogue = empty_catalogue mode first limits; taken = 0; kept = []; notes = [] }
 
 -- whether the update ends an idle pair with the one that is noted
 abbrev pub is_paired : Layers → List (Option Last) → Update → Bool
@@ -204,8 +204,8 @@ pub record HasTaken (master : List ℕ) (b : BriefHistory) (t : Thinning) : Type
 -- nothing was taken of the history without updates
 abbrev pub NothingIsTaken : Type 0
 NothingIsTaken =
-    (master : List ℕ) (mode : Mode) (first : ℕ)
-    → HasTaken master (blank_brief mode first) (no_thinning mode first)
+    (master : List ℕ) (mode : Mode) (first : ℕ) (limits : StoreLimits)
+    → HasTaken master (blank_brief mode first limits) (no_thinning mode first limits)
 
 -- what has taken a history goes on with each update that isn't refused and has its parts
 abbrev pub TakingGoesOn : Type 0

@@ -55,7 +55,7 @@ module _ {D E : Type 0} (olds : DiskTells D) (news : DiskTells E) (old : Opened 
   pub nothing_copied : before.failed ≡ false → BeginsFor olds news old kept before
       → HasCopied olds news old kept before 0 before
   nothing_copied whole begins g serves thin i read =
-      let h = blank g.mode (epoch_of (outer_of g) - length kept) in
+      let h = blank g.mode (epoch_of (outer_of g) - length kept) g.limits in
       let stands = begins g serves i read in (
         h,
         none_copied g kept,

@@ -33,7 +33,7 @@ abbrev pub BeginsFor : {D E : Type 0} → DiskTells D → DiskTells E → Opened
     → Type 0
 BeginsFor olds news old kept new =
     (g : SealedHistory) → Serves olds g old → Told (olds.reads old.disk) (λ _.
-    Serves news (blank g.mode (epoch_of (outer_of g) - length kept)) new)
+    Serves news (blank g.mode (epoch_of (outer_of g) - length kept) g.limits) new)
 
 -- for each history for which the old store stands, and of which these places are kept, where the old
 -- disk tells its bytes

@@ -7,7 +7,7 @@ ghost use Rattle.ov_tidy.specs.Thins.{Takes};
 use crate::marks::put_mark;
 use crate::note::Last;
 use crate::places::{keep, make_room};
-use ov_base::{Memory, Mode};
+use ov_base::{Memory, Mode, StoreLimits};
 use ov_record::Brief;
 use ov_state::{Catalogue, PrepareFault, State, WIDTH};
 use ov_tokens::Master;
@@ -49,12 +49,17 @@ impl Model for Thin {
 }
 
 impl Thin {
-    /// Nothing is taken yet, of a store that began at this epoch.
-    pub fn new(alloc: Global, mode: Mode, first: u32) -> Result<Thin, Memory>
-        ensures { IfOk result (λ thin. thin ≡ no_thinning mode first) }
+    /// Nothing is taken yet, of a store that began at this epoch under these limits.
+    pub fn new(
+        alloc: Global,
+        mode: Mode,
+        first: u32,
+        limits: StoreLimits,
+    ) -> Result<Thin, Memory>
+        ensures { IfOk result (λ thin. thin ≡ no_thinning mode first limits) }
     {
         Ok(Thin {
-            state: State::new(alloc, mode, first)?,
+            state: State::new(alloc, mode, first, limits)?,
             taken: 0,
             kept: Vec::new(alloc),
             notes: Vec::new(alloc),

@@ -131,7 +131,7 @@ module _ {E : Type 0} (tells : DiskTells E) (g : SealedHistory) (kept : List ℕ
       inr (
         0,
         subst (λ (b : SealedHistory). Keeps k b x)
-            (ap (λ (m : Mode). blank m first) mode_is ∙ ap (λ n. blank h.mode n) first_is) keeps,
+            (ap (λ (m : Mode). blank m first usual) mode_is ∙ ap (λ n. blank h.mode n h.limits) first_is) keeps,
       )
 
   module _ (mode : Mode) (start : ℕ) (mode_is : mode ≡ h.mode) (start_is : start ≡ h.first)

@@ -51,12 +51,12 @@ module _ {D E : Type 0} (olds : DiskTells D) (news : DiskTells E) (old : Opened 
       (history_is_shown old.keys.surface old.catalogue g serves.catalogue).epoch
 
   -- the new store begins where the shorter history does
-  pub begins_for : (new : Opened E) → Serves news (blank mode start) new
+  pub begins_for : (new : Opened E) → Serves news (blank mode start usual) new
       → BeginsFor olds news old kept new
   begins_for new stands g serves i read =
       subst (λ (b : SealedHistory). Serves news b new)
-      (ap (λ (m : Mode). blank m start) (mode_then g serves)
-      ∙ ap (λ n. blank g.mode n) (start_then g serves)) stands
+      (ap (λ (m : Mode). blank m start usual) (mode_then g serves)
+      ∙ ap (λ n. blank g.mode n g.limits) (start_then g serves)) stands
 
   module _ (k : Keys) (first : E) (put_old put_new : Option (List ℕ)) (status : ℕ)
       (faults : Type 0) (six : status ≡ 6 → faults) where

@@ -84,12 +84,12 @@ begins_each tells s mode first t is mode_is first_is g serves i read =
       first_is g serves i read,
       epoch_shown s.keys.surface s.catalogue g serves.catalogue,
     ) in
-    let none : HasTaken s.keys.surface (blank_brief mode first) t =
-    subst (λ (x : Thinning). HasTaken s.keys.surface (blank_brief mode first) x) (sym is)
+    let none : HasTaken s.keys.surface (blank_brief mode first usual) t =
+    subst (λ (x : Thinning). HasTaken s.keys.surface (blank_brief mode first usual) x) (sym is)
     (nothing_is_taken s.keys.surface mode first) in
     subst (λ (b : BriefHistory). HasTaken s.keys.surface b t)
-    (ap (λ (m : Mode). blank_brief m first) (mode_is ∙ shown.mode)
-    ∙ ap (λ n. blank_brief g.mode n) same) none
+    (ap (λ (m : Mode). blank_brief m first usual) (mode_is ∙ shown.mode)
+    ∙ ap (λ n. blank_brief g.mode n g.limits) same) none
 
 -- ---- a store that was read before
 

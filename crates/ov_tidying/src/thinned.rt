@@ -106,7 +106,8 @@ pub fn kept_of<D: Disk>(
 {
     let updates = store.updates();
     let first = store.state().epoch() - updates as u32;
-    let mut thin = Thin::new(alloc, store.state().mode(), first)?;
+    let kept = store.state();
+    let mut thin = Thin::new(alloc, kept.mode(), first, kept.limits())?;
     take_all(alloc, store, surface, updates, &mut thin)?;
     copied(alloc, thin.kept())
 }

@@ -195,8 +195,8 @@ module _ (p q : PlainHistory) (d : DifferInBytes p q) where
 
   pub same_layers : layers_of (history_of p) ≡ layers_of (history_of q)
   same_layers =
-      layers_alike (no_layers p.mode p.first) p.updates q.updates d.updates
-      ∙ (λ i. layers_all (no_layers (d.mode i) (d.first i)) (measured_all q.updates))
+      layers_alike (no_layers p.mode p.first p.limits) p.updates q.updates d.updates
+      ∙ (λ i. layers_all (no_layers (d.mode i) (d.first i) usual) (measured_all q.updates))
 
   pub same_epoch : epoch_of (history_of p) ≡ epoch_of (history_of q)
   same_epoch = λ i. d.first i + count_alike p.updates q.updates d.updates i
