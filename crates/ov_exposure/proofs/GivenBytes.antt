@@ -65,7 +65,7 @@ pub readers_were_given_bytes : ReadersWereGivenBytes
 readers_were_given_bytes server k p users file legal (before, f, moment, stood, held) =
     let c : Catalogue = catalogue_of k.surface (sealed k p) in
     let found = front_sealed k (empty p.mode p.first p.limits) p.updates before moment.0 moment.1 in
-    let q : PlainHistory = record { mode = p.mode; first = p.first; updates = found.0 } in
+    let q : PlainHistory = record { mode = p.mode; first = p.first; limits = p.limits; updates = found.0 } in
     let lawful : IsLegal (history_of q) =
     accepted_front (start_of (history_of p)) (measured_all found.0) (measured_all found.1)
     (subst (λ us. AllAccepted (start_of (history_of p)) us)
@@ -73,10 +73,10 @@ readers_were_given_bytes server k p users file legal (before, f, moment, stood, 
     let then_so : living_at (catalogue_of k.surface (sealed k q)).files file ≡ Some f =
     subst
     (λ us. living_at
-    (catalogue_of k.surface (record { mode = p.mode; first = p.first; updates = us })).files file
+    (catalogue_of k.surface (record { mode = p.mode; first = p.first; limits = p.limits; updates = us })).files file
     ≡ Some f) (sym found.3) stood in
     let whole : p ≡ longer_plain q found.1 =
-    ap (λ us. record { mode = p.mode; first = p.first; updates = us }) found.2 in
+    ap (λ us. record { mode = p.mode; first = p.first; limits = p.limits; updates = us }) found.2 in
     let there : HasFile (history_of q) file =
     subst (λ (h : History). HasFile h file) (sealing_is_outer k q)
     (stood_there k.surface (sealed k q) (sealed_is_sealed k q lawful) file f then_so) in (

@@ -46,14 +46,14 @@ sealed_then g before fit (after, is) =
 known_on : (g : SealedHistory) (before more : List SealedUpdate)
     → longer (known_at g before) (outer_all more) ≡ known_at g (before ++ more)
 known_on g before more =
-    ap (λ us. record { mode = g.mode; first = g.first; updates = us })
+    ap (λ us. record { mode = g.mode; first = g.first; limits = g.limits; updates = us })
     (sym (outer_all-append before more))
 
 pub known_later : (g : SealedHistory) (before after : List SealedUpdate) → g.updates ≡ before ++ after
     → longer (known_at g before) (outer_all after) ≡ outer_of g
 known_later g before after is =
     known_on g before after
-    ∙ ap (λ us. record { mode = g.mode; first = g.first; updates = outer_all us }) (sym is)
+    ∙ ap (λ us. record { mode = g.mode; first = g.first; limits = g.limits; updates = outer_all us }) (sym is)
 
 -- ---- of two moments one is before the other
 

@@ -357,7 +357,7 @@ module _ (master : List ℕ) (g : SealedHistory) (u : SealedUpdate) (fit : IsSea
 pub nothing_is_seen : NothingIsSeen
 nothing_is_seen g users is = (
   ap
-      (λ us. length (matrix_of (record { mode = g.mode; first = g.first; updates = outer_all us })).files)
+      (λ us. length (matrix_of (record { mode = g.mode; first = g.first; limits = g.limits; updates = outer_all us })).files)
       (sym is),
   λ file note there. absurd (cc),
 )

@@ -11,6 +11,7 @@ abbrev pub removed : List ℕ → ℕ → SealedHistory
 removed tag byte = record {
   mode = Delta;
   first = 0;
+  limits = usual;
   updates = SealedCreate (102 ∷ []) 0 [] tag (byte ∷ []) ∷ SealedRemove 0 ∷ [];
 }
 

@@ -102,7 +102,7 @@ sealed_enrols (name ∷ names) = SealedEnrol name ∷ sealed_enrols names
 
 -- the store of mode Delta with these users and no file
 abbrev pub users : List (List ℕ) → SealedHistory
-users names = record { mode = Delta; first = 0; updates = sealed_enrols names }
+users names = record { mode = Delta; first = 0; limits = usual; updates = sealed_enrols names }
 
 -- the Book keeps the store with these users, whatever is in Blobs
 abbrev pub KeepsUsers : Keys → List ℕ → List (List ℕ) → Type 0

@@ -11,7 +11,7 @@ use Rattle.ov_history.specs.Rewrites.{restored, surface_key}
 
 -- the layers after these updates, in Delta
 abbrev pub in_delta : List Update → Layers
-in_delta updates = layers_of (record { mode = Delta; first = 0; updates = updates })
+in_delta updates = layers_of (record { mode = Delta; first = 0; limits = usual; updates = updates })
 
 -- three users, and two files for the first two of them, which have one base node, of number 3
 abbrev pub two_files : List Update → List Update

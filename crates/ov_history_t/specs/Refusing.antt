@@ -166,7 +166,7 @@ ListsAreRefused =
 
 -- the history that begins empty at this epoch, with these updates
 abbrev pub begun : ℕ → List Update → History
-begun first updates = record { mode = Full; first = first; updates = updates }
+begun first updates = record { mode = Full; first = first; limits = usual; updates = updates }
 
 -- One file has all bytes of a store but one. A file of one byte fits, and fills it; one of two
 -- doesn't. If a full store were too much, the first would be refused.

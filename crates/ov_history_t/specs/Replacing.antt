@@ -17,7 +17,7 @@ shared updates =
 -- the files of the matrix after these updates
 abbrev pub matrix_files : List Update → List (Option File)
 matrix_files updates =
-    (matrix_of (record { mode = Delta; first = 0; updates = updates })).files
+    (matrix_of (record { mode = Delta; first = 0; limits = usual; updates = updates })).files
 
 -- The replacement has the next number, and node 2 of both users. At the old file's node, and at
 -- that of the list of the creation, it would have node 0; in the old file's place it would have

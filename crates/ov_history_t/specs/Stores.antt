@@ -16,7 +16,7 @@ use Rattle.ov_images.specs.Images.{header_of}
 
 -- a store from epoch 0 on, in this mode
 abbrev pub history_in : Mode → List PlacedUpdate → PlacedHistory
-history_in mode updates = record { mode = mode; first = 0; updates = updates }
+history_in mode updates = record { mode = mode; first = 0; limits = usual; updates = updates }
 
 -- a store from epoch 0 on that keeps each file under a surface of its own list
 abbrev pub history : List PlacedUpdate → PlacedHistory

@@ -137,7 +137,7 @@ unplaced_all-push (v ∷ updates) u =
 pub unplaced-push : (p : PlacedHistory) (u : PlacedUpdate)
     → unplaced (with_placed p u) ≡ with_brief (unplaced p) u.update
 unplaced-push p u =
-    ap (λ us. record { mode = p.mode; first = p.first; updates = us })
+    ap (λ us. record { mode = p.mode; first = p.first; limits = p.limits; updates = us })
     (unplaced_all-push p.updates u)
 
 -- a replay, with the catalogue and the first blocks as the history says
@@ -156,7 +156,7 @@ laid_out_more master n m p le laid = record {
 
 -- the history with these updates in place of its own
 abbrev pub cut_to : PlacedHistory → List PlacedUpdate → PlacedHistory
-cut_to p updates = record { mode = p.mode; first = p.first; updates = updates }
+cut_to p updates = record { mode = p.mode; first = p.first; limits = p.limits; updates = updates }
 
 pub laid_out_front : (master : List ℕ) (n : ℕ) (p : PlacedHistory) (front more : List PlacedUpdate)
     → IsLaidOut master n (cut_to p (front ++ more)) → IsLaidOut master n (cut_to p front)

@@ -30,11 +30,11 @@ use Rattle.ov_images.specs.Damage.{HasBadRecord, HasBadRecords, Spot, in_book}
 
 -- the store of these updates from epoch 0 on
 abbrev pub history : List SealedUpdate → SealedHistory
-history updates = record { mode = Delta; first = 0; updates = updates }
+history updates = record { mode = Delta; first = 0; limits = usual; updates = updates }
 
 -- the store of these updates from epoch 0 on, with their first blocks
 abbrev pub placed : List PlacedUpdate → PlacedHistory
-placed updates = record { mode = Delta; first = 0; updates = updates }
+placed updates = record { mode = Delta; first = 0; limits = usual; updates = updates }
 
 -- an enrolment, which has no first blocks
 abbrev pub enrol : List ℕ → PlacedUpdate

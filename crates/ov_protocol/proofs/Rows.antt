@@ -44,7 +44,7 @@ files =
 
 abbrev service : List SealedUpdate → Service
 service updates = record {
-  history = record { mode = Delta; first = 0; updates = updates };
+  history = record { mode = Delta; first = 0; limits = usual; updates = updates };
   surface = replicate 32 17;
   base_check = replicate 32 0;
 }

@@ -39,8 +39,8 @@ masters base surface = record { base = base; surface = surface }
 
 -- the history without updates, from epoch 0 on
 abbrev pub no_updates : Mode → PlainHistory
-no_updates mode = record { mode = mode; first = 0; updates = [] }
+no_updates mode = record { mode = mode; first = 0; limits = usual; updates = [] }
 
 -- the history in which one user was enrolled, whose name is `a`
 abbrev pub one_user : Mode → PlainHistory
-one_user mode = record { mode = mode; first = 0; updates = PlainEnrol (97 ∷ []) ∷ [] }
+one_user mode = record { mode = mode; first = 0; limits = usual; updates = PlainEnrol (97 ∷ []) ∷ [] }

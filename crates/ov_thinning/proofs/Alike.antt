@@ -100,6 +100,7 @@ module _ (h : History) (first : ℕ) (keeps : ℕ → Bool) (Chosen : ℕ → �
       (λ b. record {
         mode = h.mode;
         first = first;
+        limits = h.limits;
         updates = (kept_before h first keeps k).updates ++ kept_if b u [];
       }) kept
 
@@ -111,9 +112,10 @@ module _ (h : History) (first : ℕ) (keeps : ℕ → Bool) (Chosen : ℕ → �
       (λ b. record {
         mode = h.mode;
         first = first;
+        limits = h.limits;
         updates = (kept_before h first keeps k).updates ++ kept_if b u [];
       }) left
-      ∙ ap (λ us. record { mode = h.mode; first = first; updates = us })
+      ∙ ap (λ us. record { mode = h.mode; first = first; limits = h.limits; updates = us })
       (append-nil (kept_before h first keeps k).updates)
 
   -- ---- lists that need no more

@@ -62,7 +62,7 @@ module _ (h : History) (kept : List ℕ) (legal : IsLegal h) (thin : AreThinned 
       let sorted = all_sorted h (length h.updates) kept thin in
       let low : p < length h.updates = place_below (length h.updates) kept n p sorted.below at in
       ap
-      (λ (us : List Update). record { mode = h.mode; first = epoch_of h - length kept; updates = us })
+      (λ (us : List Update). record { mode = h.mode; first = epoch_of h - length kept; limits = h.limits; updates = us })
       (items_before h.updates kept sorted.ascend p (omega (arith, low))
       ∙ ap (λ (ps : List ℕ). items_at h.updates ps) (cut_take 0 kept n p sorted.ascend at)
       ∙ items_take h.updates kept n sorted.below)

@@ -84,7 +84,7 @@ outer_items us (p ∷ kept) = by_item (slice_get us p) refl (outer_items us kept
 pub thinned_is_outer : ThinnedIsOuter
 thinned_is_outer g kept =
     ap
-    (λ (us : List Update). record { mode = g.mode; first = epoch_of (outer_of g) - length kept; updates = us })
+    (λ (us : List Update). record { mode = g.mode; first = epoch_of (outer_of g) - length kept; limits = g.limits; updates = us })
     (outer_items g.updates kept)
 
 -- ---- sealed histories
@@ -116,14 +116,14 @@ module _ (master : List ℕ) (g : SealedHistory) (fit : IsSealed g) (first : ℕ
   g_at k = record g { updates = take k g.updates }
 
   abbrev t_at : ℕ → SealedHistory
-  t_at k = record { mode = g.mode; first = first; updates = kept_from keeps 0 (take k g.updates) }
+  t_at k = record { mode = g.mode; first = first; limits = g.limits; updates = kept_from keeps 0 (take k g.updates) }
 
   outer_g : (k : ℕ) → outer_of (g_at k) ≡ as_before (outer_of g) k
   outer_g k = ap (λ (us : List Update). cut_to (outer_of g) us) (outer_take g.updates k)
 
   outer_t : (k : ℕ) → outer_of (t_at k) ≡ kept_before (outer_of g) first keeps k
   outer_t k =
-      ap (λ (us : List Update). record { mode = g.mode; first = first; updates = us })
+      ap (λ (us : List Update). record { mode = g.mode; first = first; limits = g.limits; updates = us })
       (outer_kept keeps 0 (take k g.updates)
       ∙ ap (λ (us : List Update). kept_from keeps 0 us) (outer_take g.updates k))
 
@@ -146,14 +146,14 @@ module _ (master : List ℕ) (g : SealedHistory) (fit : IsSealed g) (first : ℕ
   t_next : (k : ℕ) (u : SealedUpdate) (b : Bool) → slice_get g.updates k ≡ Some u → keeps k ≡ b
       → t_at (suc k) ≡ record (t_at k) { updates = (t_at k).updates ++ kept_if b u [] }
   t_next k u b is kept =
-      ap (λ (us : List SealedUpdate). record { mode = g.mode; first = first; updates = us })
+      ap (λ (us : List SealedUpdate). record { mode = g.mode; first = first; limits = g.limits; updates = us })
       (kept_push keeps g.updates k u is
       ∙ ap (λ (b : Bool). kept_from keeps 0 (take k g.updates) ++ kept_if b u []) kept)
 
   t_left : (k : ℕ) (u : SealedUpdate) → slice_get g.updates k ≡ Some u → keeps k ≡ false → t_at (suc k) ≡ t_at k
   t_left k u is left =
       t_next k u false is left
-      ∙ ap (λ (us : List SealedUpdate). record { mode = g.mode; first = first; updates = us })
+      ∙ ap (λ (us : List SealedUpdate). record { mode = g.mode; first = first; limits = g.limits; updates = us })
       (append-nil (t_at k).updates)
 
   pub record Goes (k : ℕ) : Type 0 where
@@ -335,6 +335,7 @@ module _ (g : SealedHistory) (kept : List ℕ) (fit : IsSealed g) (thin : AreThi
   t_is : record {
     mode = g.mode;
     first = epoch_of (outer_of g) - length kept;
+    limits = g.limits;
     updates = kept_from (is_kept kept) 0 (take (length g.updates) g.updates);
   }
       ≡ thinned_sealed g kept
@@ -344,6 +345,7 @@ module _ (g : SealedHistory) (kept : List ℕ) (fit : IsSealed g) (thin : AreThi
       (λ (us : List SealedUpdate). record {
         mode = g.mode;
         first = epoch_of (outer_of g) - length kept;
+        limits = g.limits;
         updates = us;
       })
       (items_all g.updates kept sorted.ascend

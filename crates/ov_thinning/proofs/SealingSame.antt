@@ -114,14 +114,14 @@ sealed_length m h (u ∷ us) = ap suc (sealed_length m (with_update h (measured 
 module _ (m : Masters) (p : PlainHistory) (legal : IsLegal (history_of p)) (first : ℕ) (keeps : ℕ → Bool)
     (Chosen : ℕ → ℕ → Type 0) (pairs : ArePairs (history_of p) keeps Chosen) where
   abbrev q_at : ℕ → PlainHistory
-  q_at k = record { mode = p.mode; first = first; updates = kept_from keeps 0 (take k p.updates) }
+  q_at k = record { mode = p.mode; first = first; limits = p.limits; updates = kept_from keeps 0 (take k p.updates) }
 
   abbrev s_at : ℕ → SealedHistory
-  s_at k = record { mode = p.mode; first = first; updates = kept_from keeps 0 (take k (sealed m p).updates) }
+  s_at k = record { mode = p.mode; first = first; limits = p.limits; updates = kept_from keeps 0 (take k (sealed m p).updates) }
 
   q_outer : (k : ℕ) → history_of (q_at k) ≡ kept_before (history_of p) first keeps k
   q_outer k =
-      ap (λ (us : List Update). record { mode = p.mode; first = first; updates = us })
+      ap (λ (us : List Update). record { mode = p.mode; first = first; limits = p.limits; updates = us })
       (measured_kept keeps 0 (take k p.updates)
       ∙ ap (λ (us : List Update). kept_from keeps 0 us) (measured_take p.updates k))
 
@@ -149,24 +149,24 @@ module _ (m : Masters) (p : PlainHistory) (legal : IsLegal (history_of p)) (firs
       let lists = kept_alike (history_of p) first keeps Chosen pairs legal k (measured u) at kept in
       let alike : sealed_update m (layers_of (history_of (q_at k))) u ≡ sealed_update m y u =
       ap (λ (h : History). sealed_update m (layers_of h) u) (q_outer k) ∙ sym (sealed_alike m y x u same lists) in
-      ap (λ (us : List PlainUpdate). sealed m (record { mode = p.mode; first = first; updates = us }))
+      ap (λ (us : List PlainUpdate). sealed m (record { mode = p.mode; first = first; limits = p.limits; updates = us }))
       (kept_push keeps p.updates k u is
       ∙ ap (λ (b : Bool). kept_from keeps 0 (take k p.updates) ++ kept_if b u []) kept)
       ∙ sealing_goes_on m (q_at k) u
       ∙ ap (λ (s : SealedHistory). with_sealed s (sealed_update m (layers_of (history_of (q_at k))) u)) before
       ∙ ap (λ (v : SealedUpdate). with_sealed (s_at k) v) alike
       ∙ sym
-      (ap (λ (us : List SealedUpdate). record { mode = p.mode; first = first; updates = us })
+      (ap (λ (us : List SealedUpdate). record { mode = p.mode; first = first; limits = p.limits; updates = us })
       (kept_push keeps (sealed m p).updates k (sealed_update m y u) (s_get k u is)
       ∙ ap (λ (b : Bool). kept_from keeps 0 (take k (sealed m p).updates) ++ kept_if b (sealed_update m y u) []) kept))
   next_seal k low (Some u) is false left before =
-      ap (λ (us : List PlainUpdate). sealed m (record { mode = p.mode; first = first; updates = us }))
+      ap (λ (us : List PlainUpdate). sealed m (record { mode = p.mode; first = first; limits = p.limits; updates = us }))
       (kept_push keeps p.updates k u is
       ∙ ap (λ (b : Bool). kept_from keeps 0 (take k p.updates) ++ kept_if b u []) left
       ∙ append-nil (kept_from keeps 0 (take k p.updates)))
       ∙ before
       ∙ sym
-      (ap (λ (us : List SealedUpdate). record { mode = p.mode; first = first; updates = us })
+      (ap (λ (us : List SealedUpdate). record { mode = p.mode; first = first; limits = p.limits; updates = us })
       (kept_push keeps (sealed m p).updates k (sealed_update m (layers_of (as_before (history_of p) k)) u)
       (s_get k u is)
       ∙ ap
@@ -190,18 +190,19 @@ thinned_is_sealed_so m p kept legal thin =
     let s_many : length (sealed m p).updates ≡ length p.updates =
     sealed_length m (empty p.mode p.first p.limits) p.updates in
     let below_too : AreBelow (length (sealed m p).updates) kept = subst (λ n. AreBelow n kept) (sym s_many) below in
-    ap (λ (us : List PlainUpdate). sealed m (record { mode = p.mode; first = first; updates = us }))
+    ap (λ (us : List PlainUpdate). sealed m (record { mode = p.mode; first = first; limits = p.limits; updates = us }))
     (sym (items_all p.updates kept sorted.ascend below))
     ∙ all_seal m p legal first (is_kept kept) (AreLeft h (length h.updates) kept thin)
     (thinned_pairs h kept thin) n (omega arith)
-    ∙ ap (λ n. record { mode = p.mode; first = first; updates = kept_from (is_kept kept) 0 (take n (sealed m p).updates) })
+    ∙ ap (λ n. record { mode = p.mode; first = first; limits = p.limits; updates = kept_from (is_kept kept) 0 (take n (sealed m p).updates) })
     (sym s_many)
-    ∙ ap (λ (us : List SealedUpdate). record { mode = p.mode; first = first; updates = us })
+    ∙ ap (λ (us : List SealedUpdate). record { mode = p.mode; first = first; limits = p.limits; updates = us })
     (items_all (sealed m p).updates kept sorted.ascend below_too)
     ∙ ap
     (λ (g : History). record {
       mode = p.mode;
       first = epoch_of g - length kept;
+      limits = p.limits;
       updates = items_at (sealed m p).updates kept;
     })
     (sym (sealing_is_outer m p))

@@ -43,7 +43,7 @@ outer_length (u ∷ us) = ap suc (outer_length us)
 
 outer_next : (b : BriefHistory) (u : Brief) → outer_brief (with_brief b u) ≡ with_update (outer_brief b) (outer u)
 outer_next b u =
-    ap (λ (us : List Update). record { mode = b.mode; first = b.first; updates = us }) (outer_push b.updates u)
+    ap (λ (us : List Update). record { mode = b.mode; first = b.first; limits = b.limits; updates = us }) (outer_push b.updates u)
 
 fit_accepted : (h : History) (us : List Brief) → AllFitBriefly h us → AllAccepted h (outer_briefs us)
 fit_accepted h [] fit = tt

@@ -124,7 +124,7 @@ module _ (h : History) (kept : List ℕ) (legal : IsLegal h) (thin : AreThinned 
 
   pub kept_thinned : kept_before h (epoch_of h - length kept) (is_kept kept) (length h.updates) ≡ thinned h kept
   kept_thinned =
-      ap (λ (us : List Update). record { mode = h.mode; first = epoch_of h - length kept; updates = us })
+      ap (λ (us : List Update). record { mode = h.mode; first = epoch_of h - length kept; limits = h.limits; updates = us })
       kept_updates
 
   few : length kept ≤ length h.updates

@@ -153,7 +153,7 @@ outer_briefs (b ∷ updates) = outer b ∷ outer_briefs updates
 
 -- the history of these updates
 abbrev pub outer_brief : BriefHistory → History
-outer_brief b = record { mode = b.mode; first = b.first; updates = outer_briefs b.updates }
+outer_brief b = record { mode = b.mode; first = b.first; limits = b.limits; updates = outer_briefs b.updates }
 
 -- a grant or a revocation of this user and this file
 abbrev pub update_by : Bool → ℕ → ℕ → Update

@@ -109,7 +109,7 @@ module _ (g : SealedHistory) (kept : List ℕ) (fit : IsSealed g) (thin : AreThi
           ap (λ (k : History). matrix_of k) (sym outer_first) in
           let there : matrix_of (as_before (outer_of g) p)
           ≡ matrix_of (outer_of (record g { updates = take p g.updates })) =
-          ap (λ (us : List Update). matrix_of (record { mode = g.mode; first = g.first; updates = us }))
+          ap (λ (us : List Update). matrix_of (record { mode = g.mode; first = g.first; limits = g.limits; updates = us }))
           (sym (outer_take g.updates p)) in
           subst (λ (m : Matrix). HaveSameFiles (matrix_of (outer_of h)) m) there
           (subst (λ (m : Matrix). HaveSameFiles m (matrix_of (as_before (outer_of g) p))) here law)
@@ -126,7 +126,7 @@ module _ (g : SealedHistory) (kept : List ℕ) (fit : IsSealed g) (thin : AreThi
           let one = fits_at start short.updates n u (thinned_is_sealed g kept fit thin) there in
           let same : with_updates start (outer_all (take n short.updates)) ≡ outer_of h =
           with_updates-is start (outer_all (take n short.updates))
-          ∙ ap (λ (us : List Update). record { mode = short.mode; first = short.first; updates = us })
+          ∙ ap (λ (us : List Update). record { mode = short.mode; first = short.first; limits = short.limits; updates = us })
           (outer_take short.updates n
           ∙ ap (λ (us : List Update). take n us) (outer_items g.updates kept))
           ∙ sym outer_first in
@@ -194,5 +194,5 @@ module _ (g : SealedHistory) (kept : List ℕ) (fit : IsSealed g) (thin : AreThi
 
 -- a history without updates is a copy of none
 pub none_copied : (g : SealedHistory) (kept : List ℕ)
-    → IsCopyOfFirst g kept 0 (record { mode = g.mode; first = epoch_of (outer_of g) - length kept; updates = [] })
+    → IsCopyOfFirst g kept 0 (record { mode = g.mode; first = epoch_of (outer_of g) - length kept; limits = g.limits; updates = [] })
 none_copied g kept = record { mode_is = refl; first_is = refl; agree = tt }

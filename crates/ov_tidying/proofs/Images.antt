@@ -46,7 +46,7 @@ pub whole_copy : (g : SealedHistory) (kept : List ℕ) → IsSealed g → AreThi
     → IsCopyOf g kept (thinned_sealed g kept)
 whole_copy g kept fit thin =
     gone_on g kept fit thin 0
-    (record { mode = g.mode; first = (thinned_sealed g kept).first; updates = [] })
+    (record { mode = g.mode; first = (thinned_sealed g kept).first; limits = g.limits; updates = [] })
     (none_copied g kept)
 
 -- ---- two copies

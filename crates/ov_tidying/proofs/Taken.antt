@@ -127,7 +127,7 @@ outer_told (u ∷ us) = ap (λ (rest : List Update). outer (brief u) ∷ rest) (
 
 outer_brief_of : (g : SealedHistory) → outer_brief (brief_of g) ≡ outer_of g
 outer_brief_of g =
-    ap (λ (us : List Update). record { mode = g.mode; first = g.first; updates = us })
+    ap (λ (us : List Update). record { mode = g.mode; first = g.first; limits = g.limits; updates = us })
     (outer_told g.updates)
 
 pub all_taken : {D : Type 0} (tells : DiskTells D) (s : Opened D) (n : ℕ) (t : Thinning)
