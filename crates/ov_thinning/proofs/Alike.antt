@@ -297,6 +297,7 @@ module _ (h : History) (first : ℕ) (keeps : ℕ → Bool) (Chosen : ℕ → �
     left_same : nodes_of (settled z lists).files ≡ nodes_of (y_at k).files → AreSame (settled z lists) (x_at k)
     left_same nodes = record {
       mode = alike.same.mode;
+      limits = alike.same.limits;
       users = alike.same.users;
       base = alike.same.base;
       surface = left_surface ∙ alike.same.surface;
@@ -561,7 +562,7 @@ module _ (h : History) (first : ℕ) (keeps : ℕ → Bool) (Chosen : ℕ → �
 
   pub always_alike : (k : ℕ) → k ≤ length h.updates → IsAlike (Agrees k) (y_at k) (x_at k)
   always_alike zero low = record {
-    same = record { mode = refl; users = refl; base = refl; surface = refl; accesses = refl; nodes = refl };
+    same = record { mode = refl; limits = refl; users = refl; base = refl; surface = refl; accesses = refl; nodes = refl };
     lists = tt;
   }
   always_alike (suc k) low =

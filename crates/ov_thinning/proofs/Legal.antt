@@ -6,7 +6,6 @@ use Rattle.std.proofs.lemmas.List.{length-take-le}
 use Rattle.std.proofs.lemmas.Option.{slice_get-get_or, slice_get_within}
 use Rattle.std.proofs.lemmas.Bool.Decides.{nat_tests}
 use Rattle.ov_base.specs.Sets.{has, within}
-use Rattle.ov_base.specs.declared.limits.TheConstants.{MAX_FILES, MAX_LAYER_NODES, MAX_STORE_BYTES}
 use Rattle.ov_base.specs.declared.limits.TheConstants.{MAX_USERS}
 use Rattle.ov_history.specs.Places.{change_at, gone, place_of}
 use Rattle.ov_history.specs.History.{Update, Enrolled, Created, Granted, Revoked, Removed, Replaced}
@@ -90,37 +89,49 @@ module _ (m n : Matrix) (bare : unlisted m ≡ unlisted n) where
       ∙ ap (λ (files : List (Option File)). byte_sum (change_at gone file files)) same_files
       ∙ unlisted-left n.files file
 
-  module _ (y x : Layers) (base : y.base ≡ x.base) (surface : y.surface ≡ x.surface) where
+  module _ (y x : Layers) (limits : y.limits ≡ x.limits) (base : y.base ≡ x.base)
+      (surface : y.surface ≡ x.surface) where
     same_room : is_past_nodes y ≡ is_past_nodes x
     same_room =
-        ap (λ (sets : List ℕ). nat_lt MAX_LAYER_NODES (length sets) || nat_lt MAX_LAYER_NODES (length y.surface)) base
-        ∙ ap (λ (sets : List ℕ). nat_lt MAX_LAYER_NODES (length x.base) || nat_lt MAX_LAYER_NODES (length sets)) surface
+        ap (λ (l : StoreLimits). nat_lt (most_nodes l) (length y.base) || nat_lt (most_nodes l) (length y.surface))
+        limits
+        ∙ ap (λ (sets : List ℕ). nat_lt (most_nodes x.limits) (length sets)
+          || nat_lt (most_nodes x.limits) (length y.surface)) base
+        ∙ ap (λ (sets : List ℕ). nat_lt (most_nodes x.limits) (length x.base)
+          || nat_lt (most_nodes x.limits) (length sets)) surface
 
-  same_tests : (y x : Layers) (epoch other : ℕ) (u : Update)
+  same_full : (y x : Layers) → y.limits ≡ x.limits
+      → nat_le (most_files x.limits) (length n.files) ≡ nat_le (most_files y.limits) (length m.files)
+  same_full y x limits =
+      ap (λ count. nat_le (most_files x.limits) count) (sym same_count)
+      ∙ ap (λ (l : StoreLimits). nat_le (most_files l) (length m.files)) (sym limits)
+
+  same_tests : (y x : Layers) (epoch other : ℕ) (u : Update) → y.limits ≡ x.limits
       → is_past_nodes (layers_after y u) ≡ is_past_nodes (layers_after x u)
       → ((user file : ℕ) → file_named u ≡ Some file → is_listed m user file ≡ is_listed n user file)
       → is_last other ≡ false
       → NoneApplies (tests_of m y epoch u) → NoneApplies (tests_of n x other u)
-  same_tests y x epoch other (Enrolled user) room list last (taken, (full, (past, (spent, end)))) = (
+  same_tests y x epoch other (Enrolled user) limits room list last (taken, (full, (past, (spent, end)))) = (
     ap (λ (names : List (List ℕ)). nat_lt (place_of user names) (length names)) (sym same_users) ∙ taken,
     (ap (λ (names : List (List ℕ)). nat_le MAX_USERS (length names)) (sym same_users) ∙ full, (sym room ∙ past, (last, tt))),
   )
-  same_tests y x epoch other (Created file set size) room list last
+  same_tests y x epoch other (Created file set size) limits room list last
       (taken, (outside, (full, (bytes, (past, (spent, end)))))) = (
         sym (same_is_file (file_number n file))
             ∙ ap (λ (names : List (List ℕ)). is_file m (place_of file names)) (sym same_names) ∙ taken,
         (
           ap (λ (names : List (List ℕ)). not (within set (everyone (length names)))) (sym same_users) ∙ outside,
           (
-            ap (λ count. nat_le MAX_FILES count) (sym same_count) ∙ full,
+            same_full y x limits ∙ full,
             (
-              ap (λ count. nat_lt MAX_STORE_BYTES (count + size)) (sym same_bytes) ∙ bytes,
+              ap (λ count. nat_lt (most_bytes x.limits) (count + size)) (sym same_bytes)
+              ∙ ap (λ (l : StoreLimits). nat_lt (most_bytes l) (byte_sum m.files + size)) (sym limits) ∙ bytes,
               (sym room ∙ past, (last, tt)),
             ),
           ),
         ),
       )
-  same_tests y x epoch other (Granted user file) room list last
+  same_tests y x epoch other (Granted user file) limits room list last
       (no_user, (missing, (listed, (past, (spent, end))))) = (
         ap (λ (names : List (List ℕ)). not (nat_lt user (length names))) (sym same_users) ∙ no_user,
         (
@@ -128,7 +139,7 @@ module _ (m n : Matrix) (bare : unlisted m ≡ unlisted n) where
           (sym (list user file refl) ∙ listed, (sym room ∙ past, (last, tt))),
         ),
       )
-  same_tests y x epoch other (Revoked user file) room list last
+  same_tests y x epoch other (Revoked user file) limits room list last
       (no_user, (missing, (listed, (past, (spent, end))))) = (
         ap (λ (names : List (List ℕ)). not (nat_lt user (length names))) (sym same_users) ∙ no_user,
         (
@@ -136,15 +147,17 @@ module _ (m n : Matrix) (bare : unlisted m ≡ unlisted n) where
           (ap (λ (b : Bool). not b) (sym (list user file refl)) ∙ listed, (sym room ∙ past, (last, tt))),
         ),
       )
-  same_tests y x epoch other (Removed file) room list last (missing, (past, (spent, end))) =
+  same_tests y x epoch other (Removed file) limits room list last (missing, (past, (spent, end))) =
       (ap (λ (b : Bool). not b) (sym (same_is_file file)) ∙ missing, (sym room ∙ past, (last, tt)))
-  same_tests y x epoch other (Replaced file size) room list last
+  same_tests y x epoch other (Replaced file size) limits room list last
       (missing, (full, (bytes, (past, (spent, end))))) = (
         ap (λ (b : Bool). not b) (sym (same_is_file file)) ∙ missing,
         (
-          ap (λ count. nat_le MAX_FILES count) (sym same_count) ∙ full,
+          same_full y x limits ∙ full,
           (
-            ap (λ count. nat_lt MAX_STORE_BYTES (count + size)) (sym (same_bytes_left file)) ∙ bytes,
+            ap (λ count. nat_lt (most_bytes x.limits) (count + size)) (sym (same_bytes_left file))
+            ∙ ap (λ (l : StoreLimits). nat_lt (most_bytes l) (byte_sum (change_at gone file m.files) + size))
+            (sym limits) ∙ bytes,
             (sym room ∙ past, (last, tt)),
           ),
         ),
@@ -235,10 +248,13 @@ module _ (h : History) (first : ℕ) (keeps : ℕ → Bool) (Chosen : ℕ → �
       let n : Matrix = matrix_of t in
       let after = step_kept h first keeps Chosen pairs legal k u at kept
       (always_alike h first keeps Chosen pairs legal k low) in
+      let limits_are : (layers_of g).limits ≡ (layers_of t).limits =
+      (always_alike h first keeps Chosen pairs legal k low).same.limits in
       refused_by_none (tests_of n (layers_of t) (epoch_of t) u)
       (same_tests m n (always_bare k low) (layers_of g) (layers_of t) (epoch_of g) (epoch_of t) u
+      limits_are
       (same_room m n (always_bare k low) (layers_after (layers_of g) u) (layers_after (layers_of t) u)
-      after.1.same.base after.1.same.surface)
+      after.1.same.limits after.1.same.base after.1.same.surface)
       (λ user file named.
       ap (λ set. has set user)
       (sym (list_of-file g file) ∙ kept_list h first keeps Chosen pairs legal k u at kept file named

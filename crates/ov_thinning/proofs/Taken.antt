@@ -107,8 +107,8 @@ notes_many y notes place (Replaced file size) many =
 -- ---- the laws
 
 pub nothing_is_taken : NothingIsTaken
-nothing_is_taken master mode first = record {
-  stands = briefs_begin master mode first;
+nothing_is_taken master mode first limits = record {
+  stands = briefs_begin master mode first limits;
   taken = refl;
   kept = refl;
   many = refl;
