@@ -91,6 +91,7 @@ module _ (k : Keys) (blobs : List ℕ) (long : length k.base_check ≡ 32) where
     format = format;
     known = known;
     first = lit< tt;
+    limits = refl;
     step = step;
     form = (enrol_form _ _ alice refl, (form, tt));
     laid_out =

@@ -311,6 +311,7 @@ module _ (master : List ℕ) (mode : Mode) (first blocks : ℕ) where
       let whole : q ≡ cut_to p ((p.updates ++ c.next ∷ []) ++ c.more) = λ j. record {
         mode = (kq.mode_is ∙ sym kp.mode_is) j;
         first = (kq.first_is ∙ sym kp.first_is) j;
+        limits = (kq.limits_are ∙ sym kp.limits_are) j;
         updates = (c.is ∙ sym (append_assoc p.updates (c.next ∷ []) c.more)) j;
       } in
       let longer : IsLaidOut master blocks (with_placed p c.next) =
@@ -350,6 +351,7 @@ module _ (master : List ℕ) (mode : Mode) (first blocks : ℕ) where
         let histories : b.history ≡ a.history = λ j. record {
           mode = (b.kept.mode_is ∙ sym a.kept.mode_is) j;
           first = (b.kept.first_is ∙ sym a.kept.first_is) j;
+          limits = (b.kept.limits_are ∙ sym a.kept.limits_are) j;
           updates = sym same.0 j;
         } in
         body_place (form_behind step n) (room_behind step n) master blocks a.history a.body
@@ -387,6 +389,7 @@ damaged_keeps_none k g h i spot header all (p, keeps) =
     let kept : CanBeKept k.surface h.mode h.first (blocks_in i.blobs) step p = record {
       mode_is = mode_of-spelled own h head;
       first_is = first_of-spelled own h keeps.records.first header.first head;
+      limits_are = keeps.records.limits;
       form = keeps.records.form;
       laid_out = keeps.records.laid_out;
     } in

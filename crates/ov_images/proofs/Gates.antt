@@ -103,7 +103,10 @@ pub gates_need_no_blocks : GatesNeedNoBlocks
 gates_need_no_blocks master step p q fp fq same =
     let mode : q.mode ≡ p.mode = ap (λ (h : BriefHistory). h.mode) (sym same) in
     let first : q.first ≡ p.first = ap (λ (h : BriefHistory). h.first) (sym same) in
-    let firsts = subst (λ m. AllHaveFirsts master (empty_catalogue m p.first usual) q.updates) mode
-    (subst (λ (n : ℕ). AllHaveFirsts master (empty_catalogue q.mode n q.limits) q.updates) first fq) in
+    let limits : q.limits ≡ p.limits = ap (λ (h : BriefHistory). h.limits) (sym same) in
+    let firsts = subst (λ m. AllHaveFirsts master (empty_catalogue m p.first p.limits) q.updates) mode
+    (subst (λ (n : ℕ). AllHaveFirsts master (empty_catalogue q.mode n p.limits) q.updates) first
+    (subst (λ (l : StoreLimits). AllHaveFirsts master (empty_catalogue q.mode q.first l) q.updates)
+    limits fq)) in
     same_gates master step (empty_catalogue p.mode p.first p.limits) p.updates q.updates fp firsts
     (ap (λ (h : BriefHistory). h.updates) same)

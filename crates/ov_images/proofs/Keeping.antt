@@ -55,7 +55,8 @@ places_once k other p q i one two =
     ∙ ap (λ (s : Option ℕ). bodies_of s q.updates) step in
     let updates = bodies_once one.step p.updates q.updates one.form
     (subst (λ (s : Option ℕ). AllHaveForm s q.updates) step two.form) bodies in
-    λ j. record { mode = mode j; first = first j; updates = updates j }
+    let limits : p.limits ≡ q.limits = one.limits ∙ sym two.limits in
+    λ j. record { mode = mode j; first = first j; limits = limits j; updates = updates j }
 
 -- an image keeps one history under one surface master, but for the bytes of files that are gone
 once : (k other : Keys) (g h : SealedHistory) (i : Image) → k.surface ≡ other.surface
@@ -141,6 +142,7 @@ keeps_same k p g i c keeps same longer files = record {
     format = keeps.records.format;
     known = keeps.records.known;
     first = keeps.records.first;
+    limits = keeps.records.limits;
     step = keeps.records.step;
     form = keeps.records.form;
     laid_out =
@@ -231,6 +233,7 @@ keeps_more k p g u firsts i c keeps sealed more = record {
     format = keeps.records.format;
     known = keeps.records.known;
     first = keeps.records.first;
+    limits = keeps.records.limits;
     step = keeps.records.step;
     form = form_next k p g u firsts i c keeps sealed more;
     laid_out = laid_out_next k p g u firsts i c keeps sealed more;

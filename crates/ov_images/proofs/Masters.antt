@@ -133,6 +133,7 @@ module _ (master other : List ℕ) where
   kept-other mode first n step p kept = record {
     mode_is = kept.mode_is;
     first_is = kept.first_is;
+    limits_are = kept.limits_are;
     form = kept.form;
     laid_out = laid_out-other n p kept.laid_out;
   }

@@ -183,6 +183,7 @@ module _ (k : Keys) (blobs : List ℕ) (long : length k.base_check ≡ 32) where
       format = 2;
       known = inr refl;
       first = lit< tt;
+      limits = refl;
       step = None;
       form = tt;
       laid_out = record {
@@ -204,6 +205,7 @@ module _ (k : Keys) (blobs : List ℕ) (long : length k.base_check ≡ 32) where
       format = format;
       known = known;
       first = lit< tt;
+      limits = refl;
       step = step;
       form = one_form step;
       laid_out = record {
@@ -225,6 +227,7 @@ module _ (k : Keys) (blobs : List ℕ) (long : length k.base_check ≡ 32) where
       format = format;
       known = known;
       first = lit< tt;
+      limits = refl;
       step = step;
       form = two_form step;
       laid_out = two_laid k.surface (blocks_in blobs);
@@ -244,6 +247,7 @@ module _ (k : Keys) (blobs : List ℕ) (long : length k.base_check ≡ 32) where
       format = format;
       known = known;
       first = lit< tt;
+      limits = refl;
       step = step;
       form = three_form step;
       laid_out = record {

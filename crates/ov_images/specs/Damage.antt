@@ -113,12 +113,13 @@ IsBadBody master form blocks p body gate spot =
 
 -- ---- all records
 
--- A history of this mode, from this epoch on, that records can keep beside so many blocks of Blobs,
--- where so many of them come before a step record.
+-- A history of this mode, from this epoch on and under the usual limits, that records can keep beside
+-- so many blocks of Blobs, where so many of them come before a step record.
 pub record CanBeKept (master : List ℕ) (mode : Mode) (first blocks : ℕ) (step : Option ℕ)
     (p : PlacedHistory) : Type 0 where
   pub mode_is : p.mode ≡ mode
   pub first_is : p.first ≡ first
+  pub limits_are : p.limits ≡ usual
   pub form : AllHaveForm step p.updates
   pub laid_out : IsLaidOut master blocks p
 

@@ -44,7 +44,7 @@ header_of k format p = record {
 }
 
 -- The image has the records of this history under these keys: its Book has the history's header in
--- one of the formats and, before the first gate that isn't open and without the step record, its
+-- one of the formats, which know no limits but the usual ones, and, before the first gate that isn't open and without the step record, its
 -- updates with their first blocks, in the forms that the magic and the step record say. Each new
 -- extent ends where Blobs ends, or before, and took blocks that were free in the state before its
 -- record.
@@ -52,6 +52,7 @@ pub record HasRecords (k : Keys) (p : PlacedHistory) (i : Image) : Type 0 where
   pub format : ℕ
   pub known : IsFormat format
   pub first : p.first < 2 ^ 32
+  pub limits : p.limits ≡ usual
   pub step : Option ℕ
   pub form : AllHaveForm step p.updates
   pub laid_out : IsLaidOut k.surface (blocks_in i.blobs) p

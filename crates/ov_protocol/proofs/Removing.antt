@@ -3,7 +3,7 @@ use Rattle.std.proofs.Common.{◌≡◌, ◌∙◌, ℕ, zero, suc, ◌<◌, Lis
 use Rattle.std.proofs.Common.{refl, sym, ap, arith}
 use Rattle.std.specs.Prelude.{◌||◌, false, nat_lt, Contains, Option, Some, None, IfSome}
 use Rattle.std.specs.List.{AllByRecursion}
-use Rattle.ov_base.specs.declared.limits.TheConstants.{MAX_LAYER_NODES}
+use Rattle.ov_base.specs.StoreLimits.{most_nodes}
 use Rattle.ov_base.proofs.Tests.{lt_is_false}
 use Rattle.ov_history.specs.Catalogue.{Catalogue, outline}
 use Rattle.ov_history.specs.History.{History, Removed}
@@ -100,8 +100,8 @@ removals_need_no_node master c g file stands =
     let same : (layers_after (outline c) (Removed file)).surface ≡ c.surface.sets =
     ap (λ (y : Layers). (layers_after y (Removed file)).surface) shown
     ∙ surface_stays (outer_of g) file ∙ sym (ap (λ (y : Layers). y.surface) shown) in
-    ap (λ sets.
-    nat_lt MAX_LAYER_NODES (length c.base.sets) || nat_lt MAX_LAYER_NODES (length sets)) same
-    ∙ ap (λ b. b || nat_lt MAX_LAYER_NODES (length c.surface.sets))
-    (lt_is_false MAX_LAYER_NODES (length c.base.sets) sound.base.few)
-    ∙ lt_is_false MAX_LAYER_NODES (length c.surface.sets) sound.surface.few
+    let most : ℕ = most_nodes c.limits in
+    ap (λ sets. nat_lt most (length c.base.sets) || nat_lt most (length sets)) same
+    ∙ ap (λ b. b || nat_lt most (length c.surface.sets))
+    (lt_is_false most (length c.base.sets) sound.few_base)
+    ∙ lt_is_false most (length c.surface.sets) sound.few_surface
