@@ -36,6 +36,7 @@ pub one_user_kept : (master : List ℕ) (n : ℕ) → CanBeKept master Full 0 n 
 one_user_kept master n = record {
   mode_is = refl;
   first_is = refl;
+  limits_are = refl;
   form = (enrol_form [] 97 refl, tt);
   laid_out = record {
     replayed = record { stands = ((refl, tt, tt), refl); firsts = (refl, tt); places = refl };
@@ -74,6 +75,7 @@ pub one_file_kept : (master : List ℕ) (n : ℕ) → 3 ≤ n → CanBeKept mast
 one_file_kept master n enough = record {
   mode_is = refl;
   first_is = refl;
+  limits_are = refl;
   form = one_file_form;
   laid_out = one_file_laid master n enough;
 }

@@ -40,6 +40,7 @@ removed_kept : (master : List ℕ) → CanBeKept master Full 0 1 None removed
 removed_kept master = record {
   mode_is = refl;
   first_is = refl;
+  limits_are = refl;
   form = (enrol_form _ 97 refl, (small_form _, (remove_form _, tt)));
   laid_out = record {
     replayed = record {

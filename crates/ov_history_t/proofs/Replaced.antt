@@ -88,6 +88,7 @@ one_file_kept : (master : List ℕ) → CanBeKept master Full 0 2 None one_file
 one_file_kept master = record {
   mode_is = refl;
   first_is = refl;
+  limits_are = refl;
   form = (enrol_form _ 97 refl, (small_form _, tt));
   laid_out = record {
     replayed = record {

@@ -21,6 +21,7 @@ two_kept : (master : List ℕ) (blocks : ℕ) (step : Option ℕ)
 two_kept master blocks step = record {
   mode_is = refl;
   first_is = refl;
+  limits_are = refl;
   form = two_form step;
   laid_out = record {
     replayed = record {

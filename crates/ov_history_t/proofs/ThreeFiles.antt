@@ -65,6 +65,7 @@ three_files_kept : (master : List ℕ) → CanBeKept master Delta 0 5 None three
 three_files_kept master = record {
   mode_is = refl;
   first_is = refl;
+  limits_are = refl;
   form = three_files_form;
   laid_out = record {
     replayed = record {

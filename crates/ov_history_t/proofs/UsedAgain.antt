@@ -52,6 +52,7 @@ unfolding lib.Count.ones
 two_users_kept master = record {
   mode_is = refl;
   first_is = refl;
+  limits_are = refl;
   form = two_users_form;
   laid_out = record {
     replayed = record {
