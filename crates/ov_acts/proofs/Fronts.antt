@@ -35,10 +35,10 @@ end_short end (inl e) = let long : length end ≡ 1 = ap length e in omega arith
 end_short end (inr e) = let long : length end ≡ 0 = ap length e in omega arith
 
 root_short : (root : ℕ) (digits : List ℕ) → root < MAX_LAYER_NODES → length digits ≡ 64
-    → length (root_words root digits) ≤ 70
+    → length (root_words root digits) ≤ 71
 root_short root digits low long =
-    let few : length (decimal root) ≤ 4 =
-    length-decimal-le 4 root (omega arith) (omega (arith, low)) (omega (arith, low)) in
+    let few : length (decimal root) ≤ 5 =
+    length-decimal-le 5 root (omega arith) (omega (arith, low)) (omega (arith, low)) in
     let both : length (decimal root ++ 32 ∷ digits) ≡ length (decimal root) + length (32 ∷ digits) =
     length-append (decimal root) (32 ∷ digits) in
     omega arith
@@ -54,12 +54,12 @@ key_size name base surface =
       length-append name base,
     )
 
-pub line_short : (text : List ℕ) (r : Reader) → IsLineOf text r → length text ≤ 205
+pub line_short : (text : List ℕ) (r : Reader) → IsLineOf text r → length text ≤ 207
 line_short text r is =
     let name : length r.name ≤ 64 = name_short r.name is.name in
-    let base : length (root_words r.base_root is.base) ≤ 70 =
+    let base : length (root_words r.base_root is.base) ≤ 71 =
     root_short r.base_root is.base is.base_root is.base_digits.digits in
-    let surface : length (root_words r.surface_root is.surface) ≤ 70 =
+    let surface : length (root_words r.surface_root is.surface) ≤ 71 =
     root_short r.surface_root is.surface is.surface_root is.surface_digits.digits in
     let end : length is.end ≤ 1 = end_short is.end is.last in
     let whole : length text ≡ length (key_words r is.base is.surface ++ is.end) = ap length is.words in
@@ -76,19 +76,19 @@ line_short text r is =
 
 -- the reader of the front of a file is that of the file
 pub reader_found : (old new : Option (List ℕ)) (front : List ℕ) (count : ℕ) (r : Reader)
-    → length front ≡ count → Consumes old new front → (count ≡ 206) ⊎ IsAtEnd new
+    → length front ≡ count → Consumes old new front → (count ≡ 208) ⊎ IsAtEnd new
     → IsLineOf front r → IfSome old (λ line. IsLineOf line r)
 reader_found None new front count r long had all is = tt
 reader_found (Some file) None front count r long had all is = absurd had
 reader_found (Some file) (Some rest) front count r long had (inl full) is =
-    let short : length front ≤ 205 = line_short front r is in absurd (omega arith)
+    let short : length front ≤ 207 = line_short front r is in absurd (omega arith)
 reader_found (Some file) (Some rest) front count r long had (inr none) is =
     let same : file ≡ front = had ∙ ap (λ x. front ++ x) none ∙ append-nil front in
     subst (λ f. IsLineOf f r) (sym same) is
 
 -- where the front of a file has no reader, neither has the file
 pub no_reader_found : (old new : Option (List ℕ)) (front : List ℕ) (count : ℕ)
-    → length front ≡ count → Consumes old new front → (count ≡ 206) ⊎ IsAtEnd new
+    → length front ≡ count → Consumes old new front → (count ≡ 208) ⊎ IsAtEnd new
     → ((r : Reader) → IsLineOf front r → ⊥)
     → IfSome old (λ line. (r : Reader) → IsLineOf line r → ⊥)
 no_reader_found None new front count long had all none = tt
@@ -96,7 +96,7 @@ no_reader_found (Some file) None front count long had all none = absurd had
 no_reader_found (Some file) (Some rest) front count long had (inl full) none =
     λ (r : Reader) (is : IsLineOf file r).
     let size : length file ≡ length front + length rest = ap length had ∙ length-append front rest in
-    let short : length file ≤ 205 = line_short file r is in
+    let short : length file ≤ 207 = line_short file r is in
     absurd (omega arith)
 no_reader_found (Some file) (Some rest) front count long had (inr end) none =
     λ (r : Reader) (is : IsLineOf file r).

@@ -56,7 +56,7 @@ StoresFile act = ⊥
 
 -- one byte more than the longest user key line has
 abbrev pub past_key_line : ℕ
-past_key_line = 206
+past_key_line = 208
 
 -- one byte more than the longest key file has
 abbrev pub past_key_file : ℕ

@@ -17,7 +17,7 @@ use ov_keyfile::{Masters, read_masters};
 use std::alloc::Global;
 
 // One byte more than the longest user key line has.
-const ENOUGH: usize = 206;
+const ENOUGH: usize = 208;
 
 // One byte more than the longest file has.
 const TOO_MANY: usize = MAX_FILE_BYTES as usize + 1;

@@ -27,5 +27,5 @@ returns-in-Check-clause-files g c =
 
 pub returns-in-Read-clause-files : goal.returns-in-Read-clause-files
 returns-in-Read-clause-files g c =
-    keys_only g.K.Source.tells g.B.Source.tells c.args.act.now 206
+    keys_only g.K.Source.tells g.B.Source.tells c.args.act.now 208
     _ _ _ (ap most_keys c.in-Read.is) c.read.ensures.takes
