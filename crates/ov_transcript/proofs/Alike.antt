@@ -196,7 +196,7 @@ module _ (p q : PlainHistory) (d : DifferInBytes p q) where
   pub same_layers : layers_of (history_of p) ≡ layers_of (history_of q)
   same_layers =
       layers_alike (no_layers p.mode p.first p.limits) p.updates q.updates d.updates
-      ∙ (λ i. layers_all (no_layers (d.mode i) (d.first i) usual) (measured_all q.updates))
+      ∙ (λ i. layers_all (no_layers (d.mode i) (d.first i) (d.limits i)) (measured_all q.updates))
 
   pub same_epoch : epoch_of (history_of p) ≡ epoch_of (history_of q)
   same_epoch = λ i. d.first i + count_alike p.updates q.updates d.updates i
@@ -254,8 +254,8 @@ module _ (p q : PlainHistory) (d : DifferInBytes p q) where
       → byte_sum (change_at gone file m.files) ≡ byte_sum (change_at gone file n.files)
       → tests_of m y epoch (Replaced file size) ≡ tests_of n y epoch (Replaced file size)
   same_replacement y epoch file size room =
-      λ i. (NoFile, not (is_file_too file i)) ∷ (FilesFull, nat_le MAX_FILES (files_too i))
-      ∷ (BytesFull, nat_lt MAX_STORE_BYTES (room i + size))
+      λ i. (NoFile, not (is_file_too file i)) ∷ (FilesFull, nat_le (most_files y.limits) (files_too i))
+      ∷ (BytesFull, nat_lt (most_bytes y.limits) (room i + size))
       ∷ tests_of_room y epoch (Replaced file size)
 
   pub same_removal : (y : Layers) (epoch file : ℕ)

@@ -30,6 +30,7 @@ AreAlike updates others = ⊥
 pub record DifferInBytes (p q : PlainHistory) : Type 0 where
   pub mode : p.mode ≡ q.mode
   pub first : p.first ≡ q.first
+  pub limits : p.limits ≡ q.limits
   pub updates : AreAlike p.updates q.updates
 
 -- how many bytes the files have after the history, but for the one of this name
