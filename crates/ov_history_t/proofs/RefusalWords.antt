@@ -226,8 +226,9 @@ all_users users list = (below, back) where
 
 past_nodes : (y : Layers) → Decides (is_past_nodes y) (PassesNodes y)
 past_nodes y =
-    Decides-or (nat_lt MAX_LAYER_NODES (length y.base)) (nat_lt MAX_LAYER_NODES (length y.surface))
-    (Decides-ltb MAX_LAYER_NODES (length y.base)) (Decides-ltb MAX_LAYER_NODES (length y.surface))
+    let most : ℕ = most_nodes y.limits in
+    Decides-or (nat_lt most (length y.base)) (nat_lt most (length y.surface))
+    (Decides-ltb most (length y.base)) (Decides-ltb most (length y.surface))
 
 -- ---- updates
 
@@ -248,6 +249,19 @@ out_of_list : (m : Matrix) (user file : ℕ)
     → Decides (not (has (file_at m file).list user)) (¬ (Has (file_at m file).list user))
 out_of_list m user file = Decides-not (has (file_at m file).list user) (in_list m user file)
 
+-- the layers of a history have its limits
+all_given : (h : History) (count : ℕ)
+    → Decides (nat_le (most_files (layers_of h).limits) count) (most_files h.limits ≤ count)
+all_given h count =
+    subst (λ (l : StoreLimits). Decides (nat_le (most_files (layers_of h).limits) count) (most_files l ≤ count))
+    (limits_of-layers_of h) (Decides-le (most_files (layers_of h).limits) count)
+
+past_bytes : (h : History) (sum : ℕ)
+    → Decides (nat_lt (most_bytes (layers_of h).limits) sum) (most_bytes h.limits < sum)
+past_bytes h sum =
+    subst (λ (l : StoreLimits). Decides (nat_lt (most_bytes (layers_of h).limits) sum) (most_bytes l < sum))
+    (limits_of-layers_of h) (Decides-ltb (most_bytes (layers_of h).limits) sum)
+
 decided : (h : History) (u : Update)
     → AllDecide (Applies h u) (tests_of (matrix_of h) (layers_of h) (epoch_of h) u)
 decided h (Enrolled name) =
@@ -261,9 +275,9 @@ decided h (Created name list size) =
       (
         Decides-not (within list (everyone (length m.users))) (all_users (length m.users) list),
         (
-          Decides-le MAX_FILES (length m.files),
+          all_given h (length m.files),
           (
-            Decides-ltb MAX_STORE_BYTES (byte_sum m.files + size),
+            past_bytes h (byte_sum m.files + size),
             (nodes h (Created name list size), (spent h, tt)),
           ),
         ),
@@ -292,9 +306,9 @@ decided h (Replaced file size) =
     let m = matrix_of h in (
       no_file_at m file,
       (
-        Decides-le MAX_FILES (length m.files),
+        all_given h (length m.files),
         (
-          Decides-ltb MAX_STORE_BYTES (byte_sum (change_at gone file m.files) + size),
+          past_bytes h (byte_sum (change_at gone file m.files) + size),
           (nodes h (Replaced file size), (spent h, tt)),
         ),
       ),

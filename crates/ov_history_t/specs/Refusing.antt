@@ -86,29 +86,29 @@ HasAllUsers m (Replaced file size) = ⊥
 
 -- a file is to be created or replaced, and as many were made as a store has numbers for; the number
 -- of one that is gone isn't given again
-abbrev pub HasAllFiles : Matrix → Update → Type 0
-HasAllFiles m (Enrolled user) = ⊥
-HasAllFiles m (Created file list size) = MAX_FILES ≤ length m.files
-HasAllFiles m (Granted user file) = ⊥
-HasAllFiles m (Revoked user file) = ⊥
-HasAllFiles m (Removed file) = ⊥
-HasAllFiles m (Replaced file size) = MAX_FILES ≤ length m.files
+abbrev pub HasAllFiles : StoreLimits → Matrix → Update → Type 0
+HasAllFiles limits m (Enrolled user) = ⊥
+HasAllFiles limits m (Created file list size) = most_files limits ≤ length m.files
+HasAllFiles limits m (Granted user file) = ⊥
+HasAllFiles limits m (Revoked user file) = ⊥
+HasAllFiles limits m (Removed file) = ⊥
+HasAllFiles limits m (Replaced file size) = most_files limits ≤ length m.files
 
 -- A file is to be created, and with it all files that are there have more bytes than a store holds;
 -- or one is to be replaced, and with the new one all others have. A store that is then exactly full
 -- has no more.
-abbrev pub PassesBytes : Matrix → Update → Type 0
-PassesBytes m (Enrolled user) = ⊥
-PassesBytes m (Created file list size) = MAX_STORE_BYTES < byte_sum m.files + size
-PassesBytes m (Granted user file) = ⊥
-PassesBytes m (Revoked user file) = ⊥
-PassesBytes m (Removed file) = ⊥
-PassesBytes m (Replaced file size) =
-    MAX_STORE_BYTES < byte_sum (change_at gone file m.files) + size
+abbrev pub PassesBytes : StoreLimits → Matrix → Update → Type 0
+PassesBytes limits m (Enrolled user) = ⊥
+PassesBytes limits m (Created file list size) = most_bytes limits < byte_sum m.files + size
+PassesBytes limits m (Granted user file) = ⊥
+PassesBytes limits m (Revoked user file) = ⊥
+PassesBytes limits m (Removed file) = ⊥
+PassesBytes limits m (Replaced file size) =
+    most_bytes limits < byte_sum (change_at gone file m.files) + size
 
 -- a layer has more nodes than a layer holds
 abbrev pub PassesNodes : Layers → Type 0
-PassesNodes y = (MAX_LAYER_NODES < length y.base) ⊎ (MAX_LAYER_NODES < length y.surface)
+PassesNodes y = (most_nodes y.limits < length y.base) ⊎ (most_nodes y.limits < length y.surface)
 
 -- the refusal applies to the update after this history, whichever others do
 abbrev pub Applies : History → Update → Refusal → Type 0
@@ -119,8 +119,8 @@ Applies h u NoPath = ⊥
 Applies h u Listed = IsInList (matrix_of h) u
 Applies h u NotListed = IsOutOfList (matrix_of h) u
 Applies h u UsersFull = HasAllUsers (matrix_of h) u
-Applies h u FilesFull = HasAllFiles (matrix_of h) u
-Applies h u BytesFull = PassesBytes (matrix_of h) u
+Applies h u FilesFull = HasAllFiles h.limits (matrix_of h) u
+Applies h u BytesFull = PassesBytes h.limits (matrix_of h) u
 Applies h u NodesFull = PassesNodes (layers_of (with_update h u))
 Applies h u Spent = LAST_EPOCH ≤ epoch_of h
 
