@@ -1,6 +1,9 @@
 //! Stores of the third format: births with stops and faults at each call, limits that can't be, and
 //! books that a birth left.
-ghost use Rattle.ov_journal.specs.Birth.{IsNew};
+ghost use Rattle.std.specs.Prelude.{◌≡◌, IfOk, length, false};
+ghost use Rattle.ov_disk.specs.Disk.{OnlyBook, Told};
+ghost use Rattle.ov_journal.specs.Log.{Stands};
+ghost use Rattle.ov_journal.specs.Standing.{IsUnborn};
 
 use crate::disk::left;
 use crate::journal::{HEADER, expect_stops, put, standing};
@@ -35,14 +38,26 @@ const WIDER_STORE: [u8; 95] = *b"\x01OVERENC3\x01\x01\x02\x03\x04\
 // What a birth puts behind byte 78 of a longer Book.
 const MARK: [u8; 16] = *b"OVERENC, UNBORN.";
 
-// Begins a store with this header and two records where there is none: three calls look at what is
-// there.
-fn begin<D: Disk>(alloc: Global, disk: &mut D, header: &Header) -> Result<bool, CheckFault>
-    requires { IsNew header.now }
+// Begins a store of the third format, or of the second.
+fn birth<D: Disk>(alloc: Global, disk: &mut D, is_third: bool) -> Result<Journal, CheckFault>
+    requires { Told (D.tells.reads disk.old) (λ i.
+        IsUnborn i.book × OnlyBook i.book (D.tells.may_leave disk.old)) }
+    ensures whole { IfOk result (λ journal. journal.bad ≡ false) }
+    ensures count { IfOk result (λ journal. length journal.offsets ≡ 0) }
+    ensures stands { IfOk result (λ journal. Stands D.tells journal disk.new) }
 {
+    if is_third {
+        Journal::birth(alloc, disk, &WIDER)
+    } else {
+        Journal::birth(alloc, disk, &HEADER)
+    }
+}
+
+// Begins a store with two records where there is none: three calls look at what is there.
+fn begin<D: Disk>(alloc: Global, disk: &mut D, is_third: bool) -> Result<bool, CheckFault> {
     match Journal::begin(alloc, disk) {
         Ok(Found::Unborn) => {
-            let mut journal = Journal::birth(alloc, disk, header)?;
+            let mut journal = birth(alloc, disk, is_third)?;
             put(&mut journal, disk, b"\x01\x05alice")?;
             put(&mut journal, disk, b"\x01\x03bob")?;
             Ok(true)
@@ -62,15 +77,13 @@ fn disk_of(alloc: Global, book: &[u8]) -> Result<MemDisk, AllocError> {
 fn begun(
     alloc: Global,
     book: &[u8],
-    header: &Header,
+    is_third: bool,
     fail: u64,
-) -> Result<(MemDisk, bool), Fail>
-    requires { IsNew header.now }
-{
+) -> Result<(MemDisk, bool), Fail> {
     let mut disk = disk_of(alloc, book)?;
     disk.fail_at(fail)?;
-    let done = begin(alloc, &mut disk, header);
-    Ok((disk, done == Ok(true)))
+    let done = begin(alloc, &mut disk, is_third) == Ok(true);
+    Ok((disk, done))
 }
 
 // Whether a stop after this many calls, of which nothing is torn, leaves these bytes from a place
@@ -85,11 +98,10 @@ fn leaves(disk: &MemDisk, call: u64, place: usize, want: &[u8]) -> Result<bool, 
 #[test]
 fn a_new_store_with_limits(rt: HostRuntime) -> Result<(), Fail> {
     let alloc = rt.alloc();
-    let (disk, done) = begun(alloc, b"", &WIDER, 99)?;
+    let (disk, done) = begun(alloc, b"", true, 99)?;
     assert!(rt; done);
     // The first 79 bytes with a closed gate, the rest, and the gate.
     let front = WIDER_STORE.split_at(79).0.split_at(1).1;
-    assert!(rt; leaves(&disk, 8, 0, b"\0")? == false);
     assert!(rt; leaves(&disk, 8, 1, front)?);
     assert!(rt; leaves(&disk, 10, 1, WIDER_STORE.split_at(1).1)?);
     assert!(rt; leaves(&disk, 12, 0, &WIDER_STORE)?);
@@ -102,7 +114,7 @@ fn a_new_store_with_limits(rt: HostRuntime) -> Result<(), Fail> {
 #[test]
 fn its_header_is_read_again(rt: HostRuntime) -> Result<(), Fail> {
     let alloc = rt.alloc();
-    let (disk, _) = begun(alloc, b"", &WIDER, 99)?;
+    let (disk, _) = begun(alloc, b"", true, 99)?;
     let mut again = disk_of(alloc, disk.book())?;
     match Journal::begin(alloc, &mut again) {
         Ok(
@@ -124,7 +136,7 @@ fn its_header_is_read_again(rt: HostRuntime) -> Result<(), Fail> {
 #[test]
 fn a_stop_after_each_call(rt: HostRuntime) -> Result<(), Fail> {
     let alloc = rt.alloc();
-    let (disk, _) = begun(alloc, b"", &WIDER, 99)?;
+    let (disk, _) = begun(alloc, b"", true, 99)?;
     let least = [Tear::Old, Tear::Fill(0), Tear::Fill(255)];
     expect_stops(&rt, alloc, &disk, &least, b"uuuuuuuuuuuu000011112")?;
     let most = [Tear::New, Tear::Fill(1)];
@@ -140,7 +152,7 @@ fn left_by_fault(
     call: u64,
     tear: Tear,
 ) -> Result<u8, Fail> {
-    let (disk, done) = begun(alloc, book, &WIDER, call)?;
+    let (disk, done) = begun(alloc, book, true, call)?;
     assert!(rt; !done);
     Ok(standing(alloc, &mut disk.image(disk.calls(), tear)?))
 }
@@ -159,17 +171,18 @@ fn a_fault_at_each_call(rt: HostRuntime) -> Result<(), Fail> {
     Ok(())
 }
 
-// What is begun over the Book that an earlier birth left: its length, its closed gate, whether the
-// mark is in it, the new header, and what stops leave if the disk tears least and most.
-const OVER: [(usize, bool, Header, &[u8], &[u8]); 6] = [
+// What is begun over the Book that an earlier birth left: its length, whether the mark is in it,
+// whether the new store is of the third format, and what stops leave if the disk tears least and
+// most.
+const OVER: [(usize, bool, bool, &[u8], &[u8]); 6] = [
     // With no mark yet: a length, a look at the mark if the length is the mark's, the mark, the header
     // in one part or in two, and its gate.
-    (95, false, HEADER, b"uuuuuuuuuuu000011112", b"uuuuuuuuuu0000111122"),
-    (95, false, WIDER, b"uuuuuuuuuuuuu000011112", b"uuuuuuuuuuuu0000111122"),
-    (80, false, HEADER, b"uuuuuuuuuu000011112", b"uuuuuuuuu0000111122"),
-    (94, false, WIDER, b"uuuuuuuuuuuu000011112", b"uuuuuuuuuuu0000111122"),
-    (95, true, HEADER, b"uuuuuuuuu000011112", b"uuuuuuuu0000111122"),
-    (95, true, WIDER, b"uuuuuuuuuuu000011112", b"uuuuuuuuuu0000111122"),
+    (95, false, false, b"uuuuuuuuuuu000011112", b"uuuuuuuuuu0000111122"),
+    (95, false, true, b"uuuuuuuuuuuuu000011112", b"uuuuuuuuuuuu0000111122"),
+    (80, false, false, b"uuuuuuuuuu000011112", b"uuuuuuuuu0000111122"),
+    (94, false, true, b"uuuuuuuuuuuu000011112", b"uuuuuuuuuuu0000111122"),
+    (95, true, false, b"uuuuuuuuu000011112", b"uuuuuuuu0000111122"),
+    (95, true, true, b"uuuuuuuuuuu000011112", b"uuuuuuuuuu0000111122"),
 ];
 
 // A new store of the third format with its gate closed, cut to this length, or with the mark behind
@@ -193,9 +206,9 @@ fn unborn(alloc: Global, length: usize, is_marked: bool) -> Result<Vec<u8>, Allo
 #[test]
 fn a_birth_over_what_another_left(rt: HostRuntime) -> Result<(), Fail> {
     let alloc = rt.alloc();
-    for (length, is_marked, header, least, most) in &OVER {
+    for (length, is_marked, is_third, least, most) in &OVER {
         let book = unborn(alloc, *length, *is_marked)?;
-        let (disk, done) = begun(alloc, &book, header, 99)?;
+        let (disk, done) = begun(alloc, &book, *is_third, 99)?;
         assert!(rt; done);
         let tears = [Tear::Old, Tear::Fill(0), Tear::Fill(255)];
         expect_stops(&rt, alloc, &disk, &tears, least)?;

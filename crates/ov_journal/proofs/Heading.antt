@@ -3,12 +3,12 @@ use Rattle.std.proofs.Common.{◌≡◌, inl, inr, ℕ, suc, ◌+◌, ◌-◌, �
 use Rattle.ov_base.specs.declared.limits.TheConstants.{MAX_RECORD_BYTES}
 use Rattle.std.proofs.lemmas.List.{take-take, take_all, drop_more, drop-take, drop-drop, get_or_past, get_or-take, get_or-drop, length-take}
 use Rattle.std.proofs.lemmas.Bool.{cases_lt, eqb-true, ne_eqb, and_parts, false_from_ne_true}
-use Rattle.std.proofs.lemmas.Nat.{be_bytes_4}
-use Rattle.std.specs.Int.{w32, to_be_bytes, from_be_bytes}
+use Rattle.std.proofs.lemmas.Nat.{be_bytes_4, be_bytes_8}
+use Rattle.std.specs.Int.{w32, w64, to_be_bytes, from_be_bytes}
 use Rattle.ov_base.specs.Modes.{mode_byte}
 use Rattle.ov_journal.specs.declared.header.Header.{Header}
 use Rattle.ov_base.specs.StoreLimits.{usual}
-use Rattle.ov_journal.specs.Book.{limits_of, magic, spelled}
+use Rattle.ov_journal.specs.Book.{limits_bytes, limits_of, magic, spelled}
 use Rattle.ov_journal.specs.Standing.{limits_in, limits_read}
 use Rattle.ov_journal.specs.Runs.{length_in, is_length, body_in, Run, past_gate, run_after}
 use Rattle.ov_journal.specs.Heads.{BeginsRecord}
@@ -48,6 +48,20 @@ header_whole front h n long fits gate is_magic mode first limits base surface =
 pub least_long : (third : Bool) (n : ℕ) → n ≡ cond third 94 78 → 78 ≤ n
 least_long true n is = omega (arith, is)
 least_long false n is = omega (arith, is)
+
+-- limits that are read from 16 bytes have these
+pub limits_bytes_again : (bytes : List ℕ) → length bytes ≡ 16 → ((i : ℕ) → get_or bytes i 0 < 256) → limits_bytes (limits_read bytes) ≡ bytes
+limits_bytes_again bytes long small =
+    let rest = drop 8 bytes in
+    let one : to_be_bytes w64 (from_be_bytes w64 (take 8 bytes)) ≡ take 8 bytes =
+    be_bytes_8 (take 8 bytes) (from_be_bytes w64 (take 8 bytes)) (omega (arith, long, length-take 8 bytes)) (part_fits bytes small 0 8) refl in
+    let two : to_be_bytes w32 (from_be_bytes w32 (take 4 rest)) ≡ take 4 rest =
+    be_bytes_4 (take 4 rest) (from_be_bytes w32 (take 4 rest)) (omega (arith, long, length-take 4 rest, length-drop 8 bytes)) (part_fits bytes small 8 4) refl in
+    let rest_fits : (i : ℕ) → get_or (drop 4 rest) i 0 < 256 = λ i. subst (λ (b : ℕ). b < 256) (sym (get_or-drop 4 rest i 0 ∙ get_or-drop 8 bytes (4 + i) 0)) (small (8 + (4 + i))) in
+    let three : to_be_bytes w32 (from_be_bytes w32 (drop 4 rest)) ≡ drop 4 rest =
+    be_bytes_4 (drop 4 rest) (from_be_bytes w32 (drop 4 rest)) (omega (arith, long, length-drop 4 rest, length-drop 8 bytes)) rest_fits refl in
+    (λ k. one k ++ two k ++ three k) ∙ append_assoc (take 8 bytes) (take 4 rest) (drop 4 rest)
+    ∙ ap (λ (l : List ℕ). take 8 bytes ++ l) (take-append-drop 4 rest) ∙ take-append-drop 8 bytes
 
 -- the limits that are read behind the first epoch
 pub limits_at : (third : Bool) (bytes front : List ℕ) → (third ≡ true → bytes ≡ take 16 (drop 14 front)) → cond third (limits_read bytes) usual ≡ cond third (limits_in front) usual

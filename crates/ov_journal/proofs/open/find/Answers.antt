@@ -15,4 +15,4 @@ scan-requires-clause-first g c i is =
 
 pub returns-in-Damaged-clause-finds : goal.returns-in-Damaged-clause-finds
 returns-in-Damaged-clause-finds g c i is =
-    subst (Heads i.book) c.in-Damaged.is (c.in_ok-read_head.ensures.head i (sym c.read_head.ensures.untouched.reads_same ∙ is))
+    subst (Heads i.book) c.in-Damaged.is (c.in_ok-read_head.ensures.head i (c.len.ensures.reads ∙ is))
