@@ -96,10 +96,13 @@ mark_cleared book long unmarked un =
 pub front_torn : (book c : List ℕ) → IsCleared book → Torn 1 78 book c → IsUnborn c
 front_torn book c cleared torn =
     let gate = stays 1 0 book c torn.before (omega arith) in
-    inr (λ open_gate. cleared.closed (sym gate ∙ open_gate), elim cleared.behind [
-      | inl short ↦ inl (omega (arith, torn.no_longer, short))
-      | inr marked ↦ inr (inr (torn.after ∙ marked))
-    ])
+    inr (
+      λ open_gate. cleared.closed (sym gate ∙ open_gate),
+      elim cleared.behind [
+        | inl short ↦ inl (omega (arith, torn.no_longer, short))
+        | inr marked ↦ inr (inr (torn.after ∙ marked))
+      ],
+    )
 
 not_first : (format : ℕ) → IsNewFormat format → ((48 + format) == 49) ≡ false
 not_first format (inl two) = ap (λ (f : ℕ). (48 + f) == 49) two
@@ -149,10 +152,13 @@ module _ (h : Header) (frame : List ℕ) (is : IsHeaderFrame h frame) where
         rest = rest;
         parts = parts_of book cleared ∙ ap (λ (l : List ℕ). get_or book 0 0 ∷ (l ++ drop 79 book)) all;
         closed = cleared.closed;
-        shut = λ g ne. inr (ne, elim cleared.behind [
-          | inl short ↦ inl (omega (arith, length-append frame (drop 79 book), length-drop 79 book, size, short))
-          | inr marked ↦ inr (inr (behind g ∙ marked))
-        ]);
+        shut = λ g ne. inr (
+          ne,
+          elim cleared.behind [
+            | inl short ↦ inl (omega (arith, length-append frame (drop 79 book), length-drop 79 book, size, short))
+            | inr marked ↦ inr (inr (behind g ∙ marked))
+          ],
+        );
         opens = opens (drop 79 book);
       }
 

@@ -94,11 +94,14 @@ pub left_short : (book : List ℕ) → length book ≤ 79 → (true ≡ true) �
 left_short book short = (λ yes. inl short, λ left. refl)
 
 pub left_long : (book : List ℕ) → 95 < length book → (false ≡ true) ↔ IsBirthLeft book
-left_long book long = (λ never. absurd (cc never), λ left. elim left [
-  | inl short ↦ absurd (omega (arith, short, long))
-  | inr (inl third) ↦ absurd (omega (arith, third.0, long))
-  | inr (inr marked) ↦ absurd (omega (arith, marked_long book marked, long))
-])
+left_long book long = (
+  λ never. absurd (cc never),
+  λ left. elim left [
+    | inl short ↦ absurd (omega (arith, short, long))
+    | inr (inl third) ↦ absurd (omega (arith, third.0, long))
+    | inr (inr marked) ↦ absurd (omega (arith, marked_long book marked, long))
+  ],
+)
 
 or_true : (one other : Bool) → (one || other) ≡ true → (one ≡ true) ⊎ (other ≡ true)
 or_true true other is = inl refl
@@ -179,7 +182,7 @@ module _ (book front : List ℕ) (is : front ≡ take 95 book) (gate : get_or fr
       mode_in = ap (λ (l : List ℕ). get_or l 9 0) is ∙ get_or-take 95 book 9 0 (omega arith)
 
       pub no_mode : 1 < get_or front 9 0 → IsDamagedAt 9 book
-      no_mode none = inl (refl, has_magic, omega (arith, none, mode_in))
+      no_mode none = inl (refl, (has_magic, omega (arith, none, mode_in)))
 
       module _ (bytes : List ℕ) (bytes_are : bytes ≡ take (cond (format == 3) 94 78) front) (h : Header) (spells : bytes ≡ spelled h) (same : h.format ≡ format)
           (limits : h.limits ≡ cond (format == 3) (limits_in bytes) usual) where

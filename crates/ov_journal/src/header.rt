@@ -77,7 +77,11 @@ fn magic_of(format: u8) -> [u8; 8]
     requires { IsNewFormat format }
     ensures { result ≡ magic format }
 {
-    if format == 3 { THIRD_MAGIC } else { SECOND_MAGIC }
+    if format == 3 {
+        THIRD_MAGIC
+    } else {
+        SECOND_MAGIC
+    }
 }
 
 // Puts the limits of a header behind what is in the frame, where its format has them.

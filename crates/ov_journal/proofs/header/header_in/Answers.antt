@@ -1,4 +1,4 @@
-use Rattle.std.proofs.Common.{rules, ◌≡◌, ◌-◌, List, ℕ, length, take, drop, Bool, true, cond, ◌==◌, sym, ◌∙◌, ap, arith, length-drop}
+use Rattle.std.proofs.Common.{rules, ◌≡◌, ◌-◌, List, ℕ, length, take, drop, Bool, cond, ◌==◌, sym, ◌∙◌, ap, arith, length-drop}
 use Rattle.std.proofs.lemmas.List.{drop-drop}
 use Rattle.std.specs.Int.{w32, from_be_bytes}
 use Rattle.ov_journal.proofs.Heading.{header_whole, least_long, limits_at}

@@ -17,7 +17,7 @@ undamaged : (book : List ℕ) (h : Header) → HasHeaderForm h → head_of book 
 undamaged book h form is place (inl none) =
     let byte : get_or book 9 0 ≡ mode_byte h.mode =
     sym (get_or-take (head_size book) book 9 0 (omega (arith, least_size book))) ∙ ap (λ (l : List ℕ). get_or l 9 0) is in
-    omega (arith, none.2, byte, least_mode h.mode)
+    omega (arith, none.1.1, byte, least_mode h.mode)
 undamaged book h form is place (inr none) =
     let digit : get_or book 8 0 ≡ 48 + h.format = sym (digit_in book) ∙ ap (λ (l : List ℕ). get_or l 8 0) is in
     let third : (h.format == 3) ≡ true = digit_third h.format ∙ ap (λ (n : ℕ). n == 51) (sym digit) ∙ none.third in
@@ -26,8 +26,8 @@ undamaged book h form is place (inr none) =
 
 one_place : (book : List ℕ) (one other : ℕ) → IsDamagedAt one book → IsDamagedAt other book → one ≡ other
 one_place book one other (inl a) (inl b) = a.0 ∙ sym b.0
-one_place book one other (inl a) (inr b) = absurd (omega (arith, a.2, b.mode))
-one_place book one other (inr a) (inl b) = absurd (omega (arith, b.2, a.mode))
+one_place book one other (inl a) (inr b) = absurd (omega (arith, a.1.1, b.mode))
+one_place book one other (inr a) (inl b) = absurd (omega (arith, b.1.1, a.mode))
 one_place book one other (inr a) (inr b) = one_wrong _ one other a.wrong b.wrong
 
 pub returns : goal.returns
