@@ -69,7 +69,8 @@ fn begin<D: Disk>(alloc: Global, disk: &mut D, is_third: bool) -> Result<bool, C
 // A disk with this Book.
 fn disk_of(alloc: Global, book: &[u8]) -> Result<MemDisk, AllocError> {
     let blobs = Octets::from_vec(Vec::new(alloc));
-    Ok(MemDisk::of(alloc, Octets::copy(alloc, book)?, blobs))
+    let book = Octets::from_vec(book.to_vec(alloc)?);
+    Ok(MemDisk::of(alloc, book, blobs))
 }
 
 // What is left where such a store is begun over this Book, on a disk that fails at one call, and
