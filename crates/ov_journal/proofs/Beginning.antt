@@ -1,5 +1,5 @@
 -- What a birth makes of a Book, write by write.
-use Rattle.std.proofs.Common.{◌≡◌, ◌≢◌, ◌⊎◌, inl, inr, ℕ, ◌+◌, ◌≤◌, ◌<◌, List, [], ◌∷◌, ◌++◌, length, take, drop, get_or, Bool, true, false, ◌==◌, None, refl, sym, ◌∙◌, ap, subst, arith, length-append, length-drop, take-append-drop, append_assoc}
+use Rattle.std.proofs.Common.{◌≡◌, ◌≢◌, ◌⊎◌, inl, inr, ℕ, ◌+◌, ◌≤◌, ◌<◌, List, [], ◌∷◌, ◌++◌, length, take, drop, get_or, Bool, true, false, ◌==◌, None, sym, ◌∙◌, ap, subst, arith, length-append, length-drop, take-append-drop, append_assoc}
 use Rattle.std.proofs.lemmas.Bool.{cases_eq, eqb-true}
 use Rattle.std.proofs.lemmas.List.{drop_more, drop_all, drop_at, take_at, take_all, take-take, take-append-le, drop-take, append-nil, length-take-le, get_or-take}
 use Rattle.ov_disk.specs.Disk.{overwritten, Torn}

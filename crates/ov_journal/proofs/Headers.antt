@@ -1,6 +1,6 @@
 -- Headers and their bytes.
 use Rattle.std.proofs.Common.{◌≡◌, inl, inr, ℕ, ◌<◌, ◌^◌, ◌++◌, List, length, take, drop, get_or, Bool, true, false, cond, ◌==◌, refl, sym, ◌∙◌, ap, subst, arith, ◌+◌, append_assoc}
-use Rattle.std.specs.Int.{w32, w64, to_be_bytes, from_be_bytes}
+use Rattle.std.specs.Int.{w32, to_be_bytes, from_be_bytes}
 use Rattle.std.proofs.lemmas.Bool.{eq-eqb, ne_eqb}
 use Rattle.std.proofs.lemmas.Bool.Decides.{eqb_tells}
 use Rattle.std.proofs.lemmas.List.{take_at, drop_at}
@@ -8,7 +8,7 @@ use Rattle.std.proofs.lemmas.Nat.{from_be_bytes-to_be_bytes_4, from_be_bytes-to_
 use Rattle.ov_base.proofs.Modes.{one_byte}
 use Rattle.ov_base.specs.declared.store_limits.StoreLimits.{StoreLimits}
 use Rattle.ov_journal.specs.declared.header.Header.{Header}
-use Rattle.ov_journal.specs.Book.{HasHeaderForm, HeadersAreSpelledApart, MayHave, head_size, is_first, limits_bytes, limits_of, spelled}
+use Rattle.ov_journal.specs.Book.{HeadersAreSpelledApart, MayHave, head_size, limits_bytes, limits_of, spelled}
 use Rattle.ov_journal.specs.Standing.{limits_read}
 
 -- ---- the format as a number and as a digit

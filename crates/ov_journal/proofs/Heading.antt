@@ -2,7 +2,7 @@
 use Rattle.std.proofs.Common.{◌≡◌, inl, inr, ℕ, suc, ◌+◌, ◌-◌, ◌≤◌, ◌<◌, min, List, [], ◌∷◌, ◌++◌, length, take, drop, get_or, Bool, true, false, cond, ◌==◌, ◌&&◌, refl, sym, ◌∙◌, ap, subst, arith, append_assoc, take-append-drop, length-drop, lit<}
 use Rattle.ov_base.specs.declared.limits.TheConstants.{MAX_RECORD_BYTES}
 use Rattle.std.proofs.lemmas.List.{take-take, take_all, drop_more, drop-take, drop-drop, get_or_past, get_or-take, get_or-drop, length-take}
-use Rattle.std.proofs.lemmas.Bool.{cases_lt, eqb-true, ne_eqb, and_parts, false_from_ne_true}
+use Rattle.std.proofs.lemmas.Bool.{cases_lt, eqb-true, ne_eqb, and_parts}
 use Rattle.std.proofs.lemmas.Nat.{be_bytes_4, be_bytes_8}
 use Rattle.std.specs.Int.{w32, w64, to_be_bytes, from_be_bytes}
 use Rattle.ov_base.specs.Modes.{mode_byte}
@@ -10,7 +10,7 @@ use Rattle.ov_journal.specs.declared.header.Header.{Header}
 use Rattle.ov_base.specs.StoreLimits.{usual}
 use Rattle.ov_journal.specs.Book.{limits_bytes, limits_of, magic, spelled}
 use Rattle.ov_journal.specs.Standing.{limits_in, limits_read}
-use Rattle.ov_journal.specs.Runs.{length_in, is_length, body_in, Run, past_gate, run_after}
+use Rattle.ov_journal.specs.Runs.{length_in, body_in, Run, past_gate, run_after}
 use Rattle.ov_journal.specs.Heads.{BeginsRecord}
 use Rattle.ov_journal.specs.Steps.{is_step}
 use Rattle.ov_journal.proofs.Reading.{Fits, fits, fits_is, length-body_in, run_after-drop}

@@ -11,7 +11,7 @@ use Rattle.ov_journal.specs.declared.open.Head.{Head}
 use Rattle.ov_journal.specs.declared.open.Head.TheVariants.{Unborn, Foreign, Damaged, Store}
 use Rattle.ov_journal.specs.Book.{HasHeaderForm, IsFormat, MayHave, head_of, head_size, is_third, limits_bytes, limits_of, magic, spelled}
 use Rattle.ov_journal.specs.Heads.{HasRoom, Heads, Says}
-use Rattle.ov_journal.specs.Standing.{AreWrongAt, HasMagic, HasNoLimits, HasNoMode, IsBirthLeft, IsDamagedAt, IsForeign, IsUnborn, birth_mark, limits_in, limits_read}
+use Rattle.ov_journal.specs.Standing.{AreWrongAt, HasMagic, IsBirthLeft, IsDamagedAt, IsForeign, IsUnborn, birth_mark, limits_in, limits_read}
 use Rattle.ov_journal.proofs.Beginning.{marked_long}
 use Rattle.ov_journal.proofs.Headers.{digit_third, limits_fit, size_is}
 use Rattle.ov_journal.proofs.Starts.{least_size, most_size}

@@ -1,8 +1,8 @@
 -- Where a Book's records begin, by the bytes of its header.
-use Rattle.std.proofs.Common.{◌≡◌, ◌⊎◌, inl, inr, ℕ, ◌≤◌, List, ◌∷◌, ◌++◌, take, get_or, Bool, true, false, cond, ◌==◌, sym, ◌∙◌, ap, arith}
+use Rattle.std.proofs.Common.{◌≡◌, ◌⊎◌, inl, inr, ℕ, ◌≤◌, List, get_or, Bool, true, false, cond, ◌==◌, sym, ◌∙◌, ap, arith}
 use Rattle.std.proofs.lemmas.Bool.{cases_Bool}
 use Rattle.std.proofs.lemmas.List.{get_or-take}
-use Rattle.ov_journal.specs.Book.{Contents, contents_of, head_of, head_size, is_first, is_third, spelled}
+use Rattle.ov_journal.specs.Book.{contents_of, head_of, head_size, is_first, is_third, spelled}
 use Rattle.ov_journal.specs.declared.header.Header.{Header}
 
 -- of the third format or of another

@@ -1,7 +1,7 @@
 -- Inner: no public contract needs this, but for what a header needs. What a birth writes, step by
 -- step, and what it writes over.
 use Rattle.std.specs.Prelude.{◌≡◌, ◌≢◌, ◌⊎◌, ℕ, ◌≤◌, None, Some, List, [], ◌∷◌, ◌++◌, ◌==◌, length, drop, slice_index}
-use Rattle.ov_disk.specs.Disk.{Image, Only, OnlyBook, Told, Torn, written}
+use Rattle.ov_disk.specs.Disk.{Image, Only, OnlyBook, Told, written}
 use Rattle.ov_disk.specs.Moments.{LeavesOnly}
 use Rattle.ov_disk.specs.Tells.{DiskTells}
 use Rattle.ov_disk.specs.declared.area.Area.TheVariants.{Book}

@@ -1,8 +1,8 @@
-use Rattle.std.proofs.Common.{◌≡◌, inl, inr, ℕ, List, get_or, true, cond, ◌==◌, sym, ◌∙◌, ap, subst, arith}
+use Rattle.std.proofs.Common.{◌≡◌, inl, inr, ℕ, ◌+◌, List, get_or, true, ◌==◌, sym, ◌∙◌, ap, subst, arith}
 use Rattle.std.proofs.lemmas.List.{get_or-take}
 use Rattle.ov_base.specs.Modes.{mode_byte}
 use Rattle.ov_journal.specs.declared.header.Header.{Header}
-use Rattle.ov_journal.specs.Book.{HasHeaderForm, MayHave, head_of, head_size, is_third, spelled}
+use Rattle.ov_journal.specs.Book.{HasHeaderForm, MayHave, head_of, head_size, spelled}
 use Rattle.ov_journal.specs.Standing.{AreWrongAt, HasMagic, IsDamagedAt, IsUnborn}
 use Rattle.ov_journal.proofs.Headers.{digit_third}
 use Rattle.ov_journal.proofs.Opening.{least_mode, limits_spelled, not_wrong, one_wrong}
