@@ -4,8 +4,8 @@ use Rattle.std.proofs.lemmas.Bool.{cases_eq, eqb-true}
 use Rattle.std.proofs.lemmas.List.{drop_more, drop_all, drop_at, take_at, take_all, take-take, take-append-le, drop-take, append-nil, length-take-le, get_or-take}
 use Rattle.ov_disk.specs.Disk.{overwritten, Torn}
 use Rattle.ov_journal.specs.declared.header.Header.{Header}
-use Rattle.ov_journal.specs.Birth.{IsCleared, IsHeaded, IsHeaderFrame, IsNewFormat}
-use Rattle.ov_journal.specs.Book.{header_bytes, head_of, head_size, spelled, is_first, magic, records_in, run_of, contents_of, born}
+use Rattle.ov_journal.specs.Birth.{IsCleared, IsHeaded, IsHeaderFrame}
+use Rattle.ov_journal.specs.Book.{IsNewFormat, header_bytes, head_of, head_size, spelled, is_first, magic, records_in, run_of, contents_of, born}
 use Rattle.ov_journal.specs.Runs.{run_after}
 use Rattle.ov_journal.specs.Standing.{IsUnborn, birth_mark}
 use Rattle.ov_journal.proofs.Headers.{size_of_second, size_of_third}

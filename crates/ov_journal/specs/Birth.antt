@@ -1,23 +1,12 @@
--- Inner: no public contract needs this, but for what a header needs. What a birth writes, step by
--- step, and what it writes over.
-use Rattle.std.specs.Prelude.{◌≡◌, ◌≢◌, ◌⊎◌, ℕ, ◌≤◌, None, Some, List, [], ◌∷◌, ◌++◌, ◌==◌, length, drop, slice_index}
+-- Inner: no public contract needs this. What a birth writes, step by step, and what it writes over.
+use Rattle.std.specs.Prelude.{◌≡◌, ◌≢◌, ◌⊎◌, ℕ, ◌≤◌, None, Some, List, [], ◌∷◌, ◌++◌, length, drop, slice_index}
 use Rattle.ov_disk.specs.Disk.{Image, Only, OnlyBook, Told, written}
 use Rattle.ov_disk.specs.Moments.{LeavesOnly}
 use Rattle.ov_disk.specs.Tells.{DiskTells}
 use Rattle.ov_disk.specs.declared.area.Area.TheVariants.{Book}
-use Rattle.ov_journal.specs.Book.{MayHave, born, contents_of, head_size, header_bytes, spelled}
+use Rattle.ov_journal.specs.Book.{IsNewFormat, born, contents_of, head_size, header_bytes, spelled}
 use Rattle.ov_journal.specs.declared.header.Header.{Header}
 use Rattle.ov_journal.specs.Standing.{IsUnborn, birth_mark}
-
--- a format in which a store may be begun
-abbrev pub IsNewFormat : ℕ → Type 0
-IsNewFormat format = (format ≡ 2) ⊎ (format ≡ 3)
-
--- a header with which a store may be begun: of the second format, or of the third with limits that
--- it may have
-pub record IsNew (header : Header) : Type 0 where
-  pub format : IsNewFormat header.format
-  pub limits : MayHave (header.format == 3) header.limits
 
 -- a Book with a gate that isn't open, which is unborn whatever its next 78 bytes are: it is short, or
 -- has the mark behind them
@@ -44,7 +33,8 @@ pub record IsHeaded (header : Header) (book : List ℕ) : Type 0 where
 
 -- a Book of which this is so, with nothing pending in it
 abbrev pub HasBook : {D : Type 0} → DiskTells D → (List ℕ → Type 0) → D → Type 0
-HasBook tells P disk = Told (tells.reads disk) (λ i. P i.book × OnlyBook i.book (tells.may_leave disk))
+HasBook tells P disk =
+    Told (tells.reads disk) (λ i. P i.book × OnlyBook i.book (tells.may_leave disk))
 
 -- these bytes were written at this place of Book and made last
 pub record Wrote {D : Type 0} (tells : DiskTells D) (at : ℕ) (bytes : List ℕ) (old new : D) : Type 0

@@ -53,6 +53,15 @@ pub record HasHeaderForm (h : Header) : Type 0 where
   pub base : length h.base_check ≡ 32
   pub surface : length h.surface_check ≡ 32
 
+-- a format in which a store may be begun
+abbrev pub IsNewFormat : ℕ → Type 0
+IsNewFormat format = (format ≡ 2) ⊎ (format ≡ 3)
+
+-- a header with which a store may be begun, by its format and its limits
+pub record IsNew (h : Header) : Type 0 where
+  pub format : IsNewFormat h.format
+  pub limits : MayHave (h.format == 3) h.limits
+
 -- two headers of this form with the same bytes are the same
 abbrev pub HeadersAreSpelledApart : Type 0
 HeadersAreSpelledApart =

@@ -2,8 +2,8 @@
 ghost use Rattle.std.specs.Prelude.{◌≡◌, ◌↔◌, ◌≤◌, ◌==◌, ◌++◌, ℕ, length, take, drop, slice_index, cond, true, IfNone, IfOk, IfSome, OnOk};
 ghost use Rattle.ov_base.specs.Modes.{mode_byte};
 ghost use Rattle.ov_base.specs.StoreLimits.{usual};
-ghost use Rattle.ov_journal.specs.Birth.{IsHeaderFrame, IsNewFormat};
-ghost use Rattle.ov_journal.specs.Book.{IsFormat, head_size, is_first, limits_of, magic, spelled};
+ghost use Rattle.ov_journal.specs.Birth.{IsHeaderFrame};
+ghost use Rattle.ov_journal.specs.Book.{IsFormat, IsNewFormat, head_size, is_first, limits_of, magic, spelled};
 ghost use Rattle.ov_journal.specs.Standing.{limits_in, limits_read};
 
 use ov_base::{Memory, Mode, StoreLimits};
