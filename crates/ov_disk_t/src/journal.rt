@@ -5,7 +5,8 @@ ghost use Rattle.ov_journal.specs.Log.{IsLogOf, Stands};
 ghost use Rattle.ov_journal.specs.Standing.{IsUnborn};
 
 use crate::disk::left;
-use ov_base::{Mode, Octets};
+use ov_base::limits::{USUAL_FILES, USUAL_LAYER_NODES, USUAL_STORE_BYTES};
+use ov_base::{Mode, Octets, StoreLimits};
 use ov_disk::{Disk, FileDisk, MemDisk, Tear};
 use ov_journal::{CheckFault, Found, Header, Journal, JournalFault};
 use std::alloc::{AllocError, Global};
@@ -13,10 +14,19 @@ use std::fs;
 use std::process::Abort;
 use std::test::Fail;
 
-const HEADER: Header = Header {
+/// The limits of a store that was made without a word about them.
+pub const USUAL: StoreLimits = StoreLimits {
+    bytes: USUAL_STORE_BYTES,
+    nodes: USUAL_LAYER_NODES,
+    files: USUAL_FILES,
+};
+
+/// A header of the second format.
+pub const HEADER: Header = Header {
     format: 2,
     mode: Mode::Delta,
     first: 0x01020304,
+    limits: USUAL,
     base_check: [0x11; 32],
     surface_check: [0x22; 32],
 };

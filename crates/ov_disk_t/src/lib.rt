@@ -12,6 +12,8 @@ mod held;
 #[cfg(test)]
 mod journal;
 #[cfg(test)]
+mod limits;
+#[cfg(test)]
 mod moves;
 #[cfg(test)]
 mod runs;

@@ -2,11 +2,13 @@
 -- and then that gate.
 use Rattle.std.proofs.Common.{◌≡◌, ◌≢◌, ◌⊎◌, inl, inr, ℕ, zero, suc, ◌+◌, ◌≤◌, List, [], ◌∷◌, ◌++◌, length, get_or, take, drop, false, sym, ◌∙◌, ap, subst, arith, append_assoc, length-append, take-append-drop}
 use Rattle.ov_base.specs.declared.limits.TheConstants.{MAX_RECORD_BYTES}
-use Rattle.std.proofs.lemmas.List.{take_at, drop_at, drop_more, length-take-le}
+use Rattle.std.proofs.lemmas.List.{take_at, drop_at, drop_more, length-take-le, get_or_append_left, get_or-take}
 use Rattle.std.proofs.lemmas.Bool.{cases_eq}
 use Rattle.ov_disk.specs.Disk.{overwritten, Torn}
+use Rattle.ov_journal.specs.Book.{head_of, head_size, is_first, run_of}
 use Rattle.ov_journal.specs.Runs.{Run, run_after}
 use Rattle.ov_journal.specs.Frames.{framed, EndsAt, layout_of, with_record}
+use Rattle.ov_journal.proofs.Starts.{least_size, same_first, same_size}
 use Rattle.ov_journal.proofs.Reading.{prepended, end_from-size, take_front, closed_reads, IsFront, front_reads, frame_reads}
 
 drop_further : (front : List ℕ) (g : ℕ) (rest : List ℕ) (p n : ℕ) → p ≡ length front → drop (p + 1 + n) (front ++ g ∷ rest) ≡ drop n rest
@@ -57,13 +59,13 @@ module _ (front : List ℕ) (p : ℕ) (size : length front ≡ p) where
 -- a Book with whole records and a gate at `end` that isn't open
 module _ (end : ℕ) (book : List ℕ) (ends : EndsAt end book) where
   abbrev bodies : List (List ℕ)
-  bodies = (run_after 78 book).bodies
+  bodies = (run_of book).bodies
 
-  pub is_front : IsFront 78 end book
-  is_front = front_reads book 78 end ends.whole (ends.end_is ∙ end_from-size 78 bodies)
+  pub is_front : IsFront (head_size book) end book
+  is_front = front_reads book (head_size book) end ends.whole (ends.end_is ∙ end_from-size (head_size book) bodies)
 
-  pub past_header : 78 ≤ end
-  past_header = omega (arith, ends.end_is, end_from-size 78 bodies)
+  pub past_header : head_size book ≤ end
+  past_header = omega (arith, ends.end_is, end_from-size (head_size book) bodies)
 
   abbrev pub front : List ℕ
   front = take end book
@@ -81,10 +83,16 @@ module _ (end : ℕ) (book : List ℕ) (ends : EndsAt end book) where
   parts = sym (take-append-drop end book) ∙ ap (λ (l : List ℕ). front ++ l) (drop_more book end 0 is_front.inside)
 
   -- what is at the end decides the rest
-  on_front : (t : List ℕ) (r : Run) → 1 ≤ length t → run_after 0 t ≡ r → layout_of (front ++ t) ≡ record { head = take 78 book; run = prepended bodies r }
+  on_front : (t : List ℕ) (r : Run) → 1 ≤ length t → run_after 0 t ≡ r
+      → layout_of (front ++ t) ≡ record { start = head_size book; first = is_first book; head = head_of book; run = prepended bodies r }
   on_front t r some is =
-      let run : run_after 78 (front ++ t) ≡ prepended bodies r = is_front.reads t some ∙ ap (prepended bodies) is in
-      λ i. record { head = take_front 78 end book t past_header (omega (arith, is_front.inside)) i; run = run i }
+      let digit : get_or (front ++ t) 8 0 ≡ get_or book 8 0 =
+      get_or_append_left front t 0 8 (omega (arith, front_long, past_header, least_size book)) ∙ get_or-take end book 8 0 (omega (arith, past_header, least_size book)) in
+      let start : head_size (front ++ t) ≡ head_size book = same_size (front ++ t) book digit in
+      let head : head_of (front ++ t) ≡ head_of book =
+      ap (λ (n : ℕ). take n (front ++ t)) start ∙ take_front (head_size book) end book t past_header (omega (arith, is_front.inside)) in
+      let run : run_of (front ++ t) ≡ prepended bodies r = ap (λ (n : ℕ). run_after n (front ++ t)) start ∙ is_front.reads t some ∙ ap (prepended bodies) is in
+      λ i. record { start = start i; first = same_first (front ++ t) book digit i; head = head i; run = run i }
 
   -- Book stands the same with any gate there that isn't open, whatever follows it
   pub shut_same : (g : ℕ) (more c : List ℕ) → g ≢ 1 → c ≡ front ++ g ∷ more → layout_of c ≡ layout_of book
@@ -120,7 +128,7 @@ module _ (end : ℕ) (book : List ℕ) (ends : EndsAt end book) where
       pub opened_reads : layout_of opened ≡ with_record body (layout_of book)
       opened_reads =
           on_front (1 ∷ more) (record { bodies = body ∷ []; bad = false }) (omega arith) (frame_reads body (drop (length (framed body)) rest) some most)
-          ∙ (λ i. record { head = take 78 book; run = record { bodies = bodies ++ body ∷ []; bad = sym ends.whole i } })
+          ∙ (λ i. record { start = head_size book; first = is_first book; head = head_of book; run = record { bodies = bodies ++ body ∷ []; bad = sym ends.whole i } })
 
       -- with the body or without, whatever the gate
       pub torn_either : (c : List ℕ) → Torn end 1 staged c → (layout_of c ≡ layout_of book) ⊎ (layout_of c ≡ with_record body (layout_of book))

@@ -1,14 +1,16 @@
 -- A header as it is read, and what a gate says as it is read.
-use Rattle.std.proofs.Common.{◌≡◌, inl, inr, ℕ, suc, ◌+◌, ◌-◌, ◌≤◌, ◌<◌, min, List, [], ◌∷◌, ◌++◌, length, take, drop, get_or, Bool, true, false, ◌==◌, ◌&&◌, refl, sym, ◌∙◌, ap, subst, arith, take-append-drop, length-drop, lit<}
+use Rattle.std.proofs.Common.{◌≡◌, inl, inr, ℕ, suc, ◌+◌, ◌-◌, ◌≤◌, ◌<◌, min, List, [], ◌∷◌, ◌++◌, length, take, drop, get_or, Bool, true, false, cond, ◌==◌, ◌&&◌, refl, sym, ◌∙◌, ap, subst, arith, append_assoc, take-append-drop, length-drop, lit<}
 use Rattle.ov_base.specs.declared.limits.TheConstants.{MAX_RECORD_BYTES}
 use Rattle.std.proofs.lemmas.List.{take-take, take_all, drop_more, drop-take, drop-drop, get_or_past, get_or-take, get_or-drop, length-take}
-use Rattle.std.proofs.lemmas.Bool.{cases_lt, eqb-true, ne_eqb, and_parts, false_from_ne_true}
-use Rattle.std.proofs.lemmas.Nat.{be_bytes_4}
-use Rattle.std.specs.Int.{w32, to_be_bytes, from_be_bytes}
+use Rattle.std.proofs.lemmas.Bool.{cases_lt, eqb-true, ne_eqb, and_parts}
+use Rattle.std.proofs.lemmas.Nat.{be_bytes_4, be_bytes_8}
+use Rattle.std.specs.Int.{w32, w64, to_be_bytes, from_be_bytes}
 use Rattle.ov_base.specs.Modes.{mode_byte}
 use Rattle.ov_journal.specs.declared.header.Header.{Header}
-use Rattle.ov_journal.specs.Book.{magic, spelled}
-use Rattle.ov_journal.specs.Runs.{length_in, is_length, body_in, Run, past_gate, run_after}
+use Rattle.ov_base.specs.StoreLimits.{usual}
+use Rattle.ov_journal.specs.Book.{limits_bytes, limits_of, magic, spelled}
+use Rattle.ov_journal.specs.Standing.{limits_in, limits_read}
+use Rattle.ov_journal.specs.Runs.{length_in, body_in, Run, past_gate, run_after}
 use Rattle.ov_journal.specs.Heads.{BeginsRecord}
 use Rattle.ov_journal.specs.Steps.{is_step}
 use Rattle.ov_journal.proofs.Reading.{Fits, fits, fits_is, length-body_in, run_after-drop}
@@ -21,19 +23,50 @@ part_fits l fits n k i = elim (cases_lt i k) [
 ]
 
 -- a header, part by part
-pub header_whole : (front : List ℕ) (h : Header) → length front ≡ 78 → ((i : ℕ) → get_or front i 0 < 256) → get_or front 0 0 ≡ 1 → take 8 (drop 1 front) ≡ magic h.format → get_or front 9 0 ≡ mode_byte h.mode
-    → h.first ≡ from_be_bytes w32 (take 4 (drop 10 front)) → h.base_check ≡ take 32 (drop 4 (drop 10 front)) → h.surface_check ≡ drop 32 (drop 4 (drop 10 front)) → front ≡ spelled h
-header_whole front h long fits gate is_magic mode first base surface =
+pub header_whole : (front : List ℕ) (h : Header) (n : ℕ) → 78 ≤ length front → ((i : ℕ) → get_or front i 0 < 256) → get_or front 0 0 ≡ 1 → take 8 (drop 1 front) ≡ magic h.format → get_or front 9 0 ≡ mode_byte h.mode
+    → h.first ≡ from_be_bytes w32 (take 4 (drop 10 front)) → limits_of (h.format == 3) h.limits ≡ take n (drop 4 (drop 10 front))
+    → h.base_check ≡ take 32 (drop n (drop 4 (drop 10 front))) → h.surface_check ≡ drop 32 (drop n (drop 4 (drop 10 front))) → front ≡ spelled h
+header_whole front h n long fits gate is_magic mode first limits base surface =
     let rest = drop 10 front in
+    let own = limits_of (h.format == 3) h.limits in
     let field : to_be_bytes w32 h.first ≡ take 4 rest =
     be_bytes_4 (take 4 rest) h.first (omega (arith, long, length-take 4 rest, length-drop 10 front)) (part_fits front fits 10 4) first in
-    let tail : rest ≡ to_be_bytes w32 h.first ++ (h.base_check ++ h.surface_check) =
-    sym (take-append-drop 4 rest) ∙ (λ i. sym field i ++ sym (take-append-drop 32 (drop 4 rest)) i) ∙ (λ i. to_be_bytes w32 h.first ++ (sym base i ++ sym surface i)) in
-    let behind : drop 9 front ≡ mode_byte h.mode ∷ (to_be_bytes w32 h.first ++ (h.base_check ++ h.surface_check)) =
+    let checks : drop n (drop 4 rest) ≡ h.base_check ++ h.surface_check =
+    sym (take-append-drop 32 (drop n (drop 4 rest))) ∙ (λ i. sym base i ++ sym surface i) in
+    let after : drop 4 rest ≡ own ++ (h.base_check ++ h.surface_check) =
+    sym (take-append-drop n (drop 4 rest)) ∙ (λ i. sym limits i ++ checks i) in
+    let tail : rest ≡ to_be_bytes w32 h.first ++ (own ++ (h.base_check ++ h.surface_check)) =
+    sym (take-append-drop 4 rest) ∙ (λ i. sym field i ++ after i) in
+    let behind : drop 9 front ≡ mode_byte h.mode ∷ (to_be_bytes w32 h.first ++ (own ++ (h.base_check ++ h.surface_check))) =
     drop_more front 9 0 (omega (arith, long)) ∙ (λ i. mode i ∷ tail i) in
-    let more : drop 1 front ≡ magic h.format ++ (mode_byte h.mode ∷ (to_be_bytes w32 h.first ++ (h.base_check ++ h.surface_check))) =
+    let more : drop 1 front ≡ magic h.format ++ (mode_byte h.mode ∷ (to_be_bytes w32 h.first ++ (own ++ (h.base_check ++ h.surface_check)))) =
     sym (take-append-drop 8 (drop 1 front)) ∙ (λ i. is_magic i ++ drop-drop 8 1 front i) ∙ ap (λ (l : List ℕ). magic h.format ++ l) behind in
     drop_more front 0 0 (omega (arith, long)) ∙ (λ i. gate i ∷ more i)
+    ∙ ap (λ (l : List ℕ). 1 ∷ (magic h.format ++ (mode_byte h.mode ∷ (to_be_bytes w32 h.first ++ l)))) (sym (append_assoc own h.base_check h.surface_check))
+
+-- a header is never shorter than one of the second format
+pub least_long : (third : Bool) (n : ℕ) → n ≡ cond third 94 78 → 78 ≤ n
+least_long true n is = omega (arith, is)
+least_long false n is = omega (arith, is)
+
+-- limits that are read from 16 bytes have these
+pub limits_bytes_again : (bytes : List ℕ) → length bytes ≡ 16 → ((i : ℕ) → get_or bytes i 0 < 256) → limits_bytes (limits_read bytes) ≡ bytes
+limits_bytes_again bytes long small =
+    let rest = drop 8 bytes in
+    let one : to_be_bytes w64 (from_be_bytes w64 (take 8 bytes)) ≡ take 8 bytes =
+    be_bytes_8 (take 8 bytes) (from_be_bytes w64 (take 8 bytes)) (omega (arith, long, length-take 8 bytes)) (part_fits bytes small 0 8) refl in
+    let two : to_be_bytes w32 (from_be_bytes w32 (take 4 rest)) ≡ take 4 rest =
+    be_bytes_4 (take 4 rest) (from_be_bytes w32 (take 4 rest)) (omega (arith, long, length-take 4 rest, length-drop 8 bytes)) (part_fits bytes small 8 4) refl in
+    let rest_fits : (i : ℕ) → get_or (drop 4 rest) i 0 < 256 = λ i. subst (λ (b : ℕ). b < 256) (sym (get_or-drop 4 rest i 0 ∙ get_or-drop 8 bytes (4 + i) 0)) (small (8 + (4 + i))) in
+    let three : to_be_bytes w32 (from_be_bytes w32 (drop 4 rest)) ≡ drop 4 rest =
+    be_bytes_4 (drop 4 rest) (from_be_bytes w32 (drop 4 rest)) (omega (arith, long, length-drop 4 rest, length-drop 8 bytes)) rest_fits refl in
+    (λ k. one k ++ two k ++ three k) ∙ append_assoc (take 8 bytes) (take 4 rest) (drop 4 rest)
+    ∙ ap (λ (l : List ℕ). take 8 bytes ++ l) (take-append-drop 4 rest) ∙ take-append-drop 8 bytes
+
+-- the limits that are read behind the first epoch
+pub limits_at : (third : Bool) (bytes front : List ℕ) → (third ≡ true → bytes ≡ take 16 (drop 14 front)) → cond third (limits_read bytes) usual ≡ cond third (limits_in front) usual
+limits_at true bytes front is = ap limits_read (is refl)
+limits_at false bytes front is = refl
 
 -- a record, gate and length
 begins : (bytes : List ℕ) (count : ℕ) → get_or bytes 0 0 ≡ 1 → count ≡ length_in (drop 1 bytes) → 1 ≤ count → count ≤ MAX_RECORD_BYTES → count + 5 ≤ length bytes - 1 → BeginsRecord count bytes

@@ -1,14 +1,16 @@
 pub mod Appending
 pub mod Beginning
-pub mod Clearing
 pub mod Ends
 pub mod Headers
 pub mod Heading
 pub mod Logs
+pub mod Opening
+pub mod Putting
 pub mod Reading
 pub mod Records
 pub mod Runs
 pub mod Says
 pub mod Scanning
+pub mod Starts
 pub mod Stepping
 pub mod Steps

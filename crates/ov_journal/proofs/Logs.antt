@@ -1,20 +1,21 @@
 -- A journal and the records that it stands for.
-use Rattle.std.proofs.Common.{◌≡◌, inl, inr, ℕ, ◌+◌, ◌≤◌, List, [], ◌∷◌, ◌++◌, length, take, Bool, true, false, cond, leb, Option, Some, None, refl, sym, ◌∙◌, ap, subst, arith, length-append}
+use Rattle.std.proofs.Common.{◌≡◌, inl, inr, ℕ, ◌+◌, ◌≤◌, List, [], ◌∷◌, ◌++◌, length, Bool, true, false, cond, leb, Option, Some, None, refl, sym, ◌∙◌, ap, subst, arith, length-append}
 use Rattle.std.specs.List.{remove}
 use Rattle.std.proofs.lemmas.Bool.{cases_Bool, le-leb}
 use Rattle.std.proofs.lemmas.Bool.Decides.{leb_tells}
 use Rattle.std.proofs.lemmas.List.{append-nil, get_or_push, get_or_append_left}
 use Rattle.ov_disk.specs.Disk.{Image, OnlyBook}
 use Rattle.ov_disk.specs.Tells.{DiskTells}
-use Rattle.ov_journal.specs.Book.{Records, Contents, contents_of, is_due, is_first, place_if, with_body}
+use Rattle.ov_journal.specs.Book.{Records, Contents, contents_of, head_size, is_due, is_first, place_if, run_of, with_body}
 use Rattle.ov_journal.specs.Frames.{EndsAt}
 use Rattle.ov_journal.specs.Log.{Log, latest_gate, AreInReach, HasSameRecords, IsLogOf, IsLogOfFirst, appended, made, next_gate, IsKept}
 use Rattle.ov_journal.specs.Making.{IsStepIn, awaits, old_of, shown}
-use Rattle.ov_journal.specs.Runs.{run_after, gates_from, end_from}
+use Rattle.ov_journal.specs.Runs.{gates_from, end_from}
 use Rattle.ov_journal.specs.Steps.{gate_behind, gates_of, step_size}
 use Rattle.ov_journal.specs.declared.step.Step.{Step}
 use Rattle.ov_journal.specs.declared.step.Step.TheVariants.{Never, Due, Made}
 use Rattle.ov_journal.proofs.Says.{is_second, is_stepless, is_stepped, cases_of, low_of, records_bad, bad_place}
+use Rattle.ov_journal.proofs.Starts.{same_start}
 use Rattle.ov_journal.proofs.Steps.{gates_of-push, gate_behind-push, gates_made, end_made, gates_all_old, length-gates, IsLow}
 
 -- ---- what a journal made of its step record
@@ -27,55 +28,55 @@ made_settled log due = ap (λ (d : Bool). cond d None log.step) due
 
 -- ---- the journal of what was found
 
-log_with : (log : Log) (book : List ℕ) (r : Records) → (contents_of book).records ≡ r → log.offsets ≡ gates_of log.step r.bodies → log.end ≡ gate_behind (made log) r.bodies
+log_with : (log : Log) (book : List ℕ) (r : Records) → (contents_of book).records ≡ r → log.offsets ≡ gates_of (head_size book) log.step r.bodies → log.end ≡ gate_behind (head_size book) (made log) r.bodies
     → place_if log.bad log.end ≡ r.bad → log.step ≡ r.step → log.due ≡ is_due book → IsLogOf log book
 log_with log book r is offsets end bad step due = record {
-  offsets = offsets ∙ ap (λ (r : Records). gates_of log.step r.bodies) (sym is);
-  end = end ∙ ap (λ (r : Records). gate_behind (made log) r.bodies) (sym is);
+  offsets = offsets ∙ ap (λ (r : Records). gates_of (head_size book) log.step r.bodies) (sym is);
+  end = end ∙ ap (λ (r : Records). gate_behind (head_size book) (made log) r.bodies) (sym is);
   bad = bad ∙ ap (λ (r : Records). r.bad) (sym is);
   step = step ∙ ap (λ (r : Records). r.step) (sym is);
   due = due;
 }
 
 -- a journal whose gates and end are those of a Book's records, by what is known of the step record
-pub log_of : (log : Log) (book : List ℕ) (step : Step) → IsStepIn step (is_first (take 78 book)) (run_after 78 book).bodies
-    → log.offsets ≡ shown step (gates_from 78 (run_after 78 book).bodies) → log.end ≡ end_from 78 (run_after 78 book).bodies
-    → log.bad ≡ (run_after 78 book).bad → log.step ≡ old_of step (length log.offsets) → log.due ≡ awaits step → IsLogOf log book
+pub log_of : (log : Log) (book : List ℕ) (step : Step) → IsStepIn step (is_first book) (run_of book).bodies
+    → log.offsets ≡ shown step (gates_from (head_size book) (run_of book).bodies) → log.end ≡ end_from (head_size book) (run_of book).bodies
+    → log.bad ≡ (run_of book).bad → log.step ≡ old_of step (length log.offsets) → log.due ≡ awaits step → IsLogOf log book
 log_of log book Never first offsets end bad step due =
-    let run = run_after 78 book in
+    let run = run_of book in
     let s = is_second book first in
     let none : made log ≡ None = made_settled log due ∙ step in
-    log_with log book _ s.records (offsets ∙ ap (λ (o : Option ℕ). gates_of o run.bodies) (sym step)) (end ∙ ap (λ (o : Option ℕ). gate_behind o run.bodies) (sym none))
+    log_with log book _ s.records (offsets ∙ ap (λ (o : Option ℕ). gates_of (head_size book) o run.bodies) (sym step)) (end ∙ ap (λ (o : Option ℕ). gate_behind (head_size book) o run.bodies) (sym none))
     (λ k. place_if (bad k) (end k)) step (due ∙ sym s.due)
 log_of log book Due first offsets end bad step due =
-    let run = run_after 78 book in
+    let run = run_of book in
     let s = is_stepless book first.0 first.1 in
-    let many : length log.offsets ≡ length run.bodies = ap length offsets ∙ length-gates 78 run.bodies in
+    let many : length log.offsets ≡ length run.bodies = ap length offsets ∙ length-gates (head_size book) run.bodies in
     let old : log.step ≡ Some (length run.bodies) = step ∙ ap (λ (n : ℕ). Some n) many in
-    let gates = offsets ∙ sym (gates_all_old run.bodies (length run.bodies) (omega arith)) ∙ ap (λ (o : Option ℕ). gates_of o run.bodies) (sym old) in
-    log_with log book _ s.records gates (end ∙ ap (λ (o : Option ℕ). gate_behind o run.bodies) (sym (made_due log due)))
+    let gates = offsets ∙ sym (gates_all_old (head_size book) run.bodies (length run.bodies) (omega arith)) ∙ ap (λ (o : Option ℕ). gates_of (head_size book) o run.bodies) (sym old) in
+    log_with log book _ s.records gates (end ∙ ap (λ (o : Option ℕ). gate_behind (head_size book) o run.bodies) (sym (made_due log due)))
     (λ k. place_if (bad k) (end k)) old (due ∙ sym s.due)
 log_of log book (Made old) first offsets end bad step due =
-    let run = run_after 78 book in
+    let run = run_of book in
     let s = is_stepped book old first.0 first.1 first.2 in
     let one : made log ≡ Some old = made_settled log due ∙ step in
-    let gates = offsets ∙ gates_made run.bodies old s.split ∙ ap (λ (o : Option ℕ). gates_of o (remove run.bodies old)) (sym step) in
-    let last = end ∙ end_made run.bodies old s.split ∙ ap (λ (o : Option ℕ). gate_behind o (remove run.bodies old)) (sym one) in
+    let gates = offsets ∙ gates_made (head_size book) run.bodies old s.split ∙ ap (λ (o : Option ℕ). gates_of (head_size book) o (remove run.bodies old)) (sym step) in
+    let last = end ∙ end_made (head_size book) run.bodies old s.split ∙ ap (λ (o : Option ℕ). gate_behind (head_size book) o (remove run.bodies old)) (sym one) in
     log_with log book _ s.records gates last (λ k. place_if (bad k) (end k)) step (due ∙ sym s.due)
 
 -- ---- what a journal says of its Book
 
 module _ (log : Log) (book : List ℕ) (is : IsLogOf log book) where
   -- it ends where the records as they stand do
-  pub end_stands : log.end ≡ end_from 78 (run_after 78 book).bodies
+  pub end_stands : log.end ≡ end_from (head_size book) (run_of book).bodies
   end_stands = elim (cases_of book) [
     | inl s ↦
         let none : made log ≡ None = made_settled log (is.due ∙ s.due) ∙ is.step ∙ ap (λ (r : Records). r.step) s.records in
-        is.end ∙ (λ k. gate_behind (none k) (s.records k).bodies)
-    | inr (inl s) ↦ is.end ∙ (λ k. gate_behind (made_due log (is.due ∙ s.due) k) (s.records k).bodies)
+        is.end ∙ (λ k. gate_behind (head_size book) (none k) (s.records k).bodies)
+    | inr (inl s) ↦ is.end ∙ (λ k. gate_behind (head_size book) (made_due log (is.due ∙ s.due) k) (s.records k).bodies)
     | inr (inr s) ↦
         let one : made log ≡ Some s.old = made_settled log (is.due ∙ s.due) ∙ is.step ∙ ap (λ (r : Records). r.step) s.records in
-        is.end ∙ (λ k. gate_behind (one k) (s.records k).bodies) ∙ sym (end_made (run_after 78 book).bodies s.old s.split)
+        is.end ∙ (λ k. gate_behind (head_size book) (one k) (s.records k).bodies) ∙ sym (end_made (head_size book) (run_of book).bodies s.old s.split)
   ]
 
   -- where the step record is due, all records come before it
@@ -87,18 +88,18 @@ module _ (log : Log) (book : List ℕ) (is : IsLogOf log book) where
   ]
 
   -- where the next record's gate is
-  pub next_is : next_gate log ≡ gate_behind log.step (contents_of book).records.bodies
+  pub next_is : next_gate log ≡ gate_behind (head_size book) log.step (contents_of book).records.bodies
   next_is =
       let bodies = (contents_of book).records.bodies in
       elim (cases_Bool log.due) [
         | inl due ↦
-            let end : log.end ≡ end_from 78 bodies = is.end ∙ ap (λ (o : Option ℕ). gate_behind o bodies) (made_due log due) in
+            let end : log.end ≡ end_from (head_size book) bodies = is.end ∙ ap (λ (o : Option ℕ). gate_behind (head_size book) o bodies) (made_due log due) in
             let all : leb (length bodies) (length bodies) ≡ true = le-leb (length bodies) (length bodies) (omega arith) in
-            (λ k. end k + step_size (due k)) ∙ ap (λ (b : Bool). end_from 78 bodies + step_size b) (sym all)
-            ∙ ap (λ (o : Option ℕ). gate_behind o bodies) (sym (all_old due))
+            (λ k. end k + step_size (due k)) ∙ ap (λ (b : Bool). end_from (head_size book) bodies + step_size b) (sym all)
+            ∙ ap (λ (o : Option ℕ). gate_behind (head_size book) o bodies) (sym (all_old due))
         | inr settled ↦
             let none : log.end + 0 ≡ log.end = omega arith in
-            ap (λ (b : Bool). log.end + step_size b) settled ∙ none ∙ is.end ∙ ap (λ (o : Option ℕ). gate_behind o bodies) (made_settled log settled)
+            ap (λ (b : Bool). log.end + step_size b) settled ∙ none ∙ is.end ∙ ap (λ (o : Option ℕ). gate_behind (head_size book) o bodies) (made_settled log settled)
       ]
 
 no_place : (bad : Bool) (gate : ℕ) → None ≡ place_if bad gate → bad ≡ false
@@ -107,9 +108,9 @@ no_place true gate is = absurd (cc is)
 
 pub ends_of : (log : Log) (book : List ℕ) → IsLogOf log book → log.bad ≡ false → EndsAt log.end book
 ends_of log book is whole =
-    let run = run_after 78 book in
-    let none : None ≡ bad_place run = ap (λ (b : Bool). place_if b log.end) (sym whole) ∙ is.bad ∙ records_bad (is_first (take 78 book)) run in
-    record { whole = no_place run.bad (end_from 78 run.bodies) none; end_is = end_stands log book is }
+    let run = run_of book in
+    let none : None ≡ bad_place (head_size book) run = ap (λ (b : Bool). place_if b log.end) (sym whole) ∙ is.bad ∙ records_bad (is_first book) (head_size book) run in
+    record { whole = no_place run.bad (end_from (head_size book) run.bodies) none; end_is = end_stands log book is }
 
 -- ---- one record more
 
@@ -120,9 +121,10 @@ log_appended log book more body is whole same settled =
     let low = subst (λ (o : Option ℕ). IsLow o bodies) (sym is.step) (low_of book) in
     let next = next_is log book is in
     let none : None ≡ (contents_of book).records.bad = ap (λ (b : Bool). place_if b log.end) (sym whole) ∙ is.bad in
+    let start = same_start more book (ap (λ (c : Contents). c.head) same) in
     log_with (appended (length body) log) more _ (ap (λ (c : Contents). c.records) same)
-    ((λ k. is.offsets k ++ next k ∷ []) ∙ sym (gates_of-push log.step bodies body low))
-    (ap (λ (n : ℕ). n + 5 + length body) next ∙ sym (gate_behind-push log.step bodies body low))
+    ((λ k. is.offsets k ++ next k ∷ []) ∙ sym (gates_of-push (head_size book) log.step bodies body low) ∙ ap (λ (n : ℕ). gates_of n log.step (bodies ++ body ∷ [])) (sym start))
+    (ap (λ (n : ℕ). n + 5 + length body) next ∙ sym (gate_behind-push (head_size book) log.step bodies body low) ∙ ap (λ (n : ℕ). gate_behind n log.step (bodies ++ body ∷ [])) (sym start))
     (ap (λ (b : Bool). place_if b (next_gate log + 5 + length body)) whole ∙ none)
     is.step (sym settled)
 
@@ -151,14 +153,14 @@ all_first log book is = record {
 }
 
 -- the journal of a Book has the first records of one that says the same, or has other bodies behind these
-pub still_first : (log : Log) (book more : List ℕ) (rest : List (List ℕ)) → IsLogOf log book → (contents_of more).records.bodies ≡ (contents_of book).records.bodies ++ rest
+pub still_first : (log : Log) (book more : List ℕ) (rest : List (List ℕ)) → IsLogOf log book → head_size more ≡ head_size book → (contents_of more).records.bodies ≡ (contents_of book).records.bodies ++ rest
     → (contents_of more).records.step ≡ (contents_of book).records.step → IsLogOfFirst log more
-still_first log book more rest is split step = record {
+still_first log book more rest is start split step = record {
   front = (contents_of book).records.bodies;
   rest = rest;
   split = split;
-  offsets = is.offsets;
-  end = is.end;
+  offsets = is.offsets ∙ ap (λ (n : ℕ). gates_of n log.step (contents_of book).records.bodies) (sym start);
+  end = is.end ∙ ap (λ (n : ℕ). gate_behind n (made log) (contents_of book).records.bodies) (sym start);
   step = is.step ∙ sym step;
   all_old = all_old log book is;
 }
@@ -171,8 +173,8 @@ first_same old new book same is =
       front = is.front;
       rest = is.rest;
       split = is.split;
-      offsets = same.offsets ∙ is.offsets ∙ ap (λ (o : Option ℕ). gates_of o is.front) (sym same.step);
-      end = same.end ∙ is.end ∙ ap (λ (o : Option ℕ). gate_behind o is.front) (sym made_same);
+      offsets = same.offsets ∙ is.offsets ∙ ap (λ (o : Option ℕ). gates_of (head_size book) o is.front) (sym same.step);
+      end = same.end ∙ is.end ∙ ap (λ (o : Option ℕ). gate_behind (head_size book) o is.front) (sym made_same);
       step = same.step ∙ is.step;
       all_old = λ due. same.step ∙ is.all_old (sym same.due ∙ due);
     }

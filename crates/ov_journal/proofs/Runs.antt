@@ -1,10 +1,10 @@
 -- One append after another.
 use Rattle.std.proofs.Common.{◌≡◌, inl, inr, ℕ, zero, suc, ◌+◌, ◌<◌, List, [], ◌∷◌, ◌++◌, length, take, get_or, Result, Ok, Err, sym, ◌∙◌, ap, arith, append_assoc}
-use Rattle.std.proofs.lemmas.List.{take_more, append-nil}
-use Rattle.ov_disk.specs.Disk.{Image, OnlyBook}
+use Rattle.std.proofs.lemmas.List.{take_more}
+use Rattle.ov_disk.specs.Disk.{Image}
 use Rattle.ov_disk.specs.Moments.{LeavesOnly}
 use Rattle.ov_disk.specs.Tells.{DiskTells}
-use Rattle.ov_disk.proofs.Runs.{started, then_on}
+use Rattle.ov_disk.proofs.Runs.{then_on}
 use Rattle.ov_journal.specs.Book.{Contents, contents_of, with_body, with_bodies}
 use Rattle.ov_journal.specs.Finding.{UnlessDisk}
 use Rattle.ov_journal.specs.declared.fault.CheckFault.{CheckFault}

@@ -1,10 +1,10 @@
 -- The search for the records of a Book, record by record.
-use Rattle.std.proofs.Common.{◌≡◌, ℕ, ◌+◌, List, [], ◌∷◌, ◌++◌, length, take, drop, Bool, true, false, cond, refl, sym, ◌∙◌, ap, subst, arith, append_assoc, length-append}
+use Rattle.std.proofs.Common.{◌≡◌, ℕ, ◌+◌, List, [], ◌∷◌, ◌++◌, length, drop, Bool, true, false, cond, refl, sym, ◌∙◌, ap, subst, arith, append_assoc, length-append}
 use Rattle.std.specs.List.{remove}
 use Rattle.std.proofs.lemmas.Bool.{eq-eqb}
 use Rattle.std.proofs.lemmas.List.{append-nil, drop-drop}
 use Rattle.std.proofs.lemmas.List.Edits.{remove-append_left}
-use Rattle.ov_journal.specs.Book.{is_first}
+use Rattle.ov_journal.specs.Book.{head_size, is_first, run_of}
 use Rattle.ov_journal.specs.Heads.{BeginsRecord, ReadTo}
 use Rattle.ov_journal.specs.Log.{Log, IsLogOf}
 use Rattle.ov_journal.specs.Making.{IsStepIn, awaits, made_behind, old_of, shown}
@@ -18,10 +18,10 @@ use Rattle.ov_journal.proofs.Steps.{gates_push, end_push, length-gates, remove_l
 
 -- the records that were found are those of the Book
 pub record IsFound (end : ℕ) (offsets : List ℕ) (bad : Bool) (step : Step) (book : List ℕ) : Type 0 where
-  pub step_is : IsStepIn step (is_first (take 78 book)) (run_after 78 book).bodies
-  pub offsets_are : offsets ≡ shown step (gates_from 78 (run_after 78 book).bodies)
-  pub end_is : end ≡ end_from 78 (run_after 78 book).bodies
-  pub bad_is : bad ≡ (run_after 78 book).bad
+  pub step_is : IsStepIn step (is_first book) (run_of book).bodies
+  pub offsets_are : offsets ≡ shown step (gates_from (head_size book) (run_of book).bodies)
+  pub end_is : end ≡ end_from (head_size book) (run_of book).bodies
+  pub bad_is : bad ≡ (run_of book).bad
 
 -- while the search goes on, and when it is over
 abbrev pub IsScanned : Bool → Bool → ℕ → List ℕ → Step → List ℕ → Type 0
@@ -39,24 +39,24 @@ shown_none Never first is = refl
 shown_none Due first is = refl
 shown_none (Made old) first is = absurd (omega (arith, is.2))
 
-pub read_none : (book : List ℕ) (step : Step) (first : Bool) → first ≡ is_first (take 78 book) → IsStepIn step first [] → ReadTo 78 [] step book
+pub read_none : (book : List ℕ) (step : Step) (first : Bool) → first ≡ is_first book → IsStepIn step first [] → ReadTo (head_size book) [] step book
 read_none book step first same is = record {
   so_far = [];
   step_is = subst (λ (b : Bool). IsStepIn step b []) same is;
   offsets_are = shown_none step first is;
   end_is = refl;
-  bodies = ap (λ (r : Run). r.bodies) (run_after-drop 78 book);
-  bad = ap (λ (r : Run). r.bad) (run_after-drop 78 book);
+  bodies = ap (λ (r : Run). r.bodies) (run_after-drop (head_size book) book);
+  bad = ap (λ (r : Run). r.bad) (run_after-drop (head_size book) book);
 }
 
 -- the gate that was reached ends the records
 pub found : (end : ℕ) (offsets : List ℕ) (bad : Bool) (step : Step) (book : List ℕ) → ReadTo end offsets step book → run_after 0 (drop end book) ≡ record { bodies = []; bad = bad } → IsFound end offsets bad step book
 found end offsets bad step book r is =
-    let all : (run_after 78 book).bodies ≡ r.so_far = r.bodies ∙ ap (λ (x : Run). r.so_far ++ x.bodies) is ∙ append-nil r.so_far in
+    let all : (run_of book).bodies ≡ r.so_far = r.bodies ∙ ap (λ (x : Run). r.so_far ++ x.bodies) is ∙ append-nil r.so_far in
     record {
-      step_is = subst (IsStepIn step (is_first (take 78 book))) (sym all) r.step_is;
-      offsets_are = r.offsets_are ∙ ap (λ (l : List (List ℕ)). shown step (gates_from 78 l)) (sym all);
-      end_is = r.end_is ∙ ap (end_from 78) (sym all);
+      step_is = subst (IsStepIn step (is_first book)) (sym all) r.step_is;
+      offsets_are = r.offsets_are ∙ ap (λ (l : List (List ℕ)). shown step (gates_from (head_size book) l)) (sym all);
+      end_is = r.end_is ∙ ap (end_from (head_size book)) (sym all);
       bad_is = sym (r.bad ∙ ap (λ (x : Run). x.bad) is);
     }
 
@@ -102,14 +102,14 @@ shown_due (Made old) gates due = absurd (cc due)
 
 -- the records up to the next gate
 record ReadOn (end count : ℕ) (book : List ℕ) (so_far : List (List ℕ)) (body : List ℕ) : Type 0 where
-  end_is : end + (5 + count) ≡ end_from 78 (so_far ++ body ∷ [])
-  bodies : (run_after 78 book).bodies ≡ (so_far ++ body ∷ []) ++ (run_after 0 (drop (end + (5 + count)) book)).bodies
-  bad : (run_after 78 book).bad ≡ (run_after 0 (drop (end + (5 + count)) book)).bad
+  end_is : end + (5 + count) ≡ end_from (head_size book) (so_far ++ body ∷ [])
+  bodies : (run_of book).bodies ≡ (so_far ++ body ∷ []) ++ (run_after 0 (drop (end + (5 + count)) book)).bodies
+  bad : (run_of book).bad ≡ (run_after 0 (drop (end + (5 + count)) book)).bad
 
 read_on : (end count : ℕ) (offsets : List ℕ) (step : Step) (book : List ℕ) → (r : ReadTo end offsets step book) → (b : BeginsRecord count (drop end book)) → ReadOn end count book r.so_far b.body
 read_on end count offsets step book r b =
     let behind : drop (5 + count) (drop end book) ≡ drop (end + (5 + count)) book = drop-drop (5 + count) end book in
-    let next : end_from 78 (r.so_far ++ b.body ∷ []) ≡ end + (5 + count) = omega (arith, end_push 78 r.so_far b.body, r.end_is, b.long) in
+    let next : end_from (head_size book) (r.so_far ++ b.body ∷ []) ≡ end + (5 + count) = omega (arith, end_push (head_size book) r.so_far b.body, r.end_is, b.long) in
     record {
       end_is = sym next;
       bodies = r.bodies ∙ ap (λ (l : List (List ℕ)). r.so_far ++ l) b.bodies ∙ ap (λ (l : List ℕ). r.so_far ++ (b.body ∷ (run_after 0 l).bodies)) behind
@@ -120,13 +120,13 @@ read_on end count offsets step book r b =
 pub read_more : (end count : ℕ) (offsets : List ℕ) (step : Step) (book : List ℕ) → ReadTo end offsets step book → (b : BeginsRecord count (drop end book)) → (awaits step ≡ true → is_step b.body ≡ false)
     → ReadTo (end + (5 + count)) (offsets ++ end ∷ []) step book
 read_more end count offsets step book r b none =
-    let first = is_first (take 78 book) in
+    let first = is_first book in
     let on = read_on end count offsets step book r b in
     record {
       so_far = r.so_far ++ b.body ∷ [];
       step_is = step_more step first r.so_far b.body r.step_is none;
-      offsets_are = (λ i. r.offsets_are i ++ r.end_is i ∷ []) ∙ sym (shown_more step first r.so_far (gates_from 78 r.so_far) (end_from 78 r.so_far) (length-gates 78 r.so_far) r.step_is)
-          ∙ ap (shown step) (sym (gates_push 78 r.so_far b.body));
+      offsets_are = (λ i. r.offsets_are i ++ r.end_is i ∷ []) ∙ sym (shown_more step first r.so_far (gates_from (head_size book) r.so_far) (end_from (head_size book) r.so_far) (length-gates (head_size book) r.so_far) r.step_is)
+          ∙ ap (shown step) (sym (gates_push (head_size book) r.so_far b.body));
       end_is = on.end_is;
       bodies = on.bodies;
       bad = on.bad;
@@ -135,17 +135,17 @@ read_more end count offsets step book r b none =
 pub read_step : (end : ℕ) (offsets : List ℕ) (step made : Step) (book : List ℕ) → ReadTo end offsets step book → (b : BeginsRecord 1 (drop end book)) → awaits step ≡ true → is_step b.body ≡ true
     → made ≡ Made (length offsets) → ReadTo (end + 6) offsets made book
 read_step end offsets step made book r b due is_one same =
-    let gates = gates_from 78 r.so_far in
+    let gates = gates_from (head_size book) r.so_far in
     let on = read_on end 1 offsets step book r b in
     let all : offsets ≡ gates = r.offsets_are ∙ shown_due step gates due in
-    let many : length offsets ≡ length r.so_far = ap length all ∙ length-gates 78 r.so_far in
+    let many : length offsets ≡ length r.so_far = ap length all ∙ length-gates (head_size book) r.so_far in
     let here : made ≡ Made (length r.so_far) = same ∙ ap (λ (n : ℕ). Made n) many in
     record {
       so_far = r.so_far ++ b.body ∷ [];
-      step_is = step_read step made (is_first (take 78 book)) r.so_far b.body r.step_is due is_one here;
-      offsets_are = all ∙ sym (remove_last gates (end_from 78 r.so_far) (length r.so_far) (length-gates 78 r.so_far))
-          ∙ ap (λ (l : List ℕ). remove l (length r.so_far)) (sym (gates_push 78 r.so_far b.body))
-          ∙ ap (λ (s : Step). shown s (gates_from 78 (r.so_far ++ b.body ∷ []))) (sym here);
+      step_is = step_read step made (is_first book) r.so_far b.body r.step_is due is_one here;
+      offsets_are = all ∙ sym (remove_last gates (end_from (head_size book) r.so_far) (length r.so_far) (length-gates (head_size book) r.so_far))
+          ∙ ap (λ (l : List ℕ). remove l (length r.so_far)) (sym (gates_push (head_size book) r.so_far b.body))
+          ∙ ap (λ (s : Step). shown s (gates_from (head_size book) (r.so_far ++ b.body ∷ []))) (sym here);
       end_is = on.end_is;
       bodies = on.bodies;
       bad = on.bad;

@@ -68,8 +68,8 @@ module _ {D : Type 0} (tells : DiskTells D) where
     ready = λ i is.
         let kept = puts.kept i is in
         let ends = (stands i is).0 in
-        let last : end_from 78 (layout_of kept.now.book).run.bodies ≡ end_from 78 (layout_of i.book).run.bodies + 5 + 1 =
-        ap (λ (l : Layout). end_from 78 l.run.bodies) kept.book ∙ end_push 78 (layout_of i.book).run.bodies step_body in
+        let last : end_from (layout_of kept.now.book).start (layout_of kept.now.book).run.bodies ≡ end_from (layout_of i.book).start (layout_of i.book).run.bodies + 5 + 1 =
+        ap (λ (l : Layout). end_from l.start l.run.bodies) kept.book ∙ end_push (layout_of i.book).start (layout_of i.book).run.bodies step_body in
         record {
           now = kept.now;
           is_read = kept.is_read;

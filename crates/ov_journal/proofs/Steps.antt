@@ -125,84 +125,84 @@ gate_at place (body ∷ bodies) zero lt = refl
 gate_at place (body ∷ bodies) (suc i) lt = gate_at (place + 5 + length body) bodies i (omega (arith, lt))
 
 -- with no step record before the last of them the gates are as without
-pub gates_all_old : (bodies : List (List ℕ)) (old : ℕ) → length bodies ≤ old → gates_of (Some old) bodies ≡ gates_from 78 bodies
-gates_all_old bodies old le =
-    (λ k. take_all old (gates_from 78 bodies) (omega (arith, le, length-gates 78 bodies)) k ++ drop_all old (gates_from 84 bodies) (omega (arith, le, length-gates 84 bodies)) k)
-    ∙ append-nil (gates_from 78 bodies)
+pub gates_all_old : (start : ℕ) (bodies : List (List ℕ)) (old : ℕ) → length bodies ≤ old → gates_of start (Some old) bodies ≡ gates_from start bodies
+gates_all_old start bodies old le =
+    (λ k. take_all old (gates_from start bodies) (omega (arith, le, length-gates start bodies)) k ++ drop_all old (gates_from (start + 6) bodies) (omega (arith, le, length-gates (start + 6) bodies)) k)
+    ∙ append-nil (gates_from start bodies)
 
 -- the gates of all records but the step record
-pub gates_made : (bodies : List (List ℕ)) (old : ℕ) → IsSplit bodies old → remove (gates_from 78 bodies) old ≡ gates_of (Some old) (remove bodies old)
-gates_made bodies old s =
+pub gates_made : (start : ℕ) (bodies : List (List ℕ)) (old : ℕ) → IsSplit bodies old → remove (gates_from start bodies) old ≡ gates_of start (Some old) (remove bodies old)
+gates_made start bodies old s =
     let here : old - old ≡ 0 = omega arith in
-    let e78 = end_from 78 s.front in
-    let e84 = end_from 84 s.front in
-    let later : e78 + 5 + 1 ≡ e84 = omega (arith, end_from-size 78 s.front, end_from-size 84 s.front) in
-    let many78 : length (gates_from 78 s.front) ≡ old = length-gates 78 s.front ∙ s.long in
-    let many84 : length (gates_from 84 s.front) ≡ old = length-gates 84 s.front ∙ s.long in
-    let left : remove (gates_from 78 bodies) old ≡ gates_from 78 s.front ++ gates_from e84 s.rest =
-    ap (λ (l : List (List ℕ)). remove (gates_from 78 l) old) s.split
-    ∙ ap (λ (l : List ℕ). remove l old) (gates-append 78 s.front (step_body ∷ s.rest))
-    ∙ remove-append_right (gates_from 78 s.front) (gates_from e78 (step_body ∷ s.rest)) old old many78 (omega arith)
-    ∙ ap (λ (n : ℕ). gates_from 78 s.front ++ remove (gates_from e78 (step_body ∷ s.rest)) n) here
-    ∙ ap (λ (n : ℕ). gates_from 78 s.front ++ gates_from n s.rest) later in
-    let front : take old (gates_from 78 (s.front ++ s.rest)) ≡ gates_from 78 s.front =
-    ap (λ (l : List ℕ). take old l) (gates-append 78 s.front s.rest) ∙ take_at (gates_from 78 s.front) (gates_from e78 s.rest) old many78 in
-    let behind : drop old (gates_from 84 (s.front ++ s.rest)) ≡ gates_from e84 s.rest =
-    ap (λ (l : List ℕ). drop old l) (gates-append 84 s.front s.rest) ∙ drop_at (gates_from 84 s.front) (gates_from e84 s.rest) old many84 in
-    left ∙ (λ k. sym front k ++ sym behind k) ∙ ap (gates_of (Some old)) (sym s.without)
+    let e78 = end_from start s.front in
+    let e84 = end_from (start + 6) s.front in
+    let later : e78 + 5 + 1 ≡ e84 = omega (arith, end_from-size start s.front, end_from-size (start + 6) s.front) in
+    let many78 : length (gates_from start s.front) ≡ old = length-gates start s.front ∙ s.long in
+    let many84 : length (gates_from (start + 6) s.front) ≡ old = length-gates (start + 6) s.front ∙ s.long in
+    let left : remove (gates_from start bodies) old ≡ gates_from start s.front ++ gates_from e84 s.rest =
+    ap (λ (l : List (List ℕ)). remove (gates_from start l) old) s.split
+    ∙ ap (λ (l : List ℕ). remove l old) (gates-append start s.front (step_body ∷ s.rest))
+    ∙ remove-append_right (gates_from start s.front) (gates_from e78 (step_body ∷ s.rest)) old old many78 (omega arith)
+    ∙ ap (λ (n : ℕ). gates_from start s.front ++ remove (gates_from e78 (step_body ∷ s.rest)) n) here
+    ∙ ap (λ (n : ℕ). gates_from start s.front ++ gates_from n s.rest) later in
+    let front : take old (gates_from start (s.front ++ s.rest)) ≡ gates_from start s.front =
+    ap (λ (l : List ℕ). take old l) (gates-append start s.front s.rest) ∙ take_at (gates_from start s.front) (gates_from e78 s.rest) old many78 in
+    let behind : drop old (gates_from (start + 6) (s.front ++ s.rest)) ≡ gates_from e84 s.rest =
+    ap (λ (l : List ℕ). drop old l) (gates-append (start + 6) s.front s.rest) ∙ drop_at (gates_from (start + 6) s.front) (gates_from e84 s.rest) old many84 in
+    left ∙ (λ k. sym front k ++ sym behind k) ∙ ap (gates_of start (Some old)) (sym s.without)
 
 -- the gate behind all records, the step record among them
-pub end_made : (bodies : List (List ℕ)) (old : ℕ) → IsSplit bodies old → end_from 78 bodies ≡ gate_behind (Some old) (remove bodies old)
-end_made bodies old s =
-    let e78 = end_from 78 s.front in
+pub end_made : (start : ℕ) (bodies : List (List ℕ)) (old : ℕ) → IsSplit bodies old → end_from start bodies ≡ gate_behind start (Some old) (remove bodies old)
+end_made start bodies old s =
+    let e78 = end_from start s.front in
     let low : leb old (length (s.front ++ s.rest)) ≡ true = le-leb old (length (s.front ++ s.rest)) (omega (arith, s.long, length-append s.front s.rest)) in
-    let whole : end_from 78 bodies ≡ end_from (e78 + 5 + 1) s.rest = ap (end_from 78) s.split ∙ end-append 78 s.front (step_body ∷ s.rest) in
-    let without : end_from 78 (s.front ++ s.rest) ≡ end_from e78 s.rest = end-append 78 s.front s.rest in
-    let further : end_from 78 bodies ≡ end_from 78 (s.front ++ s.rest) + 6 =
+    let whole : end_from start bodies ≡ end_from (e78 + 5 + 1) s.rest = ap (end_from start) s.split ∙ end-append start s.front (step_body ∷ s.rest) in
+    let without : end_from start (s.front ++ s.rest) ≡ end_from e78 s.rest = end-append start s.front s.rest in
+    let further : end_from start bodies ≡ end_from start (s.front ++ s.rest) + 6 =
     omega (arith, whole, without, end_from-size (e78 + 5 + 1) s.rest, end_from-size e78 s.rest) in
-    further ∙ ap (λ (b : Bool). end_from 78 (s.front ++ s.rest) + step_size b) (sym low) ∙ ap (gate_behind (Some old)) (sym s.without)
+    further ∙ ap (λ (b : Bool). end_from start (s.front ++ s.rest) + step_size b) (sym low) ∙ ap (gate_behind start (Some old)) (sym s.without)
 
 -- ---- the gates of a store's bodies, one by one
 
-pub length-gates_of : (step : Option ℕ) (bodies : List (List ℕ)) → length (gates_of step bodies) ≡ length bodies
-length-gates_of None bodies = length-gates 78 bodies
-length-gates_of (Some old) bodies = elim (leb_tells (length bodies) old) [
-  | inl all ↦ ap length (gates_all_old bodies old all.1) ∙ length-gates 78 bodies
+pub length-gates_of : (start : ℕ) (step : Option ℕ) (bodies : List (List ℕ)) → length (gates_of start step bodies) ≡ length bodies
+length-gates_of start None bodies = length-gates start bodies
+length-gates_of start (Some old) bodies = elim (leb_tells (length bodies) old) [
+  | inl all ↦ ap length (gates_all_old start bodies old all.1) ∙ length-gates start bodies
   | inr some ↦ omega (
     arith,
     some.1,
-    length-append (take old (gates_from 78 bodies)) (drop old (gates_from 84 bodies)),
-    length-take-le old (gates_from 78 bodies) (omega (arith, some.1, length-gates 78 bodies)),
-    ap length (take-append-drop old (gates_from 84 bodies)),
-    length-append (take old (gates_from 84 bodies)) (drop old (gates_from 84 bodies)),
-    length-take-le old (gates_from 84 bodies) (omega (arith, some.1, length-gates 84 bodies)),
-    length-gates 84 bodies,
+    length-append (take old (gates_from start bodies)) (drop old (gates_from (start + 6) bodies)),
+    length-take-le old (gates_from start bodies) (omega (arith, some.1, length-gates start bodies)),
+    ap length (take-append-drop old (gates_from (start + 6) bodies)),
+    length-append (take old (gates_from (start + 6) bodies)) (drop old (gates_from (start + 6) bodies)),
+    length-take-le old (gates_from (start + 6) bodies) (omega (arith, some.1, length-gates (start + 6) bodies)),
+    length-gates (start + 6) bodies,
   )
 ]
 
-shifted : (bodies : List (List ℕ)) → end_from 84 bodies ≡ end_from 78 bodies + 6
-shifted bodies = omega (arith, end_from-size 84 bodies, end_from-size 78 bodies)
+shifted : (start : ℕ) (bodies : List (List ℕ)) → end_from (start + 6) bodies ≡ end_from start bodies + 6
+shifted start bodies = omega (arith, end_from-size (start + 6) bodies, end_from-size start bodies)
 
 -- each gate is behind the bodies before it
-pub gates_at : (step : Option ℕ) (bodies : List (List ℕ)) (i : ℕ) → i < length bodies → get_or (gates_of step bodies) i 0 ≡ gate_behind step (take i bodies)
-gates_at None bodies i lt = gate_at 78 bodies i lt
-gates_at (Some old) bodies i lt =
+pub gates_at : (start : ℕ) (step : Option ℕ) (bodies : List (List ℕ)) (i : ℕ) → i < length bodies → get_or (gates_of start step bodies) i 0 ≡ gate_behind start step (take i bodies)
+gates_at start None bodies i lt = gate_at start bodies i lt
+gates_at start (Some old) bodies i lt =
     let first : length (take i bodies) ≡ i = length-take-le i bodies (omega (arith, lt)) in
     let whole : leb old (length (take i bodies)) ≡ leb old i = ap (λ (n : ℕ). leb old n) first in
-    let front = take old (gates_from 78 bodies) in
-    let behind = drop old (gates_from 84 bodies) in
+    let front = take old (gates_from start bodies) in
+    let behind = drop old (gates_from (start + 6) bodies) in
     elim (leb_tells old i) [
       | inl past ↦
-          let many : length front ≡ old = length-take-le old (gates_from 78 bodies) (omega (arith, past.1, lt, length-gates 78 bodies)) in
+          let many : length front ≡ old = length-take-le old (gates_from start bodies) (omega (arith, past.1, lt, length-gates start bodies)) in
           let more : old + (i - old) ≡ i = omega (arith, past.1) in
-          get_or-append_right front behind old i 0 many past.1 ∙ get_or-drop old (gates_from 84 bodies) (i - old) 0
-          ∙ ap (λ (n : ℕ). get_or (gates_from 84 bodies) n 0) more ∙ gate_at 84 bodies i lt ∙ shifted (take i bodies)
-          ∙ ap (λ (b : Bool). end_from 78 (take i bodies) + step_size b) (sym (whole ∙ past.0))
+          get_or-append_right front behind old i 0 many past.1 ∙ get_or-drop old (gates_from (start + 6) bodies) (i - old) 0
+          ∙ ap (λ (n : ℕ). get_or (gates_from (start + 6) bodies) n 0) more ∙ gate_at (start + 6) bodies i lt ∙ shifted start (take i bodies)
+          ∙ ap (λ (b : Bool). end_from start (take i bodies) + step_size b) (sym (whole ∙ past.0))
       | inr low ↦
-          let inside : i < length front = omega (arith, low.1, lt, length-take old (gates_from 78 bodies), length-gates 78 bodies) in
-          let same : end_from 78 (take i bodies) ≡ end_from 78 (take i bodies) + step_size false = omega arith in
-          get_or_append_left front behind 0 i inside ∙ get_or-take old (gates_from 78 bodies) i 0 low.1 ∙ gate_at 78 bodies i lt ∙ same
-          ∙ ap (λ (b : Bool). end_from 78 (take i bodies) + step_size b) (sym (whole ∙ low.0))
+          let inside : i < length front = omega (arith, low.1, lt, length-take old (gates_from start bodies), length-gates start bodies) in
+          let same : end_from start (take i bodies) ≡ end_from start (take i bodies) + step_size false = omega arith in
+          get_or_append_left front behind 0 i inside ∙ get_or-take old (gates_from start bodies) i 0 low.1 ∙ gate_at start bodies i lt ∙ same
+          ∙ ap (λ (b : Bool). end_from start (take i bodies) + step_size b) (sym (whole ∙ low.0))
     ]
 
 -- no more bodies come before the step record than there are
@@ -210,29 +210,29 @@ abbrev pub IsLow : Option ℕ → List (List ℕ) → Type 0
 IsLow None bodies = Unit {0}
 IsLow (Some old) bodies = old ≤ length bodies
 
-pub gates_of-push : (step : Option ℕ) (bodies : List (List ℕ)) (body : List ℕ) → IsLow step bodies → gates_of step (bodies ++ body ∷ []) ≡ gates_of step bodies ++ gate_behind step bodies ∷ []
-gates_of-push None bodies body low = gates_push 78 bodies body
-gates_of-push (Some old) bodies body inside =
+pub gates_of-push : (start : ℕ) (step : Option ℕ) (bodies : List (List ℕ)) (body : List ℕ) → IsLow step bodies → gates_of start step (bodies ++ body ∷ []) ≡ gates_of start step bodies ++ gate_behind start step bodies ∷ []
+gates_of-push start None bodies body low = gates_push start bodies body
+gates_of-push start (Some old) bodies body inside =
     let low : old ≤ length bodies = inside in
-    let g78 = gates_from 78 bodies in
-    let g84 = gates_from 84 bodies in
-    let e84 = end_from 84 bodies in
-    let front : take old (gates_from 78 (bodies ++ body ∷ [])) ≡ take old g78 =
-    ap (λ (l : List ℕ). take old l) (gates_push 78 bodies body) ∙ take-append-le old g78 (end_from 78 bodies ∷ []) (omega (arith, low, length-gates 78 bodies)) in
-    let behind : drop old (gates_from 84 (bodies ++ body ∷ [])) ≡ drop old g84 ++ e84 ∷ [] =
-    ap (λ (l : List ℕ). drop old l) (gates_push 84 bodies body) ∙ drop-append-le old g84 (e84 ∷ []) (omega (arith, low, length-gates 84 bodies)) in
-    let next : e84 ≡ gate_behind (Some old) bodies = shifted bodies ∙ ap (λ (b : Bool). end_from 78 bodies + step_size b) (sym (le-leb old (length bodies) low)) in
-    (λ k. front k ++ behind k) ∙ sym (append_assoc (take old g78) (drop old g84) (e84 ∷ [])) ∙ ap (λ (n : ℕ). gates_of (Some old) bodies ++ n ∷ []) next
+    let g78 = gates_from start bodies in
+    let g84 = gates_from (start + 6) bodies in
+    let e84 = end_from (start + 6) bodies in
+    let front : take old (gates_from start (bodies ++ body ∷ [])) ≡ take old g78 =
+    ap (λ (l : List ℕ). take old l) (gates_push start bodies body) ∙ take-append-le old g78 (end_from start bodies ∷ []) (omega (arith, low, length-gates start bodies)) in
+    let behind : drop old (gates_from (start + 6) (bodies ++ body ∷ [])) ≡ drop old g84 ++ e84 ∷ [] =
+    ap (λ (l : List ℕ). drop old l) (gates_push (start + 6) bodies body) ∙ drop-append-le old g84 (e84 ∷ []) (omega (arith, low, length-gates (start + 6) bodies)) in
+    let next : e84 ≡ gate_behind start (Some old) bodies = shifted start bodies ∙ ap (λ (b : Bool). end_from start bodies + step_size b) (sym (le-leb old (length bodies) low)) in
+    (λ k. front k ++ behind k) ∙ sym (append_assoc (take old g78) (drop old g84) (e84 ∷ [])) ∙ ap (λ (n : ℕ). gates_of start (Some old) bodies ++ n ∷ []) next
 
-pub gate_behind-push : (step : Option ℕ) (bodies : List (List ℕ)) (body : List ℕ) → IsLow step bodies → gate_behind step (bodies ++ body ∷ []) ≡ gate_behind step bodies + 5 + length body
-gate_behind-push None bodies body low = end_push 78 bodies body
-gate_behind-push (Some old) bodies body inside =
+pub gate_behind-push : (start : ℕ) (step : Option ℕ) (bodies : List (List ℕ)) (body : List ℕ) → IsLow step bodies → gate_behind start step (bodies ++ body ∷ []) ≡ gate_behind start step bodies + 5 + length body
+gate_behind-push start None bodies body low = end_push start bodies body
+gate_behind-push start (Some old) bodies body inside =
     let low : old ≤ length bodies = inside in
     let one = le-leb old (length bodies) low in
     let two = le-leb old (length (bodies ++ body ∷ [])) (omega (arith, low, length-append bodies (body ∷ []))) in
-    let same : end_from 78 (bodies ++ body ∷ []) + 6 ≡ end_from 78 bodies + 6 + 5 + length body = omega (arith, end_push 78 bodies body) in
-    ap (λ (b : Bool). end_from 78 (bodies ++ body ∷ []) + step_size b) two ∙ same
-    ∙ ap (λ (b : Bool). end_from 78 bodies + step_size b + 5 + length body) (sym one)
+    let same : end_from start (bodies ++ body ∷ []) + 6 ≡ end_from start bodies + 6 + 5 + length body = omega (arith, end_push start bodies body) in
+    ap (λ (b : Bool). end_from start (bodies ++ body ∷ []) + step_size b) two ∙ same
+    ∙ ap (λ (b : Bool). end_from start bodies + step_size b + 5 + length body) (sym one)
 
 -- a step record comes before the next gate where it came before this one, or stands between them
 step_between : (old n : ℕ) → step_size (leb old (n + 1)) ≡ step_size (leb old n) + step_size (n + 1 == old)
@@ -247,14 +247,14 @@ step_between old n = elim (leb_tells old n) [
 ]
 
 -- the gate behind the last of some bodies, where the step record may stand between
-pub gate_next : (step : Option ℕ) (bodies : List (List ℕ)) (body : List ℕ)
-    → gate_behind step (bodies ++ body ∷ []) ≡ gate_behind step bodies + 5 + length body + step_size (comes_next step (length bodies))
-gate_next None bodies body = let none : end_from 78 bodies + 5 + length body ≡ end_from 78 bodies + 5 + length body + 0 = omega arith in end_push 78 bodies body ∙ none
-gate_next (Some old) bodies body =
+pub gate_next : (start : ℕ) (step : Option ℕ) (bodies : List (List ℕ)) (body : List ℕ)
+    → gate_behind start step (bodies ++ body ∷ []) ≡ gate_behind start step bodies + 5 + length body + step_size (comes_next step (length bodies))
+gate_next start None bodies body = let none : end_from start bodies + 5 + length body ≡ end_from start bodies + 5 + length body + 0 = omega arith in end_push start bodies body ∙ none
+gate_next start (Some old) bodies body =
     let n = length bodies in
     let long : length (bodies ++ body ∷ []) ≡ n + 1 = length-append bodies (body ∷ []) in
-    let end = end_push 78 bodies body in
+    let end = end_push start bodies body in
     let between : step_size (leb old (n + 1)) ≡ step_size (leb old n) + step_size (n + 1 == old) = step_between old n in
-    let further : end_from 78 (bodies ++ body ∷ []) + step_size (leb old (n + 1)) ≡ end_from 78 bodies + step_size (leb old n) + 5 + length body + step_size (n + 1 == old) =
+    let further : end_from start (bodies ++ body ∷ []) + step_size (leb old (n + 1)) ≡ end_from start bodies + step_size (leb old n) + 5 + length body + step_size (n + 1 == old) =
     omega (arith, end, between) in
-    ap (λ (m : ℕ). end_from 78 (bodies ++ body ∷ []) + step_size (leb old m)) long ∙ further
+    ap (λ (m : ℕ). end_from start (bodies ++ body ∷ []) + step_size (leb old m)) long ∙ further

@@ -8,9 +8,9 @@ use Rattle.ov_journal.specs.declared.fault.CheckFault.TheVariants.{Memory as NoM
 use Rattle.ov_journal.specs.declared.found.Found.{Found}
 use Rattle.ov_journal.specs.declared.found.Found.TheVariants.{Unborn, Born}
 use Rattle.ov_journal.specs.declared.header.Header.{Header}
-use Rattle.ov_journal.specs.Book.{contents_of, place_if, spelled}
+use Rattle.ov_journal.specs.Book.{HasHeaderForm, contents_of, place_if, spelled}
 use Rattle.ov_journal.specs.Log.{Log, IsLogOf}
-use Rattle.ov_journal.specs.Standing.{IsUnborn, HasMagic, IsForeign, HasNoMode}
+use Rattle.ov_journal.specs.Standing.{IsUnborn, HasMagic, IsForeign, IsDamagedAt}
 
 -- A store that was found with a bad place has a journal that is bad there; one that was found
 -- without is whole.
@@ -19,10 +19,12 @@ IsWholeUnlessBad Unborn = ⊤
 IsWholeUnlessBad (Born log header bad) =
     (bad ≡ place_if log.bad log.end) × (bad ≡ None → log.bad ≡ false)
 
--- a store with this header, this journal, and this place of the first length that can't be
+-- a store with this header, whose limits can be, this journal, and this place of the first length
+-- that can't be
 pub record IsStore (log : Log) (header : Header) (bad : Option ℕ) (book : List ℕ) : Type 0 where
   pub magic : HasMagic book
   pub head : (contents_of book).head ≡ spelled header
+  pub form : HasHeaderForm header
   pub records : IsLogOf log book
   pub place : bad ≡ (contents_of book).records.bad
 
@@ -31,7 +33,7 @@ abbrev pub Finds : List ℕ → Result Found JournalFault → Type 0
 Finds book (Ok Unborn) = IsUnborn book
 Finds book (Ok (Born log header bad)) = IsStore log header bad book
 Finds book (Err NotAStore) = IsForeign book
-Finds book (Err (Damaged offset)) = (offset ≡ 9) × HasNoMode book
+Finds book (Err (Damaged offset)) = IsDamagedAt offset book
 Finds book (Err Disk) = ⊤
 Finds book (Err Memory) = ⊤
 

@@ -1,12 +1,12 @@
 -- Inner: no public contract needs this. What a record's append writes, and where, and what it makes
 -- of the records as they stand, whatever its body means.
-use Rattle.std.specs.Prelude.{◌≡◌, ◌⊎◌, ◌≤◌, ◌<◌, ◌+◌, ◌^◌, ℕ, List, [], ◌∷◌, ◌++◌, length, take, false, Some}
+use Rattle.std.specs.Prelude.{◌≡◌, ◌⊎◌, ◌≤◌, ◌<◌, ◌+◌, ◌^◌, ℕ, List, [], ◌∷◌, ◌++◌, length, Bool, false, Some}
 use Rattle.std.specs.Int.{w32, to_be_bytes}
 use Rattle.ov_disk.specs.Disk.{Image, Only, OnlyBook, StaysTold, StaysUntold, Told}
 use Rattle.ov_disk.specs.Moments.{LeavesOnly}
 use Rattle.ov_disk.specs.Tells.{DiskTells}
-use Rattle.ov_journal.specs.Book.{contents_of, is_due}
-use Rattle.ov_journal.specs.Runs.{Run, run_after, end_from}
+use Rattle.ov_journal.specs.Book.{contents_of, head_of, head_size, is_due, is_first, run_of}
+use Rattle.ov_journal.specs.Runs.{Run, end_from}
 use Rattle.ov_journal.specs.Taking.{IsBody}
 
 -- a record behind its gate, and a closed gate
@@ -20,26 +20,36 @@ pub record Fits (end room : ℕ) (body : List ℕ) : Type 0 where
   pub buffer : length body + 5 ≤ room
   pub place : end < 2 ^ 62
 
--- a Book's first 78 bytes, and its records as they stand
+-- where a Book's records begin, whether it is of the first format, its header, and its records as
+-- they stand
 pub record Layout : Type 0 where
+  pub start : ℕ
+  pub first : Bool
   pub head : List ℕ
   pub run : Run
 
 -- how a Book stands
 abbrev pub layout_of : List ℕ → Layout
-layout_of book = record { head = take 78 book; run = run_after 78 book }
+layout_of book = record {
+  start = head_size book;
+  first = is_first book;
+  head = head_of book;
+  run = run_of book;
+}
 
 -- one record more, behind the others
 abbrev pub with_record : List ℕ → Layout → Layout
 with_record body l = record {
+  start = l.start;
+  first = l.first;
   head = l.head;
   run = record { bodies = l.run.bodies ++ body ∷ []; bad = l.run.bad };
 }
 
 -- whole records, and a gate at this place that isn't open
 pub record EndsAt (end : ℕ) (book : List ℕ) : Type 0 where
-  pub whole : (run_after 78 book).bad ≡ false
-  pub end_is : end ≡ end_from 78 (run_after 78 book).bodies
+  pub whole : (run_of book).bad ≡ false
+  pub end_is : end ≡ end_from (head_size book) (run_of book).bodies
 
 -- Book as it stood, beside Blobs that the start might have left; or with the record, beside the
 -- Blobs that were read at the start

@@ -3,12 +3,12 @@ use Rattle.std.specs.Prelude.{◌≡◌, ◌⊎◌, ℕ, ◌+◌, ◌-◌, ◌�
 use Rattle.ov_base.specs.declared.limits.TheConstants.{MAX_RECORD_BYTES}
 use Rattle.ov_disk.specs.Disk.{Image, Only, OnlyBook, Told}
 use Rattle.ov_disk.specs.Tells.{DiskTells}
-use Rattle.ov_journal.specs.Book.{Contents, contents_of, is_due, place_if, with_body, with_bodies, born}
+use Rattle.ov_journal.specs.Book.{Contents, contents_of, head_size, is_due, place_if, with_body, with_bodies, born}
 use Rattle.ov_journal.specs.Runs.{length_in}
 use Rattle.ov_journal.specs.Standing.{IsUnborn}
 use Rattle.ov_journal.specs.Steps.{step_size, gate_behind, gates_of, comes_next}
 use Rattle.ov_journal.specs.declared.header.Header.{Header}
-use Rattle.ov_journal.specs.declared.header.TheConstants.{HEADER}
+use Rattle.ov_journal.specs.declared.header.TheConstants.{LONGEST_HEADER}
 use Rattle.ov_journal.specs.declared.record.TheConstants.{RECORD_HEAD}
 use Rattle.ov_journal.specs.declared.step.TheConstants.{STEP_BYTES}
 
@@ -33,10 +33,10 @@ made log = cond log.due None log.step
 abbrev pub next_gate : Log → ℕ
 next_gate log = log.end + step_size log.due
 
--- Where a gate is at the latest, if this many records come before it: behind the header, a step
--- record, and as many records with the longest bodies.
+-- Where a gate is at the latest, if this many records come before it: behind the longest header, a
+-- step record, and as many records with the longest bodies.
 abbrev pub latest_gate : ℕ → ℕ
-latest_gate before = HEADER + STEP_BYTES + (RECORD_HEAD + MAX_RECORD_BYTES) * before
+latest_gate before = LONGEST_HEADER + STEP_BYTES + (RECORD_HEAD + MAX_RECORD_BYTES) * before
 
 -- no gate of a record is later than it can be
 abbrev pub AreInReach : List ℕ → Type 0
@@ -44,8 +44,8 @@ AreInReach offsets = (i : ℕ) → i < length offsets → slice_index offsets i 
 
 -- the journal of this Book's records
 pub record IsLogOf (log : Log) (book : List ℕ) : Type 0 where
-  pub offsets : log.offsets ≡ gates_of log.step (contents_of book).records.bodies
-  pub end : log.end ≡ gate_behind (made log) (contents_of book).records.bodies
+  pub offsets : log.offsets ≡ gates_of (head_size book) log.step (contents_of book).records.bodies
+  pub end : log.end ≡ gate_behind (head_size book) (made log) (contents_of book).records.bodies
   pub bad : place_if log.bad log.end ≡ (contents_of book).records.bad
   pub step : log.step ≡ (contents_of book).records.step
   pub due : log.due ≡ is_due book
@@ -56,8 +56,8 @@ pub record IsLogOfFirst (log : Log) (book : List ℕ) : Type 0 where
   pub front : List (List ℕ)
   pub rest : List (List ℕ)
   pub split : (contents_of book).records.bodies ≡ front ++ rest
-  pub offsets : log.offsets ≡ gates_of log.step front
-  pub end : log.end ≡ gate_behind (made log) front
+  pub offsets : log.offsets ≡ gates_of (head_size book) log.step front
+  pub end : log.end ≡ gate_behind (head_size book) (made log) front
   pub step : log.step ≡ (contents_of book).records.step
   pub all_old : log.due ≡ true → log.step ≡ Some (length front)
 

@@ -32,18 +32,18 @@ abbrev pub step_size : Bool → ℕ
 step_size true = 6
 step_size false = 0
 
--- Where the gate of the record behind these bodies is, in a store whose step record stands behind
--- this many of its bodies, or that has none.
-abbrev pub gate_behind : Option ℕ → List (List ℕ) → ℕ
-gate_behind None bodies = end_from 78 bodies
-gate_behind (Some old) bodies = end_from 78 bodies + step_size (leb old (length bodies))
+-- Where the gate of the record behind these bodies is, in a store whose records begin at this place,
+-- and whose step record stands behind this many of its bodies, or that has none.
+abbrev pub gate_behind : ℕ → Option ℕ → List (List ℕ) → ℕ
+gate_behind start None bodies = end_from start bodies
+gate_behind start (Some old) bodies = end_from start bodies + step_size (leb old (length bodies))
 
 -- The gates of these bodies. Those before the step record are where they would be without it, and
 -- those behind it are further by its bytes.
-abbrev pub gates_of : Option ℕ → List (List ℕ) → List ℕ
-gates_of None bodies = gates_from 78 bodies
-gates_of (Some old) bodies =
-    take old (gates_from 78 bodies) ++ drop old (gates_from (78 + step_size true) bodies)
+abbrev pub gates_of : ℕ → Option ℕ → List (List ℕ) → List ℕ
+gates_of start None bodies = gates_from start bodies
+gates_of start (Some old) bodies =
+    take old (gates_from start bodies) ++ drop old (gates_from (start + step_size true) bodies)
 
 -- record i comes before the step record that stands behind this many
 abbrev pub comes_before : Option ℕ → ℕ → Bool

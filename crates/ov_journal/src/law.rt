@@ -1,12 +1,13 @@
 //! What a Book can be.
+ghost use Rattle.std.specs.Prelude.{List, ℕ};
 ghost use Rattle.ov_journal.specs.Book.{HeadersAreSpelledApart, StepSaysNothing};
 ghost use Rattle.ov_journal.specs.Standing.{IsOneThing};
 
-/// No Book is unborn and a store, and none is a store with a header and a store without a mode. So
-/// what [`begin`](crate::Journal::begin) answers of a Book, where the disk and memory let it, is
+/// No Book is unborn and a store, none has a header that can be and a mode or limits that can't, and
+/// none is damaged at two places. So what [`begin`](crate::Journal::begin) answers of a Book, where the disk and memory let it, is
 /// the one answer that fits.
 pub fn a_book_is_one_thing()
-    ensures { IsOneThing }
+    ensures { (book : List ℕ) → IsOneThing book }
 {}
 
 /// Two headers with the same bytes are the same.

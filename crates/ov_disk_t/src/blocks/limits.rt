@@ -8,7 +8,7 @@ const _: () = prove!(MAX_BLOCKS == 2_147_483_648);
 
 const _: () = prove!(MAX_EXTENT_BLOCKS == 4_096);
 
-const _: () = prove!(MAX_HELD == 65_535);
+const _: () = prove!(MAX_HELD == 262_143);
 
 // So many bytes, and the blocks that take them.
 const BLOCKS: [(u32, u32); 9] = [

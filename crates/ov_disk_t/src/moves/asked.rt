@@ -7,6 +7,7 @@ ghost use Rattle.ov_moves.specs.Placing.{HasNewText, HasPlaces, IsFiled, LiesIn}
 
 use super::turns::Record;
 use crate::held::{are_short, is_held};
+use crate::journal::USUAL;
 use ov_base::Mode;
 use ov_base::limits::MAX_FILE_BYTES;
 use ov_blocks::{Extent, Extents, MAX_HELD, blocks_of};
@@ -20,6 +21,7 @@ const HEADER: Header = Header {
     format: 2,
     mode: Mode::Full,
     first: 0,
+    limits: USUAL,
     base_check: [0x11; 32],
     surface_check: [0x22; 32],
 };

@@ -5,5 +5,5 @@ use Rattle.ov_journal.proofs.open.read_head.Goals as goal
 pub returns-clause-head : goal.returns-clause-head
 returns-clause-head g c i is =
     let size = c.requires i is in
-    let long : length c.read.new.buf ≡ min 78 c.args.size = search rules in
-    c.head_of.ensures.head i.book size (front_read c.read.new.buf i.book _ 78 (c.in_ok-read.ensures.bytes i is) (omega (arith, long, size)))
+    let long : length c.read.new.buf ≡ min 95 c.args.size = search rules in
+    c.head_of.ensures.head i.book size (front_read c.read.new.buf i.book _ 95 (c.in_ok-read.ensures.bytes i is) (omega (arith, long, size)))
