@@ -1,4 +1,6 @@
 -- A history without idle pairs is legal, and has the matrix and the layers of the longer one.
+use Rattle.ov_base.specs.declared.store_limits.StoreLimits.{StoreLimits}
+use Rattle.ov_base.specs.StoreLimits.{most_bytes, most_files, most_nodes}
 use Rattle.std.proofs.Common.{◌≡◌, ◌⊎◌, ◌<◌, ◌≤◌, ◌+◌, ◌-◌, ℕ, zero, suc, Bool, true, false, List, [], ◌∷◌, ◌++◌}
 use Rattle.std.proofs.Common.{length, take, get_or, refl, sym, ◌∙◌, ap, subst, arith, inl, inr, length-append}
 use Rattle.std.specs.Prelude.{Option, Some, None, not, nat_le, nat_lt, ◌||◌}

@@ -306,9 +306,9 @@ files_again (f ∷ fs) (e ∷ es) bare placed =
     ∙ ap (λ (xs : List (Option Filed)). option_map ageless_filed e ∷ xs) (files_again fs es rest more)
 
 made_again : (c d : Catalogue) (fs es : List (Option Filed)) → c.mode ≡ d.mode → c.epoch ≡ d.epoch
-    → c.users ≡ d.users → c.base ≡ d.base → c.surface ≡ d.surface → c.grants ≡ d.grants → fs ≡ es
+    → c.limits ≡ d.limits → c.users ≡ d.users → c.base ≡ d.base → c.surface ≡ d.surface → c.grants ≡ d.grants → fs ≡ es
     → record c { files = fs } ≡ record d { files = es }
-made_again c d fs es mode epoch users base surface grants files = cc
+made_again c d fs es mode epoch limits users base surface grants files = cc
 
 -- ---- the laws
 
@@ -383,7 +383,8 @@ module _ (g : SealedHistory) (kept : List ℕ) (fit : IsSealed g) (thin : AreThi
       ap (λ (y : Layers). ageless_layers y) d_is ∙ layers ∙ ap (λ (y : Layers). ageless_layers y) (sym c_is) in
       let sets : d.surface.sets ≡ c.surface.sets = ap (λ (y : Layers). y.surface) both in
       made_again d c (map (option_map ageless_filed) d.files) (map (option_map ageless_filed) c.files)
-      (ap (λ (y : Layers). y.mode) both) (ap (λ (y : Layers). y.epoch) both) (sym shown.users) (sym shown.base)
+      (ap (λ (y : Layers). y.mode) both) (ap (λ (y : Layers). y.epoch) both)
+      (ap (λ (y : Layers). y.limits) both) (sym shown.users) (sym shown.base)
       (same_surfaces master t g sets) (sym shown.grants)
       (files_again d.files c.files (sym shown.files) (ap (λ (y : Layers). y.files) both))
 

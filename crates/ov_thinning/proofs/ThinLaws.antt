@@ -97,9 +97,9 @@ history_rebuilt h =
     (history-settled h).surface
 
 same_made : (y x : Layers) (fs gs : List (Option Place)) → x.mode ≡ y.mode → x.epoch ≡ y.epoch
-    → x.users ≡ y.users → x.base ≡ y.base → x.surface ≡ y.surface → x.accesses ≡ y.accesses → fs ≡ gs
+    → x.limits ≡ y.limits → x.users ≡ y.users → x.base ≡ y.base → x.surface ≡ y.surface → x.accesses ≡ y.accesses → fs ≡ gs
     → record x { files = fs } ≡ record y { files = gs }
-same_made y x fs gs mode epoch users base surface accesses files = cc
+same_made y x fs gs mode epoch limits users base surface accesses files = cc
 
 -- ---- the laws
 
@@ -180,7 +180,7 @@ module _ (h : History) (kept : List ℕ) (legal : IsLegal h) (thin : AreThinned 
       ∙ sym (same_rebuilt y x same (lists_of y) (nodes_of y.files))
       ∙ sym (history_rebuilt h) in
       same_made y x (map (option_map ageless) x.files) (map (option_map ageless) y.files) (sym same.mode) epoch
-      (sym same.users) (sym same.base) (sym same.surface) (sym same.accesses) files
+      (sym same.limits) (sym same.users) (sym same.base) (sym same.surface) (sym same.accesses) files
 
 pub thinned_is_legal : ThinnedIsLegal
 thinned_is_legal h kept legal thin = thinned_legal h kept legal thin

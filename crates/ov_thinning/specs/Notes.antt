@@ -1,4 +1,5 @@
 -- What is noted of each file while one update after the other is taken, and which places are kept.
+use Rattle.ov_base.specs.declared.store_limits.StoreLimits.{StoreLimits}
 use Rattle.std.specs.Prelude.{◌≡◌, ◌≢◌, ◌⊎◌, ◌↔◌, ℕ, ◌+◌, ◌<◌, ◌==◌, ◌&&◌, ◌||◌, Bool, true, false, not, List, [], ◌∷◌, ◌++◌}
 use Rattle.std.specs.Prelude.{length, Contains, Option, Some, None, is_some}
 use Rattle.ov_base.specs.Sets.{with, without}
