@@ -75,12 +75,7 @@ fn disk_of(alloc: Global, book: &[u8]) -> Result<MemDisk, AllocError> {
 
 // What is left where such a store is begun over this Book, on a disk that fails at one call, and
 // whether all went well.
-fn begun(
-    alloc: Global,
-    book: &[u8],
-    is_third: bool,
-    fail: u64,
-) -> Result<(MemDisk, bool), Fail> {
+fn begun(alloc: Global, book: &[u8], is_third: bool, fail: u64) -> Result<(MemDisk, bool), Fail> {
     let mut disk = disk_of(alloc, book)?;
     disk.fail_at(fail)?;
     let done = begin(alloc, &mut disk, is_third) == Ok(true);
@@ -178,12 +173,48 @@ fn a_fault_at_each_call(rt: HostRuntime) -> Result<(), Fail> {
 const OVER: [(usize, bool, bool, &[u8], &[u8]); 6] = [
     // With no mark yet: a length, a look at the mark if the length is the mark's, the mark, the header
     // in one part or in two, and its gate.
-    (95, false, false, b"uuuuuuuuuuu000011112", b"uuuuuuuuuu0000111122"),
-    (95, false, true, b"uuuuuuuuuuuuu000011112", b"uuuuuuuuuuuu0000111122"),
-    (80, false, false, b"uuuuuuuuuu000011112", b"uuuuuuuuu0000111122"),
-    (94, false, true, b"uuuuuuuuuuuu000011112", b"uuuuuuuuuuu0000111122"),
-    (95, true, false, b"uuuuuuuuu000011112", b"uuuuuuuu0000111122"),
-    (95, true, true, b"uuuuuuuuuuu000011112", b"uuuuuuuuuu0000111122"),
+    (
+        95,
+        false,
+        false,
+        b"uuuuuuuuuuu000011112",
+        b"uuuuuuuuuu0000111122",
+    ),
+    (
+        95,
+        false,
+        true,
+        b"uuuuuuuuuuuuu000011112",
+        b"uuuuuuuuuuuu0000111122",
+    ),
+    (
+        80,
+        false,
+        false,
+        b"uuuuuuuuuu000011112",
+        b"uuuuuuuuu0000111122",
+    ),
+    (
+        94,
+        false,
+        true,
+        b"uuuuuuuuuuuu000011112",
+        b"uuuuuuuuuuu0000111122",
+    ),
+    (
+        95,
+        true,
+        false,
+        b"uuuuuuuuu000011112",
+        b"uuuuuuuu0000111122",
+    ),
+    (
+        95,
+        true,
+        true,
+        b"uuuuuuuuuuu000011112",
+        b"uuuuuuuuuu0000111122",
+    ),
 ];
 
 // A new store of the third format with its gate closed, cut to this length, or with the mark behind
@@ -268,7 +299,11 @@ fn books_by_length(rt: HostRuntime) -> Result<(), Fail> {
             *first = *gate;
         }
         book.resize(*length, 0)?;
-        assert_eq!(rt; standing_of(alloc, &book)?, *stands, "{length} {gate} {digit}");
+        assert_eq!(rt;
+            standing_of(alloc, &book)?,
+            *stands,
+            "{length} {gate} {digit}"
+        );
     }
     Ok(())
 }
