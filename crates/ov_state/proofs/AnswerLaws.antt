@@ -13,7 +13,7 @@ use Rattle.ov_history.specs.Refusals.{first_of_tests, list_refusal, read_refusal
 use Rattle.ov_history.specs.Catalogue.{Catalogue, filed_at, matrix_shown, outline, place_of_file}
 use Rattle.ov_history.specs.Asking.{file_named, user_named}
 use Rattle.ov_state.specs.Queries.{AnswersList, AnswersReader}
-use Rattle.ov_state.proofs.QueryLaws.{file_low, file_there, list_shown, no_file_there, no_user, user_low, user_there}
+use Rattle.ov_state.proofs.QueryLaws.{file_low, file_there, list_shown, no_file_there, user_low, user_there}
 
 -- ---- tests
 

@@ -1,8 +1,7 @@
 -- Creations: what they make, and why they are refused.
 use Rattle.ov_base.specs.StoreLimits.{most_nodes}
-use Rattle.std.proofs.Common.{◌≡◌, ℕ, ◌+◌, ◌<◌, Bool, true, false, not, List, [], ◌∷◌, ◌++◌, length, refl, sym, ◌∙◌, ap, arith, true≢false}
+use Rattle.std.proofs.Common.{◌≡◌, ℕ, ◌+◌, Bool, true, false, not, List, [], ◌∷◌, ◌++◌, length, refl, sym, ◌∙◌, ap, arith, true≢false}
 use Rattle.std.specs.Prelude.{◌||◌, nat_lt, Option, Some, None}
-use Rattle.std.proofs.lemmas.Bool.Decides.{nat_tests}
 use Rattle.ov_base.specs.Sets.{within, IsBelow}
 use Rattle.ov_base.proofs.SetLaws.{within-Within}
 use Rattle.ov_history.proofs.PlaceLaws.{everyone-below}
@@ -30,7 +29,6 @@ use Rattle.ov_state.proofs.NewTests.{first_among, first_after}
 use Rattle.ov_state.proofs.SettledMore.{rewrites-appended}
 use Rattle.ov_state.proofs.Staying.{AreKept, kept-with_wants, surfaces-kept, wants-kept, files-kept}
 use Rattle.ov_state.proofs.StayingFiles.{HasHolders, files_kept, files_below, wants-stay, wants-append}
-use Rattle.ov_base.specs.declared.limits.TheConstants.{LAST_EPOCH}
 
 -- ---- what is made
 
